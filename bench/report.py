@@ -37,7 +37,7 @@ class Figures:
 
 
 def without_empty(head, rows, fixed):
-    """The head and the rows without those columns behind the first `fixed` ones in which no row has a figure."""
+    """The head and the rows without those columns after the first `fixed` ones in which no row has a figure."""
     kept = [at for at in range(len(head)) if at < fixed or any(row[at] != "-" for row in rows)]
     return [head[at] for at in kept], [[row[at] for at in kept] for row in rows]
 
@@ -103,9 +103,9 @@ def page(figures):
         lines += [
             "## Beside the best peer",
             "",
-            "How many times the time of the fastest peer ours takes, in the fastest of our forms, by the number of members. The peer stands "
-            "behind the ratio: the Rust crate, Boost, BSD, uthash, or the model of Linux's list_sort that calls its comparison. Below 1 ours is "
-            "the fastest of all.",
+            "How many times the time of the fastest peer ours takes, in the fastest of our forms, by the number of members. The name after "
+            "the ratio is that of the fastest peer: the Rust crate, Boost, BSD, uthash, or the model of Linux's list_sort that calls its comparison. Below 1 "
+            "ours is the fastest of all.",
             "",
             *table(["", *(f"{members:,}" for members in figures.options.sizes)], best),
             f"![The time of each program beside that of the fastest peer, as a plot]({PLOT})",
@@ -116,9 +116,9 @@ def page(figures):
         lines += [
             "## Beside the Rust crate",
             "",
-            "How many times the Rust crate's time ours takes, by the number of members: over the table that is handed in, and behind the "
-            "stroke in another form. That is a lent table for lists, and for trees a table with the keys beside the links. Below 1 ours is faster. Then come the "
-            "instructions of one operation with 1,000 members.",
+            "How many times the Rust crate's time ours takes, by the number of members: over the table that is handed in, and after the "
+            "stroke in another form. That is a lent table for lists, and for trees a table with the keys beside the links. A hash table has the keys beside the "
+            "links in the first form, and in the slab in the other one. Below 1 ours is faster. Then come the instructions of one operation with 1,000 members.",
             "",
             *(line for part in parts(figures, rows) for line in table(*without_empty(next(beside_rust(figures))[0], part, 1))),
         ]

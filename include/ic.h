@@ -18,25 +18,26 @@
  * its lists and trees is as good as the original.
  *
  * A call requires that `table` points to `places` links, `keys` to `key_count` keys, `hashes` to `hash_count` hashes, `buckets` to `bucket_count`
- * lists, and each other pointer to one value of its type. No two of these overlap, and no other thread writes or reads them during the call, except
- * that threads may read what all of them take as const. A call requires nothing else, so words, keys, hashes and places may have any values. The one
- * dangerous number is a length that is greater than its array, because with it a call may access memory that is not yours. A length that is too small
- * is safe.
+ * lists, and each other pointer to one value of its type. No two of these arrays and values overlap, and no other thread writes or reads them during
+ * the call, except that threads may read what all their calls take as const. A call requires nothing else, so words, keys, hashes and places may have
+ * any values. The one dangerous number is a length that is greater than its array, because with such a length a call may access memory that is not
+ * yours. A length that is too small is safe.
  *
- * This is what every call does, whatever you hand to it:
- *   - It returns one of the statuses below.
- *   - It writes to nothing but the first `places` links of the table, the lists, the tree, its ends, the buckets where the hashes lead, and
- *     the out parameter that you hand to it.
- *   - If the status is not IC_OK, it has changed nothing, out parameters included. The status says what is wrong with the first member that is named,
- *     else with the next one, else with the place to insert, else that the words do not fit together (IC_BROKEN). If the comment of a call says what
- *     the call does with IC_NONE for a place, IC_NONE is not wrong there.
+ * This is what every call does, whatever you pass to it:
+ *   - The call returns one of the statuses below.
+ *   - The call writes only to the first `places` links of the table, the lists, the tree, the tree's ends, the buckets that the hashes choose, and
+ *     the out parameter that you pass.
+ *   - If the status is not IC_OK, the call has changed nothing, out parameters included. The status says what is wrong with the first named member,
+ *     or else with the next named member, or else with the place to insert, or else that the words do not fit together (IC_BROKEN). If the comment of
+ *     a call says what the call does with IC_NONE for a place, you may pass IC_NONE for this place.
  *   - The call takes at most as many steps as its cost says, in which n is the number of members. If the links form no list or tree, a call whose
  *     cost depends on members takes at most a fixed number of steps for each place of the table, and for each bucket that it goes through.
  *
  * If the table holds the list or tree, and the member that you name is one of its members, the call makes the edit that its comment says. Every other
  * list and tree of the table stays as it was. A call refuses a member of another list of the same table with IC_BROKEN if it can detect this by the
- * words of the neighbors, as at an end of a doubly linked list. In the middle of a list, in singly linked lists and in trees it cannot detect this,
- * and mixes up both lists, within the table. In an XOR list the call cannot always detect a wrong neighbor either, as the part on XOR lists explains.
+ * words of the neighbors, as at an end of a doubly linked list. In the middle of a list, in singly linked lists and in trees a call cannot detect a
+ * member of another list, and mixes up both lists, within the table. In an XOR list a call cannot always detect a wrong neighbor either, as the part
+ * on XOR lists explains.
  */
 #ifndef IC_H
 #define IC_H
@@ -49,9 +50,9 @@
 #define IC_VERSION_MINOR 1
 #define IC_VERSION_PATCH 0
 
-/* A program that includes this header needs code that defines this name, which only code of the same major and minor version does. If a program
- * contains code that needs two versions, the linker refuses the program, because both versions of the library define the same calls. On Linux GNU ld
- * also refuses a program with only the code of another version. The reference to this name takes no memory of the program. */
+/* A program that includes this header needs code that defines the name ic_version_.. below, and only code of the same major and minor version defines
+ * it. If a program contains code that needs two versions, the linker refuses the program, because both versions of the library define the same calls.
+ * On Linux GNU ld also refuses a program with only the code of another version. The reference to ic_version_0_1 takes no memory when the program runs. */
 #if defined(__GNUC__) && defined(__ELF__)
 __asm__(".pushsection .ic_version, \"\"\n\t.long ic_version_0_1\n\t.popsection");
 #elif defined(__GNUC__) && !defined(__wasm__)
@@ -76,8 +77,8 @@ extern "C" {
 #endif
 #endif
 
-/* This is the type of the length of an array. A call takes a length of 64 bits, so on a processor whose size_t has 32 bits this type is longer than
- * size_t. The compiler converts each length that you pass to this type. */
+/* ic_length is the type of the length of an array. A call takes a length of 64 bits, so on a processor whose size_t has 32 bits an ic_length is
+ * longer than a size_t. The compiler converts each length that you pass to an ic_length. */
 #if SIZE_MAX >= UINT64_MAX
 typedef size_t ic_length;
 #else
@@ -118,52 +119,52 @@ static inline void ic_ignore(uint32_t status) {
     (void)status;
 }
 
-/* Each place of a singly linked list, a hash table or an XOR list has such a link. */
+/* Each place of a singly linked list, a hash table or an XOR list has a struct ic_link1 as its link. */
 struct ic_link1 {
     uint64_t next;
 };
 
-/* Each place of a doubly linked list or a ring has such a link. */
+/* Each place of a doubly linked list or a ring has a struct ic_link2 as its link. */
 struct ic_link2 {
     uint64_t next, prev;
 };
 
-/* Each place of a doubly linked list or a ring with words of 4 bytes has such a link. */
+/* Each place of a doubly linked list or a ring with words of 4 bytes has a struct ic_link2_32 as its link. */
 struct ic_link2_32 {
     uint32_t next, prev;
 };
 
-/* Each place of a tree has such a link, which names both children and the parent. */
+/* Each place of a tree has a struct ic_link3 as its link, which names both children and the parent. */
 struct ic_link3 {
     uint64_t left, right, parent;
 };
 
-/* This is a singly linked list, or a bucket of a hash table. */
+/* A struct ic_stack is a singly linked list, or a bucket of a hash table. */
 struct ic_stack {
     uint64_t head;
 };
 
-/* This is a doubly linked list. */
+/* A struct ic_list is a doubly linked list. */
 struct ic_list {
     uint64_t head, tail;
 };
 
-/* This is an XOR list. The link of a member has the exclusive or of its two neighbors. */
+/* A struct ic_xor_list is an XOR list. The link of a member has the exclusive or of the member's two neighbors. */
 struct ic_xor_list {
     uint64_t head, tail;
 };
 
-/* This is a red-black tree. */
+/* A struct ic_tree is a red-black tree. */
 struct ic_tree {
     uint64_t root;
 };
 
-/* These are the first and the last member of a tree, for the calls that keep them. */
+/* A struct ic_tree_ends has the first and the last member of a tree, for the calls that keep them. */
 struct ic_tree_ends {
     uint64_t first, last;
 };
 
-/* Each place of a tree with sums has such a pair beside its link. You write the value, and calls write the sum. */
+/* Each place of a tree with sums has a struct ic_sum beside its link. You write the value, and calls write the sum. */
 struct ic_sum {
     uint64_t value, sum;
 };
@@ -189,10 +190,10 @@ static inline uint32_t ic_place(uint64_t word) {
 
 /* ---- Reads and loops --------------------------------------------------------------------------------------------------------------
  *
- * The inline functions that read a link take the table's length, as the calls do. They return IC_NONE if the place is out of range or unlinked, and
- * if the word in the link names no place of the table. So none of them reads outside the table, whatever the words say. The functions that read only
- * a list or a tree, such as ic_list_first, take no length. If the words of the list or tree are broken, these functions may return a place that is
- * out of range.
+ * An inline function that reads a link takes the table's length, as the calls do. It returns IC_NONE if the place is out of range or unlinked, and if
+ * the word in the link names no place of the table. So an inline function never reads outside the table, whatever the words say. The functions that
+ * read only a list or a tree, such as ic_list_first, take no length. If the words of the list or tree are broken, a function without a length may
+ * return a place that is out of range.
  *
  * A macro makes a loop, which runs its body once for each member. The macro declares `place` and the other variables that are named before `table`.
  * You can leave the loop with `break`, go on with `continue`, and write one loop inside another.
@@ -201,12 +202,12 @@ static inline uint32_t ic_place(uint64_t word) {
  *         if (place % 2 == 0)
  *             printf("%u\n", (unsigned)place);
  *
- * Whatever the links are, a loop runs its body at most `places` times, each time for a linked place of the table. The loop ends at a word that leads
- * to no such place. It evaluates `table`, `places` and `list` in each round.
+ * Whatever the links are, a loop runs its body at most `places` times, each time for a linked place of the table. The loop ends at a word that names
+ * no linked place of the table. A loop evaluates `table`, `places` and `list` in each round.
  *
- * A plain loop ends early if its body removes the current member. The body of a ..._SAFE loop may remove the current member, and may then insert its
- * place into another list or tree. The body has to leave the members beside the current one where they are. A ..._FROM loop begins at the member
- * `at`. To begin after a member, pass the next member, which ic_list_next returns.
+ * A plain loop ends early if its body removes the current member. The body of a ..._SAFE loop may remove the current member, and may then insert the
+ * member's place into another list or tree. The body has to leave the members beside the current member where they are. A ..._FROM loop begins at the
+ * member `at`. To begin after a member, pass the next member, which ic_list_next returns.
  *
  * If your objects are in an array, a ..._ENTRY loop gives you the object. You declare a pointer to an object, and pass its name to the loop. The
  * array has to have an object for each place of the table. After the last round the pointer is null, and after a `break` it still is the object:
@@ -237,7 +238,8 @@ static inline uint32_t ic_fault_of(ic_length places, uint32_t place, int is_link
     return place >= ic_bound(places) ? IC_OUT_OF_RANGE : is_linked ? IC_BROKEN : IC_NOT_LINKED;
 }
 
-/* The loops below are made of these two macros. They run while `place` is a member, and go on to the member that `next` finds from it. */
+/* The loops below are made of IC_LOOP and IC_LOOP_SAFE. These two macros run while `place` is a member, and go on to the member that `next` finds
+ * from `place`. */
 #define IC_LOOP(place, first, places, is_member, next)                                                       \
     for (uint32_t place = (first), ic_rounds_##place = ic_bound(places); (is_member) && ic_rounds_##place--; \
          place = (next))
@@ -245,13 +247,14 @@ static inline uint32_t ic_fault_of(ic_length places, uint32_t place, int is_link
     for (uint32_t place = (first), follower = (next), ic_rounds_##place = ic_bound(places); \
          (is_member) && ic_rounds_##place--; place = follower, follower = (next))
 
-/* IC_ENTRY is the object of a place in the array `objects`, or a null pointer if the place is IC_NONE. It evaluates `place` twice. IC_PLACE_OF is the
- * place of an object. If you pass IC_ENTRY a read of an end or a neighbor, you get the object there, as with IC_ENTRY(jobs, ic_list_front(links, 100,
- * &list)). */
+/* IC_ENTRY is the object of a place in the array `objects`, or a null pointer if the place is IC_NONE. IC_ENTRY evaluates `place` twice. IC_PLACE_OF
+ * is the place of an object. If you pass IC_ENTRY a read of an end or a neighbor, you get the object at this end or neighbor, as with IC_ENTRY(jobs,
+ * ic_list_front(links, 100, &list)). */
 #define IC_ENTRY(objects, place) ((place) == IC_NONE ? NULL : &(objects)[place])
 #define IC_PLACE_OF(object, objects) ((uint32_t)((object) - (objects)))
 
-/* The loops that give objects are made of these macros. In each round `object` is the object of `place`, and after the last round it is null. */
+/* The loops that give objects are made of the three macros below. In each round `object` is the object of `place`, and after the last round `object`
+ * is null. */
 #define IC_ENTRY_IF(object, objects, place, is_member) ((is_member) ? ((object) = &(objects)[place], 1) : ((object) = NULL, 0))
 #define IC_LOOP_ENTRY(object, objects, place, first, places, is_member, next)              \
     for (uint32_t place = (first), ic_rounds_##place = ic_bound(places);                   \
@@ -493,8 +496,9 @@ uint32_t ic_list_check(const struct ic_link2 *table, ic_length places, const str
 
 /* ---- Lists by keys ----
  *
- * The keys are numbers, of which the least comes first. There has to be a key for each place, and the calls read only the keys of members. Both calls
- * check the lists before they change anything, so no call is refused when it is half done. A sort is recursive, to a depth of at most 33 calls.
+ * The keys are numbers, of which the least comes first. There has to be a key for each place, and the calls read only the keys of members. A sort and
+ * a merge check the lists before they change anything, so neither is refused when it is half done. A sort is recursive, to a depth of at most 33
+ * calls.
  */
 
 /* tools/c-calls --write writes from here: list-keys */
@@ -548,9 +552,9 @@ uint32_t ic_list_transfer_before(struct ic_link2 *table, ic_length places, struc
 
 /* ---- Doubly linked lists with words of 4 bytes: 8 bytes a place, calls O(1) except to clear and check ---------------------------------------
  *
- * These lists take half the memory for their links. A word of 4 bytes is the word of an 8-byte link, cut to 4 bytes, so it can name the places below
- * 536,870,911. Other places are out of range. The list itself is a struct ic_list as before. Each call, read and loop does what the one without the
- * 32 in its name does. Lists with words of 4 bytes have no fills, sorts and merges.
+ * Lists with words of 4 bytes take half the memory for their links. A word of 4 bytes is the word of an 8-byte link, cut to 4 bytes, so a word of 4
+ * bytes can name the places below 536,870,911. Other places are out of range. A list with words of 4 bytes is a struct ic_list, too. Each call, read
+ * and loop does what the call, read or loop without the 32 in its name does. Lists with words of 4 bytes have no fills, sorts and merges.
  *
  *     struct ic_link2_32 links[100] = {0};               // 100 unlinked places
  *     struct ic_list list = {0};                         // a list with no members
@@ -803,9 +807,9 @@ static inline int ic_list32_is_singular(const struct ic_link2_32 *table, ic_leng
 
 /* ---- Rings: 16 bytes a place, calls O(1) except to check and sort -----------------------------------------------------------------------
  *
- * A ring is a doubly linked list whose head is a place of the table. Its head and its members form a circle. To remove a member, or to insert a place
- * beside a member, you do not name the ring. So rings are good if the code that removes an object does not know the object's queue. Rings are like
- * the lists of Linux (list.h). Rings and lists may be in one table. Take as heads places that have no object.
+ * A ring is a doubly linked list whose head is a place of the table. The head and the members of a ring form a circle. To remove a member, or to
+ * insert a place beside a member, you do not name the ring. So rings are good if the code that removes an object does not know which queue has the
+ * object. Rings are like the lists of Linux (list.h). Rings and lists may be in one table. For the heads of rings, take places that have no object.
  *
  *     struct ic_link2 links[65] = {0};               // 64 objects, and a head at 64
  *     status = ic_ring_init(links, 65, 64);          // a ring with no members
@@ -813,7 +817,7 @@ static inline int ic_list32_is_singular(const struct ic_link2_32 *table, ic_leng
  *     status = ic_ring_remove(links, 65, 7);         // from whichever ring it is in
  *
  * Each call tests the places that it writes, and the places beside them. A member in the middle of a doubly linked list passes these tests, too, and
- * the call treats it as a member of a ring, which does no harm. No call can tell whether two places are in one ring or in two.
+ * a call treats such a member as a member of a ring, which does no harm. No call can tell whether two places are in one ring or in two.
  */
 
 /* ---- Rings: functions for links of 8-byte and of 4-byte words ---- */
@@ -865,7 +869,7 @@ static inline int ic_ring_is_singular(const struct ic_link2 *table, ic_length pl
     return ic_ring_is_first(table, places, head, ic_ring_back(table, places, head));
 }
 
-/* These loops go from the first member of a ring to the last, and back. You name the ring by its head. */
+/* The IC_RING_FOREACH loops go from the first member of a ring to the last, and back. You name the ring by its head. */
 #define IC_RING_FOREACH(place, table, places, head)                                                                                   \
     IC_LOOP(place, ic_ring_next(table, places, head), places, place != (head) && ic_ring_is_linked(table, places, place),             \
             ic_ring_next(table, places, place))
@@ -994,7 +998,7 @@ uint32_t ic_ring_check(const struct ic_link2 *table, ic_length places, uint32_t 
 
 /* to here */
 
-/* These two functions have the names that lists have for an insertion at an end. */
+/* ic_ring_push_front and ic_ring_push_back have the names that lists have for an insertion at an end. */
 
 /* Inserts `place` as the first member of the ring with the head `head`, and returns what ic_ring_insert_after returns. */
 IC_NODISCARD
@@ -1008,15 +1012,15 @@ static inline uint32_t ic_ring_push_back(struct ic_link2 *table, ic_length place
     return ic_ring_insert_before(table, places, head, place);
 }
 
-/* Each of these edits makes two calls. It first tests the links that its second call tests, so if it is refused, it has changed nothing. */
+/* Each of the following edits makes two calls. The edit first tests the links that its second call tests, so a refused edit has changed nothing. */
 
-/* Returns whether `after` is the place after `before` in a ring, and its link leads back to `before`. */
+/* Returns whether `after` is the place after `before` in a ring, and the link of `after` names `before`. */
 static inline int ic_ring_is_gap(const struct ic_link2 *table, ic_length places, uint32_t before, uint32_t after) {
     return before != IC_NONE && ic_ring_next(table, places, before) == after && ic_ring_prev(table, places, after) == before;
 }
 
-/* Exchanges the positions of the places `one` and `other`, of one ring or of two, as list_swap of Linux does, in O(1). Nothing changes if both are
- * the same place.
+/* Exchanges the positions of the places `one` and `other`, of one ring or of two, as list_swap of Linux does, in O(1). Nothing changes if `one` and
+ * `other` are the same place.
  * IC_NULL: `one` or `other` is IC_NONE. IC_OUT_OF_RANGE: `one` or `other` is not below `places`. IC_NOT_LINKED: `one` or `other` is not
  * linked. IC_BROKEN: `one` or `other` is in no ring. */
 IC_NODISCARD
@@ -1033,8 +1037,8 @@ static inline uint32_t ic_ring_swap(struct ic_link2 *table, ic_length places, ui
 
 /* Moves the places from `first` to `last` of a ring, in their order, after the place `at` of any ring, in O(1). With this call you can move the first
  * members of the ring with the head `head`, up to `entry`, to the ring with the head `list`, as list_cut_position(list, head, entry) of Linux does.
- * Nothing changes if the places are there already. The call can't detect if `at` is between `first` and `last`, or if `last` comes before `first`. In
- * both cases it leaves places in circles without a head.
+ * Nothing changes if the places already follow `at`, or if `at` is `last`. The call can't detect if `at` is between `first` and `last`, or if `last`
+ * comes before `first`. In both cases the call leaves places in circles without a head.
  * IC_NULL: `at`, `first` or `last` is IC_NONE. IC_OUT_OF_RANGE: one of them is not below `places`. IC_NOT_LINKED: one of them is not
  * linked. IC_BROKEN: one of them is in no ring, or `at` is `first`, and `last` is another place. */
 IC_NODISCARD
@@ -1054,8 +1058,8 @@ static inline uint32_t ic_ring_move_range_after(struct ic_link2 *table, ic_lengt
 }
 
 /* Moves the places from `first` to `last` of a ring, in their order, before the place `at` of any ring, in O(1). If `at` is a head, the places become
- * its last members, as with list_bulk_move_tail of Linux. Nothing changes if they are there already. The call can't detect the wrong ranges that
- * ic_ring_move_range_after can't detect.
+ * the last members of its ring, as with list_bulk_move_tail of Linux. Nothing changes if the places are already right before `at`, or if `at` is
+ * `first`. The call can't detect the wrong ranges that ic_ring_move_range_after can't detect.
  * IC_NULL: `at`, `first` or `last` is IC_NONE. IC_OUT_OF_RANGE: one of them is not below `places`. IC_NOT_LINKED: one of them is not
  * linked. IC_BROKEN: one of them is in no ring, or `at` is `last`, and `first` is another place. */
 IC_NODISCARD
@@ -1072,8 +1076,8 @@ static inline uint32_t ic_ring_move_range_before(struct ic_link2 *table, ic_leng
 
 /* ---- Rings by keys ----
  *
- * The keys are as for lists: numbers, of which the least comes first, and one for each place. Both calls check their rings before they change
- * anything, so no call is refused when it is half done. A sort is recursive, to a depth of at most 33 calls.
+ * The keys are numbers, of which the least comes first, and there is one for each place, as for lists. A sort and a merge check the rings before they
+ * change anything, so neither is refused when it is half done. A sort is recursive, to a depth of at most 33 calls.
  */
 
 /* tools/c-calls --write writes from here: ring-keys */
@@ -1099,8 +1103,8 @@ uint32_t ic_ring_merge(struct ic_link2 *table, ic_length places, const uint64_t 
 
 /* ---- Rings with words of 4 bytes: 8 bytes a place, calls O(1) ----------------------------------------------------------------------------
  *
- * These rings take half the memory for their links, which are the same as in lists with words of 4 bytes. Such rings and lists may be in one table.
- * Each call, read and loop does what the one without the 32 in its name does.
+ * Rings with words of 4 bytes take half the memory for their links, which are the same as in lists with words of 4 bytes. Rings and lists with words
+ * of 4 bytes may be in one table. Each call, read and loop does what the call, read or loop without the 32 in its name does.
  *
  *     struct ic_link2_32 links[65] = {0};             // 64 objects, and a head at 64
  *     status = ic_ring32_init(links, 65, 64);         // a ring with no members
@@ -1241,7 +1245,7 @@ static inline int ic_ring32_is_singular(const struct ic_link2_32 *table, ic_leng
     return ic_ring32_is_first(table, places, head, ic_ring32_back(table, places, head));
 }
 
-/* These loops go from the first member of a ring to the last, and back. You name the ring by its head. */
+/* The IC_RING32_FOREACH loops go from the first member of a ring to the last, and back. You name the ring by its head. */
 #define IC_RING32_FOREACH(place, table, places, head)                                                                         \
     IC_LOOP(place, ic_ring32_next(table, places, head), places, place != (head) && ic_ring32_is_linked(table, places, place), \
             ic_ring32_next(table, places, place))
@@ -1279,7 +1283,7 @@ static inline int ic_ring32_is_singular(const struct ic_link2_32 *table, ic_leng
     IC_LOOP_ENTRY_SAFE(object, objects, ic_at_##object, ic_next_##object, at, places, \
                        ic_at_##object != (head) && ic_ring32_is_linked(table, places, ic_at_##object), ic_ring32_next(table, places, ic_at_##object))
 
-/* These two functions have the names that lists have for an insertion at an end. */
+/* ic_ring32_push_front and ic_ring32_push_back have the names that lists have for an insertion at an end. */
 
 /* Inserts `place` as the first member of the ring with the head `head`, and returns what ic_ring32_insert_after returns. */
 IC_NODISCARD
@@ -1293,15 +1297,15 @@ static inline uint32_t ic_ring32_push_back(struct ic_link2_32 *table, ic_length 
     return ic_ring32_insert_before(table, places, head, place);
 }
 
-/* Each of these edits makes two calls. It first tests the links that its second call tests, so if it is refused, it has changed nothing. */
+/* Each of the following edits makes two calls. The edit first tests the links that its second call tests, so a refused edit has changed nothing. */
 
-/* Returns whether `after` is the place after `before` in a ring, and its link leads back to `before`. */
+/* Returns whether `after` is the place after `before` in a ring, and the link of `after` names `before`. */
 static inline int ic_ring32_is_gap(const struct ic_link2_32 *table, ic_length places, uint32_t before, uint32_t after) {
     return before != IC_NONE && ic_ring32_next(table, places, before) == after && ic_ring32_prev(table, places, after) == before;
 }
 
-/* Exchanges the positions of the places `one` and `other`, of one ring or of two, as list_swap of Linux does, in O(1). Nothing changes if both are
- * the same place.
+/* Exchanges the positions of the places `one` and `other`, of one ring or of two, as list_swap of Linux does, in O(1). Nothing changes if `one` and
+ * `other` are the same place.
  * IC_NULL: `one` or `other` is IC_NONE. IC_OUT_OF_RANGE: `one` or `other` is not below `places`. IC_NOT_LINKED: `one` or `other` is not
  * linked. IC_BROKEN: `one` or `other` is in no ring. */
 IC_NODISCARD
@@ -1318,8 +1322,8 @@ static inline uint32_t ic_ring32_swap(struct ic_link2_32 *table, ic_length place
 
 /* Moves the places from `first` to `last` of a ring, in their order, after the place `at` of any ring, in O(1). With this call you can move the first
  * members of the ring with the head `head`, up to `entry`, to the ring with the head `list`, as list_cut_position(list, head, entry) of Linux does.
- * Nothing changes if the places are there already. The call can't detect if `at` is between `first` and `last`, or if `last` comes before `first`. In
- * both cases it leaves places in circles without a head.
+ * Nothing changes if the places already follow `at`, or if `at` is `last`. The call can't detect if `at` is between `first` and `last`, or if `last`
+ * comes before `first`. In both cases the call leaves places in circles without a head.
  * IC_NULL: `at`, `first` or `last` is IC_NONE. IC_OUT_OF_RANGE: one of them is not below `places`. IC_NOT_LINKED: one of them is not
  * linked. IC_BROKEN: one of them is in no ring, or `at` is `first`, and `last` is another place. */
 IC_NODISCARD
@@ -1339,8 +1343,8 @@ static inline uint32_t ic_ring32_move_range_after(struct ic_link2_32 *table, ic_
 }
 
 /* Moves the places from `first` to `last` of a ring, in their order, before the place `at` of any ring, in O(1). If `at` is a head, the places become
- * its last members, as with list_bulk_move_tail of Linux. Nothing changes if they are there already. The call can't detect the wrong ranges that
- * ic_ring32_move_range_after can't detect.
+ * the last members of its ring, as with list_bulk_move_tail of Linux. Nothing changes if the places are already right before `at`, or if `at` is
+ * `first`. The call can't detect the wrong ranges that ic_ring32_move_range_after can't detect.
  * IC_NULL: `at`, `first` or `last` is IC_NONE. IC_OUT_OF_RANGE: one of them is not below `places`. IC_NOT_LINKED: one of them is not
  * linked. IC_BROKEN: one of them is in no ring, or `at` is `last`, and `first` is another place. */
 IC_NODISCARD
@@ -1357,8 +1361,8 @@ static inline uint32_t ic_ring32_move_range_before(struct ic_link2_32 *table, ic
 
 /* ---- Singly linked lists: 8 bytes a place, calls O(1) except ic_stack_splice_after, and to fill, clear, check, sort and merge -----------
  *
- * Take singly linked lists for stacks and free lists. Calls edit the list after the member `at`, or at the front if `at` is IC_NONE. If you also keep
- * the last member yourself, a list can serve as a queue: insert after the last member, and pop at the front.
+ * Take singly linked lists for stacks and free lists. Calls edit a singly linked list after the member `at`, or at the front if `at` is IC_NONE. If
+ * you also keep the last member yourself, a list can serve as a queue: insert after the last member, and pop at the front.
  */
 
 /* Returns whether a place is in a list of the table. */
@@ -1401,8 +1405,8 @@ static inline int ic_stack_is_singular(const struct ic_link1 *table, ic_length p
     return ic_stack_is_last(table, places, ic_stack_first(list));
 }
 
-/* Returns the member to go on to from `place`, which was the member after *before, or the first member if *before is IC_NONE. If `place` is still
- * there, *before becomes `place`. If `place` has been removed, the loop goes on to the member that is at its position now. */
+/* Returns the member to go on to from `place`, which was the member after *before, or the first member if *before is IC_NONE. If `place` is still a
+ * member, *before becomes `place`. If `place` has been removed, the loop goes on to the member that now has the position of `place`. */
 static inline uint32_t ic_stack_go_on(const struct ic_link1 *table, ic_length places, const struct ic_stack *list, uint32_t *before,
                                       uint32_t place) {
     uint32_t after = *before == IC_NONE ? ic_stack_first(list) : ic_stack_next(table, places, *before);
@@ -1412,7 +1416,8 @@ static inline uint32_t ic_stack_go_on(const struct ic_link1 *table, ic_length pl
     return ic_stack_next(table, places, place);
 }
 
-/* These loops go from the first member to the last. `before` is the member before `place`, or IC_NONE. Pass `before` to the calls that edit the list:
+/* The IC_STACK_FOREACH loops go from the first member to the last. `before` is the member before `place`, or IC_NONE. Pass `before` to the calls that
+ * edit the list:
  *
  *     IC_STACK_FOREACH_SAFE(before, place, links, 100, &list)
  *         if (is_done(place))
@@ -1505,8 +1510,8 @@ uint32_t ic_stack_check(const struct ic_link1 *table, ic_length places, const st
 
 /* ---- Singly linked lists by keys ----
  *
- * The keys are as for doubly linked lists. Both calls check the lists before they change anything, so no call is refused when it is half done. A sort
- * is recursive, to a depth of at most 33 calls.
+ * The keys are as for doubly linked lists. A sort and a merge check the lists before they change anything, so neither is refused when it is half
+ * done. A sort is recursive, to a depth of at most 33 calls.
  */
 
 /* tools/c-calls --write writes from here: stack-keys */
@@ -1530,7 +1535,7 @@ uint32_t ic_stack_merge(struct ic_link1 *table, ic_length places, const uint64_t
  *
  * Take hash tables to find objects by a key, if you need no order. A hash table is an array of buckets, and a bucket {0} is empty. A bucket is the
  * head of a singly linked list, whose members are its chain. Your hash function makes a number of each key, and a member is in the bucket whose index
- * is hash % bucket_count. So pass the same hash in each call for one object. With about as many buckets as members, chains are short.
+ * is hash % bucket_count. So pass the same hash in each call for one object. If there are about as many buckets as members, chains are short.
  *
  *     struct ic_link1 links[100] = {0};
  *     struct ic_stack buckets[64] = {0};
@@ -1549,7 +1554,7 @@ uint32_t ic_stack_merge(struct ic_link1 *table, ic_length places, const uint64_t
  * place is in one chain or list of a table, so the free places may be in a list of the same table.
  *
  * A hash table grows or shrinks when you make another array of buckets, and call ic_hash_move_chain for each bucket of the old array, at once or over
- * time. Here `more` has the 128 new buckets, and `hashes` has a hash for each place:
+ * time. In the following loop, `more` has the 128 new buckets, and `hashes` has a hash for each place:
  *
  *     for (uint32_t i = 0; i < 64; i++)
  *         status = ic_hash_move_chain(links, 100, hashes, 100, &buckets[i], more, 128);
@@ -1560,7 +1565,7 @@ static inline uint32_t ic_hash_first(const struct ic_stack *buckets, ic_length b
     return bucket_count ? ic_stack_first(&buckets[hash % bucket_count]) : IC_NONE;
 }
 
-/* These loops go over the chain of a hash, and their bodies leave the members where they are. */
+/* The IC_HASH_FOREACH loops go over the chain of a hash, and the bodies of the loops leave the members where they are. */
 #define IC_HASH_FOREACH(place, table, places, buckets, bucket_count, hash)                                                              \
     IC_LOOP(place, ic_hash_first(buckets, bucket_count, hash), places, ic_stack_is_linked(table, places, place),                        \
             ic_stack_next(table, places, place))
@@ -1568,8 +1573,8 @@ static inline uint32_t ic_hash_first(const struct ic_stack *buckets, ic_length b
     IC_LOOP_ENTRY(object, objects, ic_at_##object, ic_hash_first(buckets, bucket_count, hash), places,         \
                   ic_stack_is_linked(table, places, ic_at_##object), ic_stack_next(table, places, ic_at_##object))
 
-/* Returns `place` if it is linked. Otherwise it returns the first member of the chains after *bucket, or IC_NONE, and sets *bucket to the index of
- * that member's chain. After (ic_length)-1 comes the first chain. */
+/* Returns `place` if it is linked. Otherwise the function returns the first member of the chains after *bucket, or IC_NONE, and sets *bucket to the
+ * index of the returned member's chain. If *bucket is (ic_length)-1, the first chain is the next. */
 static inline uint32_t ic_hash_go_on(const struct ic_link1 *table, ic_length places, const struct ic_stack *buckets, ic_length bucket_count,
                                      ic_length *bucket, uint32_t place) {
     while (!ic_stack_is_linked(table, places, place) && ++*bucket < bucket_count)
@@ -1577,7 +1582,7 @@ static inline uint32_t ic_hash_go_on(const struct ic_link1 *table, ic_length pla
     return *bucket < bucket_count ? place : IC_NONE;
 }
 
-/* Returns the member to go on to from `place`, as ic_stack_go_on does in a chain. At the end of a chain it goes on to the next chain. */
+/* Returns the member to go on to from `place`, as ic_stack_go_on does in a chain. At the end of a chain, the function goes on to the next chain. */
 static inline uint32_t ic_hash_safe_go_on(const struct ic_link1 *table, ic_length places, const struct ic_stack *buckets,
                                           ic_length bucket_count, ic_length *bucket, uint32_t *before, uint32_t place) {
     const ic_length was = *bucket;
@@ -1588,9 +1593,9 @@ static inline uint32_t ic_hash_safe_go_on(const struct ic_link1 *table, ic_lengt
     return found;
 }
 
-/* These loops go over all members, chain by chain, in O(buckets + n). Whatever the words say, they make at most `places` rounds in all, and `break`
- * leaves the whole loop. In a ..._SAFE loop `bucket` is the index of the chain, and `before` is the member before `place` in it, or IC_NONE. The body
- * of such a loop may remove `place`, and may then insert it into another array of buckets:
+/* The IC_HASH_FOREACH_ALL loops go over all members, chain by chain, in O(buckets + n). Whatever the words say, a loop makes at most `places` rounds
+ * in all, and `break` leaves the whole loop. In a ..._SAFE loop `bucket` is the index of the chain, and `before` is the member before `place` in the
+ * chain, or IC_NONE. The body of a ..._SAFE loop may remove `place`, and may then insert it into another array of buckets:
  *
  *     IC_HASH_FOREACH_ALL_SAFE(bucket, before, place, links, 100, buckets, 64)
  *         if (is_done(place))
@@ -1673,8 +1678,8 @@ uint32_t ic_hash_move_chain(struct ic_link1 *table, ic_length places, const uint
 
 /* to here */
 
-/* Removes `place` from a singly linked list, wherever in the list it is, in O(n). The function calls ic_hash_remove with the list as a hash table of
- * one bucket.
+/* Removes `place` from a singly linked list, wherever in the list `place` is, in O(n). The function calls ic_hash_remove with the list as a hash
+ * table of one bucket.
  * IC_NULL: `place` is IC_NONE. IC_OUT_OF_RANGE: `place` is not below `places`. IC_NOT_LINKED: `place` is not linked. IC_BROKEN: `place` is no member
  * of this list, but perhaps of another list, or the list does not belong to this table. */
 IC_NODISCARD
@@ -1686,13 +1691,13 @@ static inline uint32_t ic_stack_remove(struct ic_link1 *table, ic_length places,
  *
  * Take XOR lists if you use a list at both ends and walk both ways, and memory is scarce. The link of a member does not name its neighbors one by
  * one, so you name a gap by both members beside it. In the calls `before` is the member before the gap, or IC_NONE at the front, and `after` is the
- * member after the gap, or IC_NONE at the back. Both are IC_NONE in an empty list.
+ * member after the gap, or IC_NONE at the back. In an empty list `before` and `after` are IC_NONE.
  *
- * A call at a gap tests that both members are linked. It also tests that each member's word, combined with the other member, names a linked place
- * beyond it, or no place at an end of the list. So the call refuses IC_NONE beside a member that is not at that end. If few places are linked, it
- * also refuses most pairs of members that are not neighbors. Two neighbors in the wrong order pass. In a table that is nearly full most pairs that
- * are not neighbors pass: 26 of 36 in the list of the places 0 to 6, in their order, and 8,871 of 9,801 in the list of the places 0 to 99. If a wrong
- * pair passes, the call mixes the list up, within the table. So name members that you know to be neighbors.
+ * A call at a gap tests that both members are linked. The call also tests that each member's word, combined with the other member, names a linked
+ * place beyond the member, or no place at an end of the list. So the call refuses IC_NONE beside a member that is not at that end. If few places are
+ * linked, the call also refuses most pairs of members that are not neighbors. Two neighbors in the wrong order pass the tests. In a table that is
+ * nearly full most pairs that are not neighbors pass the tests: 26 of 36 in the list of the places 0 to 6, in their order, and 8,871 of 9,801 in the
+ * list of the places 0 to 99. If a wrong pair passes, the call mixes the list up, within the table. So name members that you know to be neighbors.
  */
 
 /* Returns whether a place is in a list of the table. */
@@ -1747,15 +1752,15 @@ static inline int ic_xor_is_singular(const struct ic_link1 *table, ic_length pla
     return ic_xor_is_first(table, places, list, ic_xor_last(list));
 }
 
-/* Returns the member to go on to from `place`, which the loop reached from *from, and sets *from to `place`. */
+/* Returns the member to which a loop goes on from `place`, which the loop reached from *from, and sets *from to `place`. */
 static inline uint32_t ic_xor_go_on(const struct ic_link1 *table, ic_length places, uint32_t *from, uint32_t place) {
     uint32_t next = ic_xor_step(table, places, *from, place);
     *from = place;
     return next;
 }
 
-/* These loops go from the first member to the last, and back. In both directions `before` is the member before `place`, and `after` is the member
- * after `place`. Beyond an end of the list they are IC_NONE.
+/* The IC_XOR_FOREACH loops go from the first member to the last, and back. In both directions `before` is the member before `place`, and `after` is
+ * the member after `place`. Beyond an end of the list `before` and `after` are IC_NONE.
  *
  *     IC_XOR_FOREACH_SAFE(before, place, after, links, 100, &list)
  *         if (is_done(place))
@@ -1778,8 +1783,9 @@ static inline uint32_t ic_xor_go_on(const struct ic_link1 *table, ic_length plac
 #define IC_XOR_FOREACH_ENTRY_REVERSE_SAFE(before, object, objects, after, table, places, list) \
     IC_XOR_LOOP_ENTRY_SAFE(object, objects, after, ic_at_##object, before, ic_xor_last(list), table, places)
 
-/* These loops go in both directions, while `is_member` is true. The safe loop reads the member beyond `next` before its body runs. After the body has
- * run, it finds the member beside `next` from there: this is `place`, or `from` if the body has removed `place`. */
+/* The two macros below make loops in both directions, which run while `is_member` is true. The safe loop reads the member beyond `next` before its
+ * body runs. After the body has run, the loop finds from that member the other neighbor of `next`, which is `place`, or `from` if the body has
+ * removed `place`. */
 #define IC_XOR_WALK(place, first, table, places, is_member)                                                  \
     for (uint32_t place = (first), ic_from_##place = IC_NONE, ic_rounds_##place = ic_bound(places); is_member; \
          place = ic_xor_go_on(table, places, &ic_from_##place, place))
@@ -1891,13 +1897,13 @@ uint32_t ic_xor_reverse(struct ic_xor_list *list);
  *   - You give each place a number as its key, in an array of your own, where the key of `place` is keys[place]. ic_tree_insert inserts a place where
  *     its key belongs, and ic_tree_find and both bounds search by keys. To change a member's key, remove the member, change the key, and insert the
  *     member again.
- *   - You make any comparison of yours, as with sys/tree.h or the rb_link_node of Linux, in which `at` is a member to compare with:
+ *   - You write a comparison of your own, as with sys/tree.h or the rb_link_node of Linux. In the comparison `at` is a member to compare with:
  *
  *         IC_TREE_INSERT_BY(status, at, links, 100, &tree, place, strcmp(names[place], names[at]));
  *         IC_TREE_FIND_BY(at, links, 100, &tree, strcmp("oak", names[at]));
  *
  * The calls that remove a member, and those that step to the next or the previous member, compare no keys. The calls that make one tree of two, or
- * two of one, compare no keys either. They first check whether the links form the trees, which takes O(n).
+ * two trees of one, compare no keys either, but first check in O(n) whether the links form the trees.
  */
 
 /* Returns whether a place is in a tree of the table. */
@@ -1915,12 +1921,12 @@ static inline uint32_t ic_tree_root(const struct ic_tree *tree) {
     return ic_place(tree->root);
 }
 
-/* Returns the left child of the member `at`, or IC_NONE. This child and the members under it come before `at`. */
+/* Returns the left child of the member `at`, or IC_NONE. The left child and the members under it come before `at`. */
 static inline uint32_t ic_tree_left(const struct ic_link3 *table, ic_length places, uint32_t at) {
     return ic_tree_is_linked(table, places, at) ? ic_place_within(places, table[at].left) : IC_NONE;
 }
 
-/* Returns the right child of the member `at`, or IC_NONE. This child and the members under it come after `at`. */
+/* Returns the right child of the member `at`, or IC_NONE. The right child and the members under it come after `at`. */
 static inline uint32_t ic_tree_right(const struct ic_link3 *table, ic_length places, uint32_t at) {
     return ic_tree_is_linked(table, places, at) ? ic_place_within(places, table[at].right) : IC_NONE;
 }
@@ -1998,7 +2004,7 @@ uint32_t ic_tree_check(const struct ic_link3 *table, ic_length places, const str
 /* ---- Trees by keys ----
  *
  * The keys are numbers, of which the least comes first. There has to be a key for each place, and the calls read only the keys of members and of the
- * place to insert. The searches are for trees whose members are in the order of their keys. In other trees they find some member or none.
+ * place to insert. The searches are for trees whose members are in the order of their keys. In another tree a search finds some member or none.
  */
 
 /* tools/c-calls --write writes from here: tree-keys */
@@ -2052,9 +2058,9 @@ static inline uint32_t ic_tree_insert_unique(struct ic_link3 *table, ic_length p
 
 /* ---- Trees by a comparison ----
  *
- * These macros search a tree whose keys are no numbers, from the root down, in O(log n). Each macro is a statement. `at` is the name of a uint32_t
- * variable of yours, and `comparison` is an expression in which `at` is the member to compare with. The value of `comparison` is negative if what you
- * look for comes before `at`, 0 if both are equal, and positive otherwise, as the value of strcmp.
+ * The IC_TREE_..._BY macros search a tree whose keys are no numbers, from the root down, in O(log n). Each macro is a statement. `at` is the name of
+ * a uint32_t variable of yours, and `comparison` is an expression in which `at` is the member to compare with. The value of `comparison` is negative
+ * if what you look for comes before `at`, 0 if both are equal, and positive otherwise, as the value of strcmp.
  *
  *     const char *names[100];
  *     uint32_t at, status;
@@ -2062,8 +2068,8 @@ static inline uint32_t ic_tree_insert_unique(struct ic_link3 *table, ic_length p
  *     if (at == IC_NONE)
  *         IC_TREE_INSERT_BY(status, at, links, 100, &tree, place, strcmp(names[place], names[at]));
  *
- * Whatever the words say, a macro makes at most `places` comparisons, each with a linked place of the table. It evaluates `table`, `places`, `tree`
- * and `place` several times.
+ * Whatever the words say, a macro makes at most `places` comparisons, each with a linked place of the table. A macro evaluates `table`, `places`,
+ * `tree` and `place` several times.
  */
 
 /* Returns the left child of the member `at`, or the right one, or IC_NONE. */
@@ -2073,8 +2079,8 @@ static inline uint32_t ic_tree_child(const struct ic_link3 *table, ic_length pla
     return ic_place_within(places, is_left ? table[at].left : table[at].right);
 }
 
-/* The three macros below that search by a comparison expand to this one. It goes to the left of each member for which `comparison goes_left 0` is
- * true, and `at` becomes the last member for which `comparison is_found 0` is true. */
+/* The three macros below that search by a comparison expand to IC_SEARCH_BY. The search goes to the left of each member for which `comparison
+ * goes_left 0` is true, and `at` becomes the last member for which `comparison is_found 0` is true. */
 #define IC_SEARCH_BY(at, table, places, tree, comparison, is_found, goes_left)                  \
     do {                                                                                        \
         uint32_t ic_found_##at = IC_NONE, ic_rounds_##at = ic_bound(places);                    \
@@ -2097,7 +2103,8 @@ static inline uint32_t ic_tree_child(const struct ic_link3 *table, ic_length pla
 /* Sets `at` to the last member that does not come after what you look for, or to IC_NONE if there is none. */
 #define IC_TREE_UPPER_BOUND_BY(at, table, places, tree, comparison) IC_SEARCH_BY(at, table, places, tree, comparison, >=, <)
 
-/* The two macros below that insert expand to this one. If `place` cannot be inserted, the macro compares nothing, and the status says why. */
+/* The two macros below that insert expand to IC_DESCEND_AND_INSERT. If `place` cannot be inserted, the macro compares nothing, and the status says
+ * why. */
 #define IC_DESCEND_AND_INSERT(status, at, table, places, tree, place, comparison, is_unique)                                    \
     do {                                                                                                                        \
         uint32_t ic_under_##at = IC_NONE, ic_same_##at = IC_NONE, ic_rounds_##at = ic_bound(places);                            \
@@ -2126,8 +2133,8 @@ static inline uint32_t ic_tree_child(const struct ic_link3 *table, ic_length pla
 #define IC_TREE_INSERT_BY(status, at, table, places, tree, place, comparison) \
     IC_DESCEND_AND_INSERT(status, at, table, places, tree, place, comparison, 0)
 
-/* Inserts `place` if there is no member for which the comparison is 0. Sets `at` to such a member, or to `place` if it was inserted, or to IC_NONE if
- * the call was refused. Sets `status` to IC_OK, or to the status with which IC_TREE_INSERT_BY would be refused. */
+/* Inserts `place` if there is no member for which the comparison is 0. Sets `at` to a member for which the comparison is 0, or to `place` if it was
+ * inserted, or to IC_NONE if the call was refused. Sets `status` to IC_OK, or to the status with which IC_TREE_INSERT_BY would be refused. */
 #define IC_TREE_INSERT_UNIQUE_BY(status, at, table, places, tree, place, comparison) \
     IC_DESCEND_AND_INSERT(status, at, table, places, tree, place, comparison, 1)
 
@@ -2179,7 +2186,7 @@ static inline uint32_t ic_tree_before(const struct ic_link3 *table, ic_length pl
     return ic_tree_prev(table, places, tree, at, &found) == IC_OK ? found : IC_NONE;
 }
 
-/* These loops go from the first member to the last, and back. `next` and `prev` are as in the loops of a list. */
+/* The IC_TREE_FOREACH loops go from the first member to the last, and back. `next` and `prev` are as in the loops of a list. */
 #define IC_TREE_FOREACH(place, table, places, tree) \
     IC_LOOP(place, ic_tree_after(table, places, tree, IC_NONE), places, place != IC_NONE, ic_tree_after(table, places, tree, place))
 #define IC_TREE_FOREACH_REVERSE(place, table, places, tree) \
@@ -2217,11 +2224,11 @@ static inline uint32_t ic_tree_before(const struct ic_link3 *table, ic_length pl
 
 /* ---- Trees that keep their first and last member ----
  *
- * These calls keep the first and the last member in two more words, a struct ic_tree_ends, so that the first member, such as the next timer, is found
- * at once. For an empty tree the ends are {0}. Edit such a tree only by these calls, since the others leave the ends as they are. In a loop, remove a
- * member by ic_tree_ends_remove. After ic_tree_clear set the ends to zero. After ic_tree_append, ic_tree_join or ic_tree_split write the ends of each
- * tree that keeps its ends: set ends.first to ic_word of the place that ic_tree_next finds from IC_NONE, and ends.last to ic_word of the place that
- * ic_tree_prev finds. Both are 0 if the tree is empty.
+ * The calls ic_tree_ends_... keep the first and the last member of a tree in two more words, a struct ic_tree_ends, so that the first member, such as
+ * the next timer, is found at once. For an empty tree the ends are {0}. Edit a tree that keeps its ends only by these calls, since the other calls
+ * leave the ends as they are. In a loop, remove a member by ic_tree_ends_remove. After ic_tree_clear set the ends to zero. After ic_tree_append,
+ * ic_tree_join or ic_tree_split write the ends of each tree that keeps its ends: set ends.first to ic_word of the place that ic_tree_next finds from
+ * IC_NONE, and ends.last to ic_word of the place that ic_tree_prev finds. In an empty tree ends.first and ends.last are 0.
  *
  *     struct ic_tree_ends ends = {0};
  *     status = ic_tree_ends_insert(links, 100, keys, 100, &tree, &ends, 7);
@@ -2290,9 +2297,9 @@ uint32_t ic_tree_ends_pop_first(struct ic_link3 *table, ic_length places, struct
 
 /* ---- Trees with sums ----
  *
- * An array of your own has a value and a sum for each place. You write the values. With IC_SUM the sum at a member is the total of its value and the
- * values of all members below it, and at most UINT64_MAX. With IC_GREATEST it is the greatest of these values. If each value is 1, the sum with
- * IC_SUM is the number of these members.
+ * An array of your own has a value and a sum for each place. You write the values. With IC_SUM the sum at a member is the total of the values of the
+ * member and all members below it, and at most UINT64_MAX. With IC_GREATEST the sum at a member is the greatest of these values. If each value is 1,
+ * the sum with IC_SUM is the number of the member and all members below it.
  *
  *     struct ic_sum counts[100];                                             // with the value 1 at each place
  *     status = ic_tree_sums_renew(links, 100, counts, 100, IC_SUM, IC_NONE); // makes all sums right
@@ -2301,8 +2308,8 @@ uint32_t ic_tree_ends_pop_first(struct ic_link3 *table, ic_length places, struct
  *     status = ic_tree_sums_before(links, 100, counts, 100, IC_SUM, found, &position);        // which is 3
  *
  * ic_tree_sums_insert and ic_tree_sums_remove edit the tree as ic_tree_insert and ic_tree_remove do, and keep the sums right, in O(log n). Other
- * edits leave the sums as they are. After such edits call ic_tree_sums_renew with IC_NONE, which makes all sums right. After you have changed the
- * value of one member, call ic_tree_sums_renew with that member. An empty tree needs no such call.
+ * edits leave the sums as they are. After other edits call ic_tree_sums_renew with IC_NONE, which makes all sums right. After you have changed the
+ * value of one member, call ic_tree_sums_renew with that member. For an empty tree you need not call ic_tree_sums_renew.
  *
  * If the values are the lengths of lines, ic_tree_sums_find finds the line at an offset, and ic_tree_sums_before returns where a line begins. With
  * IC_GREATEST, ic_tree_sums_find finds the first member whose value is greater than a bound, for example the first region that is long enough. If the
@@ -2310,7 +2317,7 @@ uint32_t ic_tree_ends_pop_first(struct ic_link3 *table, ic_length places, struct
  * one.
  */
 
-/* These numbers say what a sum is made of. A call takes any other number as IC_GREATEST. */
+/* IC_SUM and IC_GREATEST say what a sum is made of. A call takes any other number as IC_GREATEST. */
 enum { IC_SUM = 0, IC_GREATEST = 1 };
 
 /* If the sums of a tree are right, returns the sum of the values of all its members, or the greatest of these values, in O(1). Returns 0 if the tree

@@ -9,14 +9,15 @@
 //         std::printf("%u\n", place);
 //     std::optional<std::uint32_t> oldest = list.pop_front();
 //
-// A view has pointers to a table and to a list or tree. Both are yours and have to live as long as the view and its iterators. You can copy
-// a view as you copy a pointer. The comments of ic.h say what each edit does and why it is refused, at the call with the same name. Each
-// view has a twin whose name begins with const_, such as ic::const_list_view. It reads a table and a list or tree that are const.
+// A view has pointers to a table and to a list or tree. The table and the list or tree are yours and have to live as long as the view and its
+// iterators. You can copy a view as you copy a pointer. The comments of ic.h say what each edit does and why it is refused, at the call with the same
+// name. For each view there is a second view whose name begins with const_, such as ic::const_list_view, and which reads a table and a list or tree
+// that are const.
 //
-// In C++20 each view with a begin() is a std::ranges::view, and a borrowed range, so that its iterators outlive it.
+// In C++20 each view with a begin() is a std::ranges::view, and a borrowed range, so that the view's iterators outlive the view.
 //
-// Nothing here allocates or throws, and it compiles with -fno-exceptions and -fno-rtti. As in C, no words of a table make a view read or
-// write outside it. A loop from begin() to end(), or from rbegin() to rend(), has at most as many rounds as the table has places.
+// Nothing in this header allocates or throws, and the header compiles with -fno-exceptions and -fno-rtti. As in C, no words of a table make a view
+// read or write outside the table. A loop from begin() to end(), or from rbegin() to rend(), has at most as many rounds as the table has places.
 #ifndef IC_HPP
 #define IC_HPP
 
@@ -44,7 +45,7 @@ namespace ic {
 /// This number names no place.
 inline constexpr std::uint32_t none = IC_NONE;
 
-/// An edit returns one of these. Every status except `ok` is a refusal, and a refused edit has changed nothing.
+/// An edit returns a status. Every status except `ok` is a refusal, and a refused edit has changed nothing.
 enum class [[nodiscard]] status : std::uint32_t {
     ok = IC_OK,
     out_of_range = IC_OUT_OF_RANGE,
@@ -76,8 +77,8 @@ inline constexpr bool is_borrowed<array_view<Element>> = true;
 
 } // namespace detail
 
-/// This is a pointer and a length. You make it from a pointer and a length, from a vector, from an array, or from anything else that has both. A
-/// temporary is accepted only if it does not own its elements, as a std::span.
+/// This is a pointer and a length. You make it from a pointer and a length, from a vector, from an array, or from anything else that has a pointer
+/// and a length. A temporary is accepted only if it does not own its elements, for example a std::span.
 template <class Element>
 class array_view {
     template <class Container>
@@ -102,7 +103,7 @@ private:
 
 namespace detail {
 
-/// This is a member, and the member from which a walk came to it. At an end of the list or tree either is `none`.
+/// This is a member, and the member from which a walk came to the first one. At an end of the list or tree either member is `none`.
 struct position {
     std::uint32_t from = none, at = none;
 };
@@ -354,19 +355,19 @@ struct circular : Ring {
 
 // ---- Iterators ---------------------------------------------------------------------------------------------------------------------
 
-/// If the link of a member does not name the member before it, the iterator also stores the position from which it came to `from`.
+/// If the link of a member does not name the member before it, the iterator also stores the position from which the iterator came to `from`.
 struct trail {
     position before{};
     bool is_kept = false;
 };
 struct no_trail {};
 
-/// Goes from member to member, and gives the place of each. It stays valid until its member is removed. In a singly linked or an XOR list the
-/// iterator also needs the member that it came from, so make it anew if you have removed that member. An iterator that has gone on by `it++` does not
-/// need that member, so `erase(it++)` is right for each kind.
+/// Goes from member to member, and gives the place of each. An iterator stays valid until its member is removed. In a singly linked or an XOR list
+/// the iterator also needs the member from which it came, so make a new iterator if you have removed that member. An iterator that has gone on by
+/// `it++` does not need the member from which it came, so `erase(it++)` is right for each kind.
 ///
 /// `Back` says whether the iterator goes from the last member to the first. The iterator counts its steps. After as many steps forwards as the table
-/// has places it is at the end, and after as many steps backwards it is at the beginning.
+/// has places the iterator is at the end, and after as many steps backwards it is at the beginning.
 template <class Kind, bool Back>
 class iterator : std::conditional_t<Kind::needs_from, trail, no_trail> {
 public:
@@ -430,14 +431,14 @@ public:
     [[nodiscard]] friend bool operator==(const iterator &one, const iterator &other) noexcept { return one.it_.at == other.it_.at; }
     [[nodiscard]] friend bool operator!=(const iterator &one, const iterator &other) noexcept { return !(one == other); }
 
-    /// Returns the member, and the member before it. The iterator came from the member before, unless that one has been removed.
+    /// Returns the member, and the member before it. The iterator came from the member before, unless the member before has been removed.
     [[nodiscard]] position where() const noexcept {
         iterator settled = *this;
         settled.settle();
         return settled.it_;
     }
 
-    /// Returns the iterator after this one, in the state in which it is once the member of this one has been removed.
+    /// Returns the iterator after this one, in the state that the returned iterator has once the member of this one has been removed.
     [[nodiscard]] iterator past() const noexcept {
         iterator next = *this;
         ++next;
@@ -455,8 +456,8 @@ private:
         }
     }
 
-    /// Returns the member before the position `at`. This is `from`, from which the iterator came to `at`, unless the member before `from` now leads
-    /// to `at`. The function takes values and is no part of a loop, so that compilers keep iterators in registers.
+    /// Returns the member before the position `at`. The member is `from`, from which the iterator came to `at`, unless the link of the member before
+    /// `from` now names `at`. The function takes values and is no part of a loop, so that compilers keep iterators in registers.
 #ifdef __GNUC__
     [[gnu::noinline]]
 #endif
@@ -472,12 +473,12 @@ private:
 
     typename Kind::source in_;
     position it_;
-    /// These say how many steps forwards the iterator has left, and how many members before its first position it has gone.
+    /// These two numbers say how many steps forwards the iterator has left, and how many members before its first position the iterator has gone.
     std::uint32_t left_ = 0, ahead_ = 0;
 };
 
-/// `erase` returns this: the iterator after the removed member, and the status of the removal. If the status is not ok, the member is where it was,
-/// and the iterator is end(), so that a loop of `it = erase(it)` ends.
+/// `erase` returns the iterator after the removed member, and the status of the removal. If the status is not ok, the member is where it was, and the
+/// iterator is end(), so that a loop of `it = erase(it)` ends.
 template <class Iterator>
 class erased : public Iterator {
 public:
@@ -492,7 +493,7 @@ private:
 
 // ---- What all kinds have -----------------------------------------------------------------------------------------------------------
 
-/// Marks the views that read members. Its copies are cheap, and its iterators outlive it.
+/// Marks the views that read members. Copies of such a view are cheap, and the view's iterators outlive the view.
 struct view_base {};
 
 #ifdef __cpp_lib_ranges
@@ -514,8 +515,8 @@ public:
 
     [[nodiscard]] bool empty() const noexcept { return Kind::is_empty(in_); }
 
-    /// Returns how many members there are, in O(n). Call it if the words come from a file, or if others write them. It returns std::nullopt if the
-    /// words form no list, ring or tree. An XOR list has no check.
+    /// Returns how many members there are, in O(n), or std::nullopt if the words form no list, ring or tree. Call check() if the words come from a
+    /// file, or if others write them. An XOR list has no check.
     [[nodiscard]] std::optional<std::uint64_t> check() const noexcept {
         std::uint64_t count = 0;
         return Kind::check(in_.table, in_.places, in_.head, &count) == IC_OK ? std::optional<std::uint64_t>(count) : std::nullopt;
@@ -554,7 +555,7 @@ protected:
     using members<Kind>::members;
 };
 
-/// Reads a list or a tree in which a member leads to both of its neighbors.
+/// Reads a list or a tree in which the links of a member name both of its neighbors.
 template <class Kind>
 class placed : public two_way<Kind> {
 public:
@@ -595,7 +596,7 @@ public:
         return {done, next};
     }
 
-    /// Does the same for an iterator that nobody reads again, such as `it++`. You may ignore the status here, as in the standard library.
+    /// Removes the member of an iterator that nobody reads again, such as `it++`. You may ignore the status of this call, as in the standard library.
     erased<iterator> erase(iterator &&at) const noexcept { return erase(at); }
     [[nodiscard]] erased<iterator> erase(const iterator &at) const noexcept { return erase(iterator(at)); }
 
@@ -665,7 +666,7 @@ protected:
         return call(table_, this->in_.places, head_, arguments..., &place) == IC_OK ? this->found(place) : std::nullopt;
     }
 
-    /// Makes an edit with a second list. This has to be another list than the first one, and in the same table.
+    /// Makes an edit with a second list, which has to be another list than the first one, and in the same table.
     template <class Call, class... Arguments>
     status edit_both(const writes &other, Call call, Arguments... arguments) const noexcept {
         return other.table_ == table_ && other.head_ != head_ ? edit(call, arguments...) : status::broken;
@@ -684,7 +685,7 @@ public:
 
     status push_front(std::uint32_t place) const noexcept { return this->edit(kind::push_front, place); }
 
-    /// Removes the first member, and returns it. It returns std::nullopt if there is none. If the list is not empty(), std::nullopt means that the
+    /// Removes the first member, and returns it, or returns std::nullopt if there is none. If the list is not empty(), std::nullopt means that the
     /// first member is no place of this table.
     [[nodiscard]] std::optional<std::uint32_t> pop_front() const noexcept { return this->taken(kind::pop_front); }
 };
@@ -698,7 +699,7 @@ public:
 
     status push_back(std::uint32_t place) const noexcept { return this->edit(kind::push_back, place); }
 
-    /// Removes the last member, and returns it. It returns std::nullopt if there is none. If the list is not empty(), std::nullopt means that the
+    /// Removes the last member, and returns it, or returns std::nullopt if there is none. If the list is not empty(), std::nullopt means that the
     /// last member is no place of this table.
     [[nodiscard]] std::optional<std::uint32_t> pop_back() const noexcept { return this->taken(kind::pop_back); }
 };
@@ -710,7 +711,7 @@ public:
     using kind = typename Base::kind;
     using Base::Base;
 
-    /// Removes all members. It returns ic::status::broken, and changes nothing, if the members form no list of this table.
+    /// Removes all members. If the members form no list of this table, the call returns ic::status::broken and changes nothing.
     status clear() const noexcept { return this->edit(kind::clear); }
 };
 
@@ -748,8 +749,8 @@ public:
     using typename sorts<Base>::keys_view;
     using sorts<Base>::sorts;
 
-    /// Moves all members of `given` to where their keys belong, after members with equal keys. It returns ic::status::broken in the same cases as a
-    /// splice.
+    /// Moves all members of `given` to where their keys belong, after members with equal keys. The call returns ic::status::broken in the cases in
+    /// which a splice does.
     status merge(keys_view keys, const merges &given) const noexcept {
         if (given.table_ != this->table_ || given.head_ == this->head_)
             return status::broken;
@@ -785,7 +786,7 @@ public:
     status move_to_front(std::uint32_t place) const noexcept { return this->edit(List::move_to_front, place); }
     status move_to_back(std::uint32_t place) const noexcept { return this->edit(List::move_to_back, place); }
 
-    /// Moves all members of `given` before an iterator's member, and to the back if that is end(). This and the next five calls return
+    /// Moves all members of `given` before an iterator's member, and to the back if the iterator is end(). This and the next five calls return
     /// ic::status::broken if you pass this list itself, or a list of another table.
     status splice(iterator at, const edits_of_list &given) const noexcept { return splice_before(*at, given); }
     status splice_after(std::uint32_t at, const edits_of_list &given) const noexcept {
@@ -798,16 +799,16 @@ public:
     status split_after(std::uint32_t at, const edits_of_list &rest) const noexcept { return this->edit_both(rest, List::split_after, at, rest.head_); }
     status split_before(std::uint32_t at, const edits_of_list &rest) const noexcept { return this->edit_both(rest, List::split_before, at, rest.head_); }
 
-    /// Moves the member of an iterator of `given` before an iterator's member, and to the back if that is end(). The place stays linked. This and the
-    /// next two calls return ic::status::broken in the same cases as a splice of all members.
+    /// Moves the member of an iterator of `given` before the member of an iterator of this list, and to the back if the latter is end(). The place
+    /// stays linked. This and the next two calls return ic::status::broken in the cases in which a splice of all members does.
     status splice(iterator at, const edits_of_list &given, iterator member) const noexcept { return transfer_before(*at, given, *member); }
 
-    /// Moves the member `place` of `given` after the member `at`, and to the front if that is `none`. The place stays linked.
+    /// Moves the member `place` of `given` after the member `at`, and to the front if `at` is `none`. The place stays linked.
     status transfer_after(std::uint32_t at, const edits_of_list &given, std::uint32_t place) const noexcept {
         return this->edit_both(given, List::transfer_after, at, given.head_, place);
     }
 
-    /// Moves the member `place` of `given` before the member `at`, and to the back if that is `none`. The place stays linked.
+    /// Moves the member `place` of `given` before the member `at`, and to the back if `at` is `none`. The place stays linked.
     status transfer_before(std::uint32_t at, const edits_of_list &given, std::uint32_t place) const noexcept {
         return this->edit_both(given, List::transfer_before, at, given.head_, place);
     }
@@ -831,7 +832,7 @@ using list32_view = detail::edits_of_list<detail::narrow_list>;
 
 namespace detail {
 
-/// Reads the members of one ring, from the first member on, which is the place after the head.
+/// Reads the members of one ring, from the first member on. The first member is the place after the head.
 template <class Ring>
 class const_members_of_ring : public placed<circular<Ring>> {
     using base = placed<circular<Ring>>;
@@ -859,7 +860,7 @@ public:
     }
 };
 
-/// Reads the rings of a table. Their heads are places of this table.
+/// Reads the rings of a table. The heads of the rings are places of this table.
 template <class Ring>
 class const_rings {
     using link = typename Ring::link;
@@ -898,7 +899,7 @@ public:
     status push_front(std::uint32_t head, std::uint32_t place) const noexcept { return edit(Ring::push_front, head, place); }
     status push_back(std::uint32_t head, std::uint32_t place) const noexcept { return edit(Ring::push_back, head, place); }
 
-    /// Removes a place from its ring, whichever ring that is.
+    /// Removes a place from its ring, whichever ring has the place.
     status remove(std::uint32_t place) const noexcept { return edit(Ring::remove, place); }
     status replace(std::uint32_t at, std::uint32_t place) const noexcept { return edit(Ring::replace, at, place); }
     status move_after(std::uint32_t at, std::uint32_t place) const noexcept { return edit(Ring::move_after, at, place); }
@@ -923,7 +924,7 @@ public:
     /// Exchanges the place after `one` and the place after `other`. Both `one` and `other` are in rings.
     status exchange(std::uint32_t one, std::uint32_t other) const noexcept { return edit(Ring::exchange, one, other); }
 
-    /// Removes the first or the last member of the ring with this head, and returns it. It returns std::nullopt if there is none, or if the call is
+    /// Removes the first or the last member of the ring with this head, and returns it, or returns std::nullopt if there is none, or if the call is
     /// refused.
     [[nodiscard]] std::optional<std::uint32_t> pop_front(std::uint32_t head) const noexcept { return taken(Ring::pop_front, head); }
     [[nodiscard]] std::optional<std::uint32_t> pop_back(std::uint32_t head) const noexcept { return taken(Ring::pop_back, head); }
@@ -966,8 +967,8 @@ class const_ring_view : public detail::const_rings<detail::wide_ring> {
 public:
     using const_rings::const_rings;
 
-    /// Returns how many members the ring with this head has, in O(n). Call it if the words come from a file, or if others write them. It returns
-    /// std::nullopt if the words form no ring with this head.
+    /// Returns how many members the ring with this head has, in O(n), or std::nullopt if the words form no ring with this head. Call check() if the
+    /// words come from a file, or if others write them.
     [[nodiscard]] std::optional<std::uint64_t> check(std::uint32_t head) const noexcept { return members(head).check(); }
 };
 
@@ -999,25 +1000,25 @@ using ring32_view = detail::rings<detail::narrow_ring, const_ring32_view>;
 
 using const_stack_view = detail::of_head<detail::members<detail::singly>>;
 
-/// Edits a singly linked list. Its edits in the middle are after the member `at`, or at the front if that is `none`.
+/// Edits a singly linked list. An edit in the middle is made after the member `at`, or at the front if `at` is `none`.
 class stack_view : public detail::merges<detail::fills<detail::list_edits<detail::front_edits<const_stack_view>>>> {
 public:
     using merges::merges;
 
     status insert_after(std::uint32_t at, std::uint32_t place) const noexcept { return edit(ic_stack_insert_after, at, place); }
 
-    /// Removes the member after `at`, and returns it. It returns std::nullopt if the call is refused.
+    /// Removes the member after `at`, and returns it, or returns std::nullopt if the call is refused.
     [[nodiscard]] std::optional<std::uint32_t> remove_after(std::uint32_t at) const noexcept { return taken(ic_stack_remove_after, at); }
 
-    /// Inserts a place where the member after `at` is, and returns that member. It returns std::nullopt if the call is refused.
+    /// Replaces the member after `at` by a place, and returns the replaced member, or returns std::nullopt if the call is refused.
     [[nodiscard]] std::optional<std::uint32_t> replace_after(std::uint32_t at, std::uint32_t place) const noexcept {
         return taken(ic_stack_replace_after, at, place);
     }
 
-    /// Removes a place, wherever it is in the list, in O(n).
+    /// Removes a place, wherever the place is in the list, in O(n).
     status remove(std::uint32_t place) const noexcept { return edit(ic_stack_remove, place); }
 
-    /// This and the next call return ic::status::broken if you pass this list itself, or a list of another table.
+    /// A splice_after or split_after returns ic::status::broken if you pass this list itself, or a list of another table.
     status splice_after(std::uint32_t at, stack_view given) const noexcept {
         return edit_both(given, ic_stack_splice_after, at, given.head_);
     }
@@ -1036,8 +1037,8 @@ struct hash_words {
     std::size_t bucket_count = 0;
 };
 
-/// Goes from member to member, chain by chain. It stays valid until its member is removed. After as many steps as the table has places the iterator
-/// is at the end.
+/// Goes from member to member, chain by chain. An iterator stays valid until its member is removed. After as many steps as the table has places the
+/// iterator is at the end.
 class hash_iterator {
 public:
     using iterator_category = std::forward_iterator_tag;
@@ -1082,7 +1083,7 @@ public:
     }
 
 private:
-    /// Goes to a place or, if this place is no member, to the first member of the later chains.
+    /// Goes to a place or, if the place is no member, to the first member of the later chains.
     void go(std::uint32_t place) noexcept {
         while (!ic_stack_is_linked(in_.table, in_.places, place) && ++bucket_ < in_.bucket_count)
             place = ic_stack_first(&in_.buckets[bucket_]);
@@ -1096,8 +1097,8 @@ private:
 
 } // namespace detail
 
-/// Reads a hash table, which is an array of buckets, each a singly linked list of the members whose hash leads there. Pass the same hash in each call
-/// for one object. A loop goes over all members, chain by chain.
+/// Reads a hash table, which is an array of buckets, each a singly linked list of the members whose hash chooses the bucket. Pass the same hash in
+/// each call for one object. A loop goes over all members, chain by chain.
 class const_hash_view : public detail::view_base {
 public:
     using keys_view = array_view<const std::uint64_t>;
@@ -1115,8 +1116,8 @@ public:
     /// Returns whether `place` is a member of this hash table, or of any other list whose links are in the same table of links.
     [[nodiscard]] bool is_linked(std::uint32_t place) const noexcept { return ic_stack_is_linked(in_.table, in_.places, place) != 0; }
 
-    /// Returns the first member of the chain with this key. Of several members with this key, it is the one that was inserted last. It returns
-    /// std::nullopt if there is none, or if the call is refused.
+    /// Returns the first member of the chain with this key. Of several members with this key, the first is the member that was inserted last. The
+    /// call returns std::nullopt if there is no member with this key, or if the call is refused.
     [[nodiscard]] std::optional<std::uint32_t> find(keys_view keys, std::uint64_t hash, std::uint64_t key) const noexcept {
         std::uint32_t place = none;
         const std::uint32_t done =
@@ -1124,16 +1125,15 @@ public:
         return found(done, place);
     }
 
-    /// Returns the next member after the member `at` that has the same key as `at`. It returns std::nullopt if there is none, or if the call is
-    /// refused.
+    /// Returns the next member after the member `at` that has the same key as `at`, or std::nullopt if there is none, or if the call is refused.
     [[nodiscard]] std::optional<std::uint32_t> next_equal(keys_view keys, std::uint32_t at) const noexcept {
         std::uint32_t place = none;
         const std::uint32_t done = ic_hash_next_equal(in_.table, in_.places, keys.data(), keys.size(), at, &place);
         return found(done, place);
     }
 
-    /// Returns how many members there are, in O(buckets + n). Call it if the words come from a file, or if others write them. `hashes` has the hash
-    /// of each place. It returns std::nullopt if the words form no hash table by these hashes, or if the call is refused.
+    /// Returns how many members there are, in O(buckets + n), or std::nullopt if the words form no hash table by these hashes, or if the call is
+    /// refused. `hashes` has the hash of each place. Call check() if the words come from a file, or if others write them.
     [[nodiscard]] std::optional<std::uint64_t> check(keys_view hashes) const noexcept {
         std::uint64_t count = 0;
         const std::uint32_t done =
@@ -1201,12 +1201,12 @@ public:
     /// Inserts a place at the front of its chain.
     status insert(std::uint64_t hash, std::uint32_t place) const noexcept { return edit(ic_hash_insert, hash, place); }
 
-    /// Removes a place from its chain, wherever in the chain it is.
+    /// Removes a place from its chain, wherever in the chain the place is.
     status remove(std::uint64_t hash, std::uint32_t place) const noexcept { return edit(ic_hash_remove, hash, place); }
 
-    /// Moves all members of `chain`, a bucket of another array, each to the front of its chain here. Members that move to the same chain keep their
-    /// order. `hashes` has the hash of each place. The call returns ic::status::broken if `chain` is a bucket of this hash table. To grow, make a
-    /// view of another array, and make this call for each bucket of the old array.
+    /// Moves all members of `chain`, a bucket of another array, each to the front of its chain in this hash table. Members that move to the same
+    /// chain keep their order. `hashes` has the hash of each place. The call returns ic::status::broken if `chain` is a bucket of this hash table. To
+    /// grow, make a view of another array, and make this call for each bucket of the old array.
     status move_chain(keys_view hashes, ic_stack &chain) const noexcept {
         for (std::size_t i = 0; i < in_.bucket_count; ++i)
             if (&chain == &buckets_[i])
@@ -1239,7 +1239,7 @@ public:
     }
     void reverse() const noexcept { ic_xor_reverse(head_); }
 
-    /// Moves all members of `given` before an iterator's member, and to the back if that is end(). This and the next three calls return
+    /// Moves all members of `given` before an iterator's member, and to the back if the iterator is end(). This and the next three calls return
     /// ic::status::broken if you pass this list itself, or a list of another table.
     status splice(iterator at, xor_view given) const noexcept { return splice_between(front_of(at), given, *at); }
     status splice_between(std::uint32_t before, xor_view given, std::uint32_t after) const noexcept {
@@ -1256,7 +1256,7 @@ private:
 
 // ---- Red-black trees ---------------------------------------------------------------------------------------------------------------
 
-/// Reads a tree. You pass a search a key for each place, which is a number, in a vector, in an array, or as a pointer and a length.
+/// Reads a tree. You pass to a search the keys, one number for each place, in a vector, in an array, or as a pointer and a length.
 class const_tree_view : public detail::of_head<detail::placed<detail::red_black>> {
 public:
     using keys_view = array_view<const std::uint64_t>;
@@ -1273,7 +1273,7 @@ public:
         return search(ic_tree_lower_bound, keys, key);
     }
 
-    /// Returns the first member whose key is greater than `key`, as in the standard library. The call ic_tree_upper_bound of C is at_most() here.
+    /// Returns the first member whose key is greater than `key`, as in the standard library. The call ic_tree_upper_bound of C is at_most() in C++.
     [[nodiscard]] std::optional<std::uint32_t> upper_bound(keys_view keys, std::uint64_t key) const noexcept {
         return key < UINT64_MAX ? lower_bound(keys, key + 1) : std::nullopt;
     }
@@ -1283,11 +1283,11 @@ public:
         return search(ic_tree_upper_bound, keys, key);
     }
 
-    /// A sums_view has the values and the sums of the places, and a writable_sums_view has them for calls that write the sums.
+    /// A sums_view has the values and the sums of the places, and a writable_sums_view has values and sums for calls that write the sums.
     using sums_view = array_view<const ic_sum>;
     using writable_sums_view = array_view<ic_sum>;
 
-    /// If the sums are right, returns the sum of the values of all members, or the greatest of these values, in O(1). Returns 0 if there is no
+    /// If the sums are right, returns the sum of the values of all members, or the greatest of these values, in O(1). Returns 0 if the tree has no
     /// member.
     [[nodiscard]] std::uint64_t sums_total(sums_view sums) const noexcept { return ic_tree_sums_total(sums.data(), sums.size(), in_.head); }
 
@@ -1298,14 +1298,14 @@ public:
     }
 
     /// Adds up the values of the members after `at`, or of all members if you name none, or takes the greatest of them, and returns the first member
-    /// at which the result is greater than `bound`. It returns std::nullopt if there is none, or if the call is refused.
+    /// at which the result is greater than `bound`. The call returns std::nullopt if there is no such member, or if the call is refused.
     [[nodiscard]] std::optional<std::uint32_t> sums_find(sums_view sums, std::uint32_t sum_kind, std::uint64_t bound, std::uint32_t at = none) const noexcept {
         std::uint32_t member = none;
         const std::uint32_t done = ic_tree_sums_find(in_.table, in_.places, sums.data(), sums.size(), sum_kind, in_.head, at, bound, &member);
         return done == IC_OK ? found(member) : std::nullopt;
     }
 
-    /// Returns the sum of the values of the members before the member `at`, or the greatest of them. It returns std::nullopt if the call is refused.
+    /// Returns the sum of the values of the members before the member `at`, or the greatest of these values, or std::nullopt if the call is refused.
     [[nodiscard]] std::optional<std::uint64_t> sums_before(sums_view sums, std::uint32_t sum_kind, std::uint32_t at) const noexcept {
         std::uint64_t sum = 0;
         const std::uint32_t done = ic_tree_sums_before(in_.table, in_.places, sums.data(), sums.size(), sum_kind, at, &sum);
@@ -1313,8 +1313,8 @@ public:
     }
 
     /// Returns the first member after `at`, or the first of all if you name none, whose interval overlaps the interval that begins at `from` and ends
-    /// before `to`. The interval of a member begins at its key and ends before its value. It returns std::nullopt if there is none, or if the call is
-    /// refused.
+    /// before `to`. The interval of a member begins at its key and ends before its value. The call returns std::nullopt if no interval overlaps, or
+    /// if the call is refused.
     [[nodiscard]] std::optional<std::uint32_t> sums_overlap(keys_view keys, sums_view sums, std::uint64_t from, std::uint64_t to,
                                                             std::uint32_t at = none) const noexcept {
         std::uint32_t member = none;
@@ -1323,12 +1323,12 @@ public:
         return done == IC_OK ? found(member) : std::nullopt;
     }
 
-    /// Returns the iterators at the first member with this key, and after the last member with it.
+    /// Returns the iterators at the first member with this key, and after the last member with this key.
     [[nodiscard]] std::pair<iterator, iterator> equal_range(keys_view keys, std::uint64_t key) const noexcept {
         return {iterator_to(lower_bound(keys, key).value_or(none)), iterator_to(upper_bound(keys, key).value_or(none))};
     }
 
-    /// Returns the first member `at` for which `order(at)` is 0. `order(at)` compares what you look for with the member `at`: it is negative if what
+    /// Returns the first member `at` for which `order(at)` is 0. `order(at)` compares what you look for with the member `at`, and is negative if what
     /// you look for comes before `at`, 0 if both are equal, and positive otherwise, as with strcmp and `<=>`.
     template <class Order>
     [[nodiscard]] std::optional<std::uint32_t> find_by(Order order) const {
@@ -1341,7 +1341,7 @@ public:
         return found(first);
     }
 
-    /// Returns the first member for which the predicate is false. The predicate has to be false for all members after that one, too.
+    /// Returns the first member for which the predicate is false. The predicate has to be false for all members after the returned member, too.
     template <class Predicate>
     [[nodiscard]] std::optional<std::uint32_t> partition_point(Predicate is_before) const {
         std::uint32_t first = none;
@@ -1354,7 +1354,7 @@ public:
     }
 
 protected:
-    /// This is where a way down from the root ends: under a member, on one of its sides.
+    /// This is the position where a way down from the root ends: under a member, to the member's left or right.
     struct hole {
         std::uint32_t under = none;
         bool is_left = true;
@@ -1399,8 +1399,8 @@ public:
         return end.is_left ? insert_left(end.under, place) : insert_right(end.under, place);
     }
 
-    /// Inserts a place if no member has its key, and returns the first member that has the key, which is `place` if it was inserted. It
-    /// returns std::nullopt if the call is refused.
+    /// Inserts a place if no member has its key, and returns the first member that has the key, which is `place` if it was inserted. If the call is
+    /// refused, it returns std::nullopt.
     [[nodiscard]] std::optional<std::uint32_t> insert_unique(keys_view keys, std::uint32_t place) const noexcept {
         std::uint32_t member = none;
         const std::uint32_t done = ic_tree_insert_unique(table_, in_.places, keys.data(), keys.size(), head_, place, &member);
@@ -1430,18 +1430,19 @@ public:
         return edit_summed(ic_tree_sums_remove, sums, sum_kind, at);
     }
 
-    /// Removes the first member, and returns it. It returns std::nullopt if there is none. If the tree is not empty(), std::nullopt means that its
+    /// Removes the first member, and returns it, or returns std::nullopt if there is none. If the tree is not empty(), std::nullopt means that its
     /// root is no place of this table.
     [[nodiscard]] std::optional<std::uint32_t> pop_front() const noexcept { return popped(*begin()); }
 
-    /// Removes the last member, and returns it. It returns std::nullopt in the same cases as pop_front().
+    /// Removes the last member, and returns it, or returns std::nullopt in the cases in which pop_front() does.
     [[nodiscard]] std::optional<std::uint32_t> pop_back() const noexcept { return popped(*rbegin()); }
 
-    /// Moves all members of `given` after those of this tree, and leaves `given` empty, in O(n). This and the next two calls compare no keys, and
-    /// check the trees first. If these are no trees of this table, or are the same tree, the calls return ic::status::broken and change nothing.
+    /// Moves all members of `given` after the members of this tree, and leaves `given` empty, in O(n). This and the next two calls compare no keys,
+    /// and check the trees first. If the words form no trees of this table, or if both trees are the same tree, a call returns ic::status::broken and
+    /// changes nothing.
     status append(tree_view given) const noexcept { return edit_both(given, ic_tree_append, given.head_); }
 
-    /// Inserts a place after all members, and moves all members of `given` after it, in O(n).
+    /// Inserts a place after all members, and moves all members of `given` after this place, in O(n).
     status join(std::uint32_t place, tree_view given) const noexcept { return edit_both(given, ic_tree_join, place, given.head_); }
 
     /// Moves the member and all members after it to `rest`, which has to be empty, in O(n).
@@ -1476,7 +1477,7 @@ protected:
 
 } // namespace detail
 
-/// Edits a tree that keeps its first and its last member, in an ic_tree_ends of yours. Edit such a tree only by this view.
+/// Edits a tree that keeps its first and its last member in an ic_tree_ends of yours. Edit a tree that keeps its ends only by this view.
 class tree_ends_view : public detail::erases<detail::ends_writes> {
 public:
     using erases::erases;
@@ -1496,7 +1497,7 @@ public:
     status remove(std::uint32_t at) const noexcept { return edit(ic_tree_ends_remove, ends_, at); }
     status replace(std::uint32_t at, std::uint32_t place) const noexcept { return edit(ic_tree_ends_replace, ends_, at, place); }
 
-    /// Removes the first member, and returns it. It returns std::nullopt if the ends say that there is none, or if the call is refused.
+    /// Removes the first member, and returns it, or returns std::nullopt if the ends say that there is none, or if the call is refused.
     [[nodiscard]] std::optional<std::uint32_t> pop_front() const noexcept { return taken(ic_tree_ends_pop_first, ends_); }
 
     /// Removes all members. It returns ic::status::broken, and changes nothing, if the members form no tree of this table.

@@ -1,9 +1,9 @@
 /* This header has each call, read and loop of ic.h over a handle, which is a table, its length, and the list, the buckets or the tree as one value.
  *
- * A call of ic.h takes a table and its length, and then places, which are numbers, too. If you swap a length and a place, the compiler does not tell
- * you. A call of this header has `in_` in its name, and takes a handle in place of the table, its length and the list, so that you name the length
- * once. A handle has pointers to what is yours, and you copy it as you copy a pointer. The functions are inline, and take as many instructions as the
- * calls of ic.h.
+ * A call of ic.h takes a table and its length, and then places, which are numbers, too. If you swap a length and a place, the compiler gives no
+ * warning. A call of this header has `in_` in its name, and takes a handle in place of the table, the table's length and the list, so that you name
+ * the length once. A handle has pointers to arrays and lists of yours, and you copy a handle as you copy a pointer. The functions of this header are
+ * inline, and take as many instructions as the calls of ic.h.
  *
  *     static struct ic_link2 links[100];
  *     static struct ic_list list;
@@ -15,8 +15,8 @@
  *         printf("%u\n", (unsigned)place);
  *     status = ic_list_in_pop_front(jobs, &oldest);
  *
- * The comments of ic.h say what each call does, at the name without `in_`. A call with a second list takes a second handle. It returns IC_BROKEN, and
- * changes nothing, if the second handle is for another table, or for the same list.
+ * The comments of ic.h say what each call does, at the name without `in_`. A call with a second list takes a second handle. If the second handle is
+ * for another table, or for the list of the first handle, the call returns IC_BROKEN and changes nothing.
  */
 #ifndef IC_IN_H
 #define IC_IN_H
@@ -27,10 +27,10 @@
 extern "C" {
 #endif
 
-/* Gives the table and the length for a handle, from an array of links. Compilers warn if you hand it a pointer. */
+/* Gives the table and the length for a handle, from an array of links. Compilers warn if you pass a pointer to IC_TABLE. */
 #define IC_TABLE(links) (links), sizeof(links) / sizeof *(links)
 
-/* These are keys, of which there is one for each place, and how many there are. */
+/* A struct ic_keys has the keys, of which there is one for each place, and the number of keys. */
 struct ic_keys {
     const uint64_t *keys;
     ic_length count;
@@ -441,7 +441,7 @@ static inline int ic_list32_in_is_singular(struct ic_list32_in in) {
 
 /* ---- Rings ---- */
 
-/* This is a table of rings, whose heads are places of it. */
+/* This is a table of rings, whose heads are places of the table. */
 struct ic_ring_in {
     struct ic_link2 *table;
     ic_length places;
@@ -611,7 +611,7 @@ static inline uint32_t ic_ring_in_merge(struct ic_ring_in in, struct ic_keys key
 
 /* ---- Rings with words of 4 bytes ---- */
 
-/* This is a table of such rings, whose heads are places of it. */
+/* This is a table of rings with words of 4 bytes, whose heads are places of the table. */
 struct ic_ring32_in {
     struct ic_link2_32 *table;
     ic_length places;
@@ -891,7 +891,7 @@ static inline uint32_t ic_stack_in_remove(struct ic_stack_in in, uint32_t place)
 
 /* ---- Hash tables ---- */
 
-/* This is a hash table over a table of links, with the keys of all places. If you look no key up, leave them out. */
+/* This is a hash table over a table of links, with the keys of all places. If you look no key up, leave the keys out. */
 struct ic_hash_in {
     struct ic_link1 *table;
     ic_length places;

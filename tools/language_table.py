@@ -11,7 +11,7 @@ LANGUAGES = ("C", "C++", "Rust", "JavaScript", "Rattle")
 RATTLE_ALONE = {
     "Trees that keep their first and last member": ("ic_rbtree", "RBTreeCached"),
     "Trees that are built in O(n)": ("ic_rbtree", "RBTreeBuilder"),
-    "Summaries over subtrees: lengths, positions, overlaps": ("ic_augmented", "Summed"),
+    "Summaries over subtrees: lengths, positions, overlaps": ("ic_augmented", "Augmented"),
     "Merges, unions, intersections and differences of trees": ("ic_tree_merges", "merge", "union", "intersection", "difference"),
     "Links of 4-byte words": ("ic_link_ops", "NarrowLinkOps"),
     "A value beside each link, such as its key": ("ic_link_ops", "LinkOpsWith"),

@@ -189,7 +189,7 @@ def rattle_traits(text):
     kinds = {kind: set(re.findall(rf"^impl(?:<[^{{]*>)? (\w+)(?:<L>)? for {kind} \{{", every, re.M)) for kind in RATTLE_KINDS.values()}
     cursors = {}
     for family, kind in RATTLE_KINDS.items():
-        blocks = re.findall(r"^impl<([^{]*)> (\w+)(?:<L>)? for Chain<K, T> \{", every, re.M)
+        blocks = re.findall(r"^impl<([^{]*)> (\w+)(?:<L>)? for LinkList<K, T> \{", every, re.M)
         cursors[family] = {trait for bounds, trait in blocks if bounds_of("K", bounds) <= kinds[kind]}
     cursors["tree"] = set(re.findall(r"^impl<[^{]*> (\w+)(?:<L>)? for RBTree<A, E> \{", every, re.M))
     return kinds, cursors
@@ -207,7 +207,7 @@ def rattle_names(family):
     kinds, cursors = rattle_traits(text)
     has = kinds.get(RATTLE_KINDS.get(family, ""), set())
     calls, moves = [], []
-    of = {"tree": r"RBTree<", "ring": r"Ring<", "hash": r"HashTable<"}.get(family, r"Chain<K, T>")
+    of = {"tree": r"RBTree<", "ring": r"Ring<", "hash": r"HashTable<"}.get(family, r"LinkList<K, T>")
     for _, head, body in (block for part in text.values() for block in RATTLE_BLOCK.findall(part)):
         owner = head.split(" for ")[-1]
         for name, signature in RATTLE_CALL.findall(body):

@@ -254,6 +254,19 @@ TIMED timed_tree_step(const tree &tree, uint64_t operations) { return step(tree,
 
 TIMED timed_tree_iter(const tree &tree, uint64_t rounds) { return iterate(tree, rounds); }
 
+// Builds one tree, walks through it, and finds keys. It prints the nanoseconds of the first two steps, each before a colon, and returns those of the last one.
+static outcome tree_once(uint64_t members, uint64_t operations) {
+    generator random;
+    auto objects = make_objects<tree_object>(random, members);
+    auto order = refer(random, objects);
+    tree tree;
+    auto built = timed([&] { return timed_insert(tree, order); }), walked = timed([&] { return timed_tree_iter(tree, 1); });
+    auto found = timed([&] { return timed_find(tree, members, operations); });
+    std::cout << built.time.count() << ':' << walked.time.count() << ':';
+    found.checksum += walked.checksum + hash(tree);
+    return found;
+}
+
 static outcome on_tree(const std::string &workload, uint64_t members, uint64_t operations) {
     generator random;
     auto objects = make_objects<tree_object>(random, members);
@@ -301,6 +314,7 @@ int main(int count, char **words) {
     const std::string on_doubly = " fill pair touch splice step iter ";
     const outcome outcome = workload == "singly"      ? singly(members, operations)
                             : workload.rfind("hash", 0) == 0 ? hashed(workload, members, operations)
+                            : workload == "tree_once" ? tree_once(members, operations)
                             : workload.rfind("sort", 0) == 0 ? sorted(workload, members, operations)
                             : on_doubly.find(" " + workload + " ") != std::string::npos ? doubly(workload, members, operations)
                                                                                         : on_tree(workload, members, operations);

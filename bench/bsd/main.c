@@ -210,10 +210,37 @@ TIMED timed_tree_iter(struct tree *tree, uint64_t rounds) {
     return sum;
 }
 
+/* What the members are and in which order they are, as one number. */
+static uint64_t hashed(struct tree *tree) {
+    uint64_t hash = 0;
+    struct node *object;
+    RB_FOREACH (object, tree, tree)
+        hash = hash * 31 + object->value;
+    return hash;
+}
+
 static void fill(struct tree *tree, struct node **order, uint64_t members) {
     RB_INIT(tree);
     for (uint64_t index = 0; index < members; index++)
         RB_INSERT(tree, tree, order[index]);
+}
+
+/* Builds one tree, walks through it, and finds keys. It prints the nanoseconds of the first two steps, each before a colon, and stores those of the last one. */
+static uint64_t tree_once(const struct room *room, uint64_t *time) {
+    struct tree tree = RB_INITIALIZER(&tree);
+    uint64_t members = room->members, checksum, start;
+    MAKE(node, objects, room)
+    REFER(node, order, objects, members, room->order)
+    start = now();
+    timed_insert(&tree, order, members);
+    printf("%" PRIu64 ":", now() - start);
+    start = now();
+    checksum = timed_tree_iter(&tree, 1);
+    printf("%" PRIu64 ":", now() - start);
+    start = now();
+    checksum += timed_find(&tree, members, room->operations);
+    *time = now() - start;
+    return checksum + hashed(&tree);
 }
 
 static uint64_t on_tree(const char *workload, const struct room *room, uint64_t *time) {
@@ -247,11 +274,7 @@ static uint64_t on_tree(const char *workload, const struct room *room, uint64_t 
                                                       : timed_tree_iter(&tree, operations / members);
         *time = now() - start;
     }
-    uint64_t hash = 0;
-    struct node *object;
-    RB_FOREACH (object, tree, &tree)
-        hash = hash * 31 + object->value;
-    return hash + checksum;
+    return hashed(&tree) + checksum;
 }
 
 int main(int count, char **words) {
@@ -268,6 +291,7 @@ int main(int count, char **words) {
     int is_doubly = !strcmp(workload, "fill") || !strcmp(workload, "pair") || !strcmp(workload, "touch") || !strcmp(workload, "step") || !strcmp(workload, "iter");
     uint64_t checksum = is_doubly                     ? doubly(workload, &room, &time)
                         : !strcmp(workload, "singly") ? singly(&room, &time)
+                        : !strcmp(workload, "tree_once") ? tree_once(&room, &time)
                                                       : on_tree(workload, &room, &time);
     printf("%" PRIu64 " %" PRIu64 "\n", time, checksum);
     return 0;

@@ -281,6 +281,19 @@ fn filled<'o>(order: &[&'o Object<RBTreeLink>]) -> RBTree<ByValue<'o>> {
     tree
 }
 
+/// Builds one tree, walks through it, and finds keys. It prints the nanoseconds of the first two steps, each before a colon, and returns the time of the last one.
+fn tree_once(members: u64, operations: u64) -> (Duration, u64) {
+    let mut random = Random(1);
+    let objects = objects(&mut random, members);
+    let order = references(&mut random, &objects);
+    let mut tree = RBTree::new(ByValue::new());
+    let built = timed(|| timed_insert(&mut tree, &order)).0;
+    let (walked, total) = timed(|| timed_tree_iter(&tree, 1));
+    let (found, sum) = timed(|| timed_find(&tree, members, operations));
+    print!("{}:{}:", built.as_nanos(), walked.as_nanos());
+    (found, hash(tree.iter()).wrapping_add(total).wrapping_add(sum))
+}
+
 fn tree(workload: &str, members: u64, operations: u64) -> Option<(Duration, u64)> {
     let mut random = Random(1);
     let objects = objects(&mut random, members);
@@ -324,6 +337,7 @@ fn main() {
     let (time, checksum) = match workload.as_str() {
         "singly" => singly(members, operations),
         "xor" => xor(members, operations),
+        "tree_once" => tree_once(members, operations),
         workload => doubly(workload, members, operations).or_else(|| tree(workload, members, operations)).expect("a workload"),
     };
     println!("{} {checksum}", time.as_nanos());

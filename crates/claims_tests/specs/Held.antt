@@ -1,9 +1,9 @@
--- What the fixture knows of the place that a holder holds.
+-- The fixture of the tests knows which place a holder holds, if it holds one.
 use Rattle.std.specs.Prelude.{◌≡◌, true, List, Option, Some}
 use Rattle.ic_unsafe_ref.specs.declared.place.Place.{Place}
 use Rattle.ic_atomic.specs.declared.step.Event.{Event}
 use Rattle.ic_atomic.specs.Records.{holds}
 
--- a holder with this record holds the place, if there is one
+-- a holder whose record of events is this list holds the place that is given, if one is given
 abbrev pub Holds : List Event → Option Place → Type 0
 Holds record_now held = (p : Place) → held ≡ Some p → holds p record_now ≡ true

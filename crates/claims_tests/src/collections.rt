@@ -1,4 +1,4 @@
-//! The four kinds of collections into which parties insert objects.
+//! The four kinds of collections into which parties insert objects, each with one call that a test makes.
 
 ghost use Rattle.std.specs.Prelude.{IfSome};
 ghost use Rattle.ic_link_ops.specs.LinkedList as doubly;
@@ -19,13 +19,13 @@ use ic_singly_linked_list::SinglyLinkedList;
 use ic_unsafe_ref::UnsafeRef;
 use ic_xor_linked_list::XorLinkedList;
 
-/// A collection over such links.
+/// A collection over links of type `L`, into which a party inserts objects.
 pub(crate) trait Collection<L: LinkOps>: Drop {
-    // The table represents a sequence for it.
+    // Says that the table represents some sequence for the collection.
     ghost Represented: { Table L.Entry → Self → Type 0 };
 
-    /// Inserts the object, unless its link is refused, and returns whether it did. Without an object, it removes the first member, and then all
-    /// others.
+    /// Inserts the object, unless its link is refused, and returns whether it was inserted. If no object is given, the call removes the first member
+    /// and then all other members.
     fn put_or_empty(&mut self, links: &mut L, object: Option<UnsafeRef<u64>>) -> bool
         requires covered { IfSome object (λ o. IsCovered (L.table links.old) o) }
         requires shown { Represented (L.table links.old) self.old }
@@ -77,7 +77,7 @@ impl<L: XorLinkedListOps> Collection<L> for XorLinkedList<u64> {
     }
 }
 
-/// The value is the key.
+/// Says that a value is its own key.
 #[derive(Clone, Copy)]
 pub(crate) struct ByValue;
 

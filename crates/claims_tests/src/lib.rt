@@ -1,10 +1,11 @@
-//! Claims: parties that claim places, in turn and in threads, links over claims, and workers who share places out.
+//! Tests of claims: parties claim places in turn and in threads, parties link places that they have claimed, and workers divide places among
+//! themselves.
 #![tactic(auto)]
 
 #[cfg(test)]
 mod collections;
 #[cfg(test)]
-mod hands;
+mod equipped;
 #[cfg(test)]
 mod links;
 #[cfg(test)]

@@ -1,10 +1,10 @@
-//! Links over claims: what one party links no other can link, until it is given up.
+//! Tests of links over claims. A place that one party has linked cannot be linked by another party until the first party gives it up.
 
 ghost use Rattle.std.specs.Prelude.{◌≡◌, [], All};
 ghost use Rattle.ic_atomic.specs.Holders.{record_of, IsOf};
 
 use crate::collections::ByValue;
-use crate::hands::{Act, HolderWithClaims, hands};
+use crate::equipped::{Act, HolderWithClaims, equipped};
 use crate::parties::{are_linked, are_seen, is_cleared, take_off, take_turns};
 use ic_atomic::{
     AtomicLinkOps, Claims, Gate, Holder, gather, linked_list, rbtree, singly_linked_list,
@@ -21,7 +21,7 @@ use std::cell::{Cell, RefCell};
 use std::process::Abort;
 use std::thread;
 
-// Makes links for the last of these holders, none of which has made a step, over all places of the claims.
+// Makes links over all places of the claims, for the last of these holders. No holder has made a step yet.
 fn next_links<'c, W: Words>(
     rt: &impl Abort,
     alloc: Global,
@@ -37,12 +37,12 @@ fn next_links<'c, W: Words>(
     AtomicLinkOps::new(claims, holder, table)
 }
 
-// A gate that checks places with a hand of its own, each time that a worker reports: the place before the next one must be held, and the next one
+// A gate that checks places by a holder of its own, each time that a worker reports. The place that was gathered last must be held, and the next place
 // must not be held yet. Places are offered in order, from the first one on.
 #[derive(Drop)]
 struct Watch<'c> {
     hand: RefCell<HolderWithClaims<'c>>,
-    // How often both were so.
+    // How often the last place was held and the next place was not held.
     right: Cell<usize>,
 }
 
@@ -60,8 +60,8 @@ impl Gate for Watch<'_> {
     }
 }
 
-// Gathers the first two places, takes the first of them off the list, and gives it up by force once it is there again. It returns whether all this
-// was done, and whether the reports to the gate came in time.
+// Gathers the first two places into a list, removes the first one from the list, inserts it again, and gives it up by force. Returns whether all these
+// calls succeeded and the reports to the gate came in time.
 // Promise: a gate between claims.
 fn gathers(links: &mut linked_list::AtomicLinkOps, watch: &Watch) -> bool {
     let mut list: LinkedList<u64> = LinkedList::new();
@@ -86,13 +86,14 @@ fn gathers(links: &mut linked_list::AtomicLinkOps, watch: &Watch) -> bool {
     is_taken && !links.is_linked(first) && watch.right.get() == 3
 }
 
-// Puts the object at `place` in a list. Whether it was free; the list and its links are dropped, and nobody unlinks it.
+// Inserts the object at `place` into a list, and returns whether the place was free. Then the list and its links are dropped, so that the place stays
+// linked.
 fn is_left_linked(mut links: linked_list::AtomicLinkOps, place: Place) -> bool {
     let mut list: LinkedList<u64> = LinkedList::new();
     place.index() < links.covers() && list.push_back(&mut links, UnsafeRef::new(place)).is_ok()
 }
 
-// Returns whether the object at `place` is held and refused, if this party does not hold it.
+// Returns whether the object at `place` is held by another party, so that an insert is refused to this party.
 fn is_held_by_another(links: &mut linked_list::AtomicLinkOps, place: Place) -> bool {
     let mut list: LinkedList<u64> = LinkedList::new();
     if place.index() >= links.covers() || links.holds(place) {
@@ -101,7 +102,7 @@ fn is_held_by_another(links: &mut linked_list::AtomicLinkOps, place: Place) -> b
     links.is_linked(place) && list.push_back(links, UnsafeRef::new(place)).is_err()
 }
 
-// Links of any kind.
+// Links over claims, of one of four kinds.
 #[derive(Drop)]
 enum AnyLinks<'c> {
     Singly(singly_linked_list::AtomicLinkOps<'c>),
@@ -119,7 +120,8 @@ fn turns_with(links: AnyLinks) -> bool {
     }
 }
 
-// Two parties in turn, then four in threads, and one at last, after one whose links are dropped while they hold a place.
+// Two parties in turn must see each other's places, and four parties in threads must share the places. If the links of a party are dropped while they
+// hold a place, the place must still be refused to another party.
 // Promise: four tables of claims.
 // Promise: links that are dropped.
 #[test]
@@ -143,7 +145,11 @@ fn parties_share_places(rt: HostRuntime) {
     let had = thread::map_vec(&rt, four, &turns_with).expect(&rt, "room");
     let is_free = are_linked(&mut last, 0);
     let watch = Watch {
-        hand: RefCell::new(hands(alloc, &claims, holders).pop().expect(&rt, "a hand")),
+        hand: RefCell::new(
+            equipped(alloc, &claims, holders)
+                .pop()
+                .expect(&rt, "a hand"),
+        ),
         right: Cell::new(0),
     };
     let is_gathered = gathers(&mut last, &watch);
@@ -164,7 +170,8 @@ fn parties_share_places(rt: HostRuntime) {
     );
 }
 
-// A party whose links have words of 4 bytes and one whose links have 8, and the members of each are refused to the other.
+// One party has links with words of 4 bytes, and a second party has links with words of 8 bytes. The members of each party must be refused to the other
+// party.
 // Promise: claims over 4-byte words.
 #[test]
 fn parties_share_places_over_narrow_links(rt: HostRuntime) {

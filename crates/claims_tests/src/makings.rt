@@ -1,4 +1,4 @@
-//! New claims and cores: how many, each request for memory refused in turn, and the texts of their errors.
+//! Tests of new claims and cores: their numbers of places and holders, each request for memory refused in turn, and the texts of their errors.
 
 ghost use Rattle.std.specs.Prelude.{All};
 ghost use Rattle.ic_atomic.specs.Holders.{IsOf};
@@ -9,15 +9,15 @@ use ic_unsafe_ref::Place;
 use std::alloc::Global;
 use std::fmt::Write;
 
-// Rows: the number of the refused request for memory, the numbers of places and holders, and the number and the text of the error, which is empty if
-// there is none.
+// A row has the number of the request for memory that is refused, the number of places, the number of holders, and the number and the text of the
+// expected error. The text is empty if no error is expected.
 type Making = (u64, usize, usize, &'static str);
 
-// The number of the request to refuse if none is refused.
+// The number of a request that never comes, so that no request is refused.
 const NONE: u64 = u64::MAX;
 
-// For one place and one holder there are four requests: the words as a list, the table's own words and its empty row of slots, and the holders. After
-// a refusal the same call succeeds. There is no fifth request, neither by an audit nor by a claim.
+// Claims with one place and one holder make four requests for memory. The requests are for the list of words, the table's own words, the table's empty
+// row of slots, and the holders. After a refusal, the same call must succeed. There must be no fifth request, neither by an audit nor by a claim.
 const MAKINGS: &[Making] = &[
     (NONE, 0, 2, ""),
     (NONE, 4_294_967_297, 1, "1 TooManyPlaces"),
@@ -34,7 +34,7 @@ const MAKINGS: &[Making] = &[
     (4, 1, 1, ""),
 ];
 
-// Returns whether of the holders, one after the other, the first alone can claim place 0, each after an audit of all.
+// Lets each holder in turn try to claim place 0, each time after an audit of all holders. Returns whether only the first holder can claim the place.
 fn is_first_alone(claims: &Claims<&Rationed>, holders: &mut Vec<Holder, &Rationed>) -> bool
     requires { All (λ h. IsOf claims.now h) holders.old.items }
 {
@@ -54,7 +54,7 @@ fn is_first_alone(claims: &Claims<&Rationed>, holders: &mut Vec<Holder, &Ratione
     as_wanted
 }
 
-// Makes claims. Whether there are so many places and holders, or the error is written so.
+// Makes the claims of the row. Returns whether they have the numbers of places and holders of the row, or whether the error has the text of the row.
 fn is_made_so(memory: &Rationed, making: &Making, text: &mut String) -> bool {
     let (request, places, holders, wanted) = *making;
     memory.refuse(request);
@@ -79,6 +79,7 @@ fn are_made_so(alloc: Global, memory: &Rationed, makings: &[Making]) -> bool {
     as_wanted
 }
 
+// The test makes the claims of each row, and they must have the right numbers of places and holders, or the error of the row.
 // Promise: claims without memory, texts of errors of claims, always-out-of-memory in claims.
 #[test]
 fn limits_and_each_request_refused_in_turn(rt: HostRuntime) {
@@ -86,8 +87,8 @@ fn limits_and_each_request_refused_in_turn(rt: HostRuntime) {
     assert!(rt; are_made_so(rt.alloc(), &memory, MAKINGS));
 }
 
-// Returns whether a replay that is refused memory changes nothing, so that the same replay afterwards returns what the first would have. A new core
-// and a replay each make one request for memory.
+// Returns whether a replay that is refused memory changes nothing, so that a second replay of the same calls returns the right results. A new core and
+// a replay each make one request for memory.
 fn is_replayed(memory: &Rationed) -> bool {
     memory.refuse(1);
     let (Ok(mut core), Some(third)) = (Core::new(memory, 4), Place::new(3)) else {
@@ -109,6 +110,8 @@ fn is_replayed(memory: &Rationed) -> bool {
         && answers.as_slice() == [true, false, true, true, true, true, false].as_slice()
 }
 
+// A core with more places than can exist must be refused, a core must be refused if there is no memory, and a replay that is refused memory must change
+// nothing.
 // Promise: a core without memory, always-out-of-memory in a core.
 #[test]
 fn a_core_is_refused_memory(rt: HostRuntime) {

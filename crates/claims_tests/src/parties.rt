@@ -1,4 +1,4 @@
-//! What parties do with collections over links whose places they claim.
+//! The calls that parties make on collections over links whose places they claim.
 
 ghost use Rattle.std.specs.Prelude.{◌≡◌};
 ghost use Rattle.ic_link_ops.specs.Tables.{IsCovered};
@@ -13,16 +13,16 @@ use ic_rbtree::RBTree;
 use ic_unsafe_ref::{Place, UnsafeRef};
 use std::alloc::Allocator;
 
-// As often as a hundred places are tried, and then given up, a hundred times.
+// The number of turns in which a party tries a hundred places and then gives them up, a hundred times over.
 const TURNS: usize = 10_100;
 
-/// Links, and which places are linked in them.
+/// Links that can be read: how many places they cover, and which places are linked in them.
 pub(crate) trait Links: LinkOps {
-    /// Returns how many places are covered: those with a smaller index.
+    /// Returns how many places are covered. A place is covered if its index is below this number.
     fn covers(&self) -> usize
         ensures { result ≡ (Self.table self.now).extent.places };
 
-    /// Returns whether anybody links the place.
+    /// Returns whether any party has linked the place.
     fn looks_linked(&mut self, place: Place) -> bool
         requires { IsCovered (Self.table self.old) place }
         ensures { Self.table self.new ≡ Self.table self.old };
@@ -38,8 +38,8 @@ impl<L: PlainLinkOps, A: Allocator> Links for AtomicLinkOps<'_, L, A> {
     }
 }
 
-// Inserts the object at the place with this index, unless some party holds it, and returns whether it did. If the links do not cover that place, it
-// empties the collection.
+// Inserts the object at the place with this index, unless some party holds the place, and returns whether the object was inserted. If the links do not
+// cover the place, the call empties the collection.
 fn put<L: Links, C: Collection<L>>(collection: &mut C, links: &mut L, index: usize) -> bool
     requires { C.Represented (L.table links.old) collection.old }
     ensures { C.Represented (L.table links.new) collection.new }
@@ -52,7 +52,7 @@ fn put<L: Links, C: Collection<L>>(collection: &mut C, links: &mut L, index: usi
     }
 }
 
-/// Returns whether exactly the first `count` places are linked by somebody.
+/// Returns whether exactly the first `count` places are linked, by whichever party.
 pub(crate) fn are_linked<L: Links>(links: &mut L, count: usize) -> bool
     ensures { L.table links.new ≡ L.table links.old }
 {
@@ -67,7 +67,8 @@ pub(crate) fn are_linked<L: Links>(links: &mut L, count: usize) -> bool
     as_wanted
 }
 
-/// Puts the first seven objects in, which another party can't, until they are given up. Whether both parties see them.
+/// Inserts the first seven objects, which the other party must not be able to insert until they are given up. Returns whether both parties see these
+/// places linked, and the other party can insert afterwards.
 // Promise: two holders and one place.
 pub(crate) fn are_seen<L: Links, C: Collection<L>, M: Links + LinkedListOps>(
     mut collection: C,
@@ -88,8 +89,8 @@ pub(crate) fn are_seen<L: Links, C: Collection<L>, M: Links + LinkedListOps>(
     as_wanted
 }
 
-/// Puts the first seven objects in a tree, and clears it. Whether the other party sees each of them linked, and nothing else, until the tree is
-/// cleared, and nothing then.
+/// Inserts the first seven objects into a tree, and clears the tree. Returns whether the other party sees exactly these seven places linked before the
+/// tree is cleared, and no place linked afterwards.
 // Promise: a tree over claims.
 pub(crate) fn is_cleared<L: Links + RBTreeOps, M: Links>(links: &mut L, other: &mut M) -> bool {
     let mut tree = RBTree::new(ByValue);
@@ -119,7 +120,7 @@ pub(crate) fn take_off<L: Links + LinkedListOps>(links: &mut L) -> Option<[usize
     ])
 }
 
-/// Tries to insert each of a hundred objects, and then empties the collection, a hundred times. It returns whether it had an object.
+/// Tries to insert each of a hundred objects, and then empties the collection, a hundred times. The call returns whether it could insert any object.
 pub(crate) fn take_turns<L: Links + Drop, C: Collection<L>>(mut collection: C, mut links: L) -> bool
     requires { C.Represented (L.table links) collection }
 {

@@ -1,22 +1,23 @@
-//! Steps in turn, of cores and of holders.
+//! A test of steps that two parties make in turn, on cores and on holders of claims.
 
 ghost use Rattle.std.specs.Prelude.{◌≡◌};
 ghost use Rattle.ic_atomic.specs.ClaimMap.{target};
 
-use crate::hands::{Act, hands};
+use crate::equipped::{Act, equipped};
 use ic_atomic::{Claims, Core, Step};
 use ic_unsafe_ref::Place;
 use std::alloc::Global;
 use std::process::Abort;
 
-// A step: how many of the two parties exist, the party that makes it, what it does, the index of the place, and the result.
+// A row has a step: how many of the two parties still exist, the party that makes the step, what the step does, the index of the place, and the
+// expected result.
 type Row = (usize, usize, Act, usize, bool);
 
 const A: usize = 0;
 
 const B: usize = 1;
 
-// At place 3 a claim that another party finds; at place 0 a release by another party, which changes nothing.
+// At place 3 a party must find the claim of the other party. At place 0 a release by the party that does not hold the place must change nothing.
 const IN_TURN: &[Row] = &[
     (2, A, Act::Claim, 3, true),
     (2, B, Act::Claim, 3, false),
@@ -34,7 +35,8 @@ const IN_TURN: &[Row] = &[
     (2, B, Act::Look, 0, false),
 ];
 
-// The party that claimed the place leaves. It is the second, since the last leave first.
+// The place must still be claimed after the party that claimed it is dropped. The dropped party is the second one, because the last parties are dropped
+// first.
 const LEFT: &[Row] = &[
     (2, B, Act::Claim, 0, true),
     (2, B, Act::Look, 0, true),
@@ -42,7 +44,7 @@ const LEFT: &[Row] = &[
     (1, A, Act::Look, 0, true),
 ];
 
-// The step of a core.
+// Returns the step of a core that does this with the place.
 fn step(act: Act, place: Place) -> Step
     ensures { target result ≡ place }
 {
@@ -53,7 +55,7 @@ fn step(act: Act, place: Place) -> Step
     }
 }
 
-// Returns whether new cores return these results, one by `apply` and one by `replay`. The test never removes a party from a core.
+// Returns whether two new cores return the results of the rows, one by `apply` and one by `replay`. No party is removed from a core.
 fn is_right_of_cores(rt: &impl Abort, alloc: Global, places: usize, rows: &[Row]) -> bool {
     let mut applied = Core::new(alloc, places).expect(rt, "a core");
     let mut replayed = Core::new(alloc, places).expect(rt, "a core");
@@ -73,14 +75,14 @@ fn is_right_of_cores(rt: &impl Abort, alloc: Global, places: usize, rows: &[Row]
     as_wanted
 }
 
-// Returns whether the same holds for the holders of new claims.
+// Returns whether the holders of new claims return the results of the rows.
 fn is_right_of_claims(rt: &impl Abort, alloc: Global, places: usize, rows: &[Row]) -> bool {
     let (claims, holders) = Claims::new(alloc, places, 2).expect(rt, "claims");
-    let mut hands = hands(alloc, &claims, holders);
+    let mut equipped = equipped(alloc, &claims, holders);
     let mut as_wanted = true;
     for (parties, party, act, index, answer) in rows {
-        hands.truncate(*parties);
-        as_wanted &= match hands.get_mut(*party) {
+        equipped.truncate(*parties);
+        as_wanted &= match equipped.get_mut(*party) {
             Some(hand) => hand.make(*act, *index) == *answer,
             None => false,
         };
@@ -88,6 +90,7 @@ fn is_right_of_claims(rt: &impl Abort, alloc: Global, places: usize, rows: &[Row
     as_wanted
 }
 
+// The test makes the steps of the rows on cores and on holders of claims, and each step must have the result of its row.
 // Promise: claims in turn, a holder that left.
 #[test]
 fn cores_and_holders_in_turn(rt: HostRuntime) {

@@ -1,4 +1,4 @@
-//! Workers, who share the first places out, and are held up at a gate.
+//! A test of workers who divide the first places among themselves, and wait for each other at a gate.
 
 use ic_atomic::{ClaimsError, Gate};
 use ic_unsafe_ref::Place;
@@ -10,10 +10,10 @@ use std::thread;
 use std::thread::Threads;
 use std::time::{Clock, Duration};
 
-// The most turns that a worker waits for the other one.
+// The greatest number of turns that a worker waits for the other worker.
 const TURNS: u64 = 10_000;
 
-// Rows: the number of workers, and the number of places that they share out. A session tests what a single worker gets.
+// A row has the number of workers, and the number of places that they divide among themselves. A session tests the result of a single worker.
 const ROWS: &[(usize, usize)] = &[
     (2, 100),
     (4, 1000),
@@ -23,16 +23,16 @@ const ROWS: &[(usize, usize)] = &[
     (2, 4_294_967_297),
 ];
 
-// As many as there are.
+// The number of all places.
 const MOST_PLACES: usize = 4_294_967_296;
 
-// The notes about a worker: that it has begun, and that it met the other one.
+// The notes about a worker: `CAME` means that it has begun, and `MET` that it met the other worker.
 const CAME: u64 = 1;
 
 const MET: u64 = 2;
 
-// A gate that notes each worker's first result, and makes the worker wait until the other one's is noted, for a limited number of turns. The first
-// worker also waits before its first claim, so that it does not get the first place.
+// A gate that notes the first result of each of two workers. The gate then lets the worker wait until the first result of the other worker is noted,
+// for a limited number of turns. The first worker also waits before its first claim, so that it does not get the first place.
 #[derive(Drop)]
 struct Meeting<'c, C> {
     clock: &'c C,
@@ -42,7 +42,8 @@ struct Meeting<'c, C> {
 }
 
 impl<C: Clock> Meeting<'_, C> {
-    // Waits until the other worker's first result is noted, and returns whether it is. A turn is one reading of its note, and a millisecond.
+    // Waits until the first result of the other worker is noted, and returns whether it is. In each turn the call reads the note of the other worker,
+    // and then waits for a millisecond.
     fn waits_for(&self, other: &AtomicU64) -> bool {
         for _turn in 0..self.turns {
             if other.load(Ordering::SeqCst) != 0 {
@@ -60,7 +61,7 @@ impl<C: Clock> Meeting<'_, C> {
         }
     }
 
-    // Returns whether each of the two met the other.
+    // Returns whether each of the two workers met the other one.
     fn is_met(&self) -> bool {
         let (first, second) = (
             self.first.load(Ordering::SeqCst),
@@ -85,7 +86,7 @@ impl<C: Clock> Gate for Meeting<'_, C> {
     }
 }
 
-// Returns whether the list of the first worker begins with another place than the first one.
+// Returns whether the list of the first worker does not begin with the first place.
 fn is_after(lists: &[Vec<Place>]) -> bool {
     let [list, ..] = lists else {
         return true;
@@ -96,9 +97,9 @@ fn is_after(lists: &[Vec<Place>]) -> bool {
     }
 }
 
-// Returns whether two of the workers meet, if there is a place to claim, and each place is in exactly one of their lists; or whether there are too
-// many places. If workers ran one after the other, or did not report to the gate, they would not meet. The first list is that of the worker that the
-// gate treats as the first.
+// Returns whether each place is in exactly one list of a worker, and two workers meet if there are at least two workers and a place to claim. If there
+// are more places than can exist, the call returns whether the workers are refused with the error `TooManyPlaces`. If workers ran one after the other,
+// or did not report to the gate, they would not meet. The first list is the list of the worker that the gate treats as the first.
 fn is_shared<R: Threads + Wait + Clock + Sync>(
     rt: &R,
     alloc: Global,
@@ -125,7 +126,7 @@ fn is_shared<R: Threads + Wait + Clock + Sync>(
     is_each_once & (lists.len() == workers) & is_met
 }
 
-// Returns whether each row has its result.
+// Returns whether the workers of each row have the right result.
 fn are_shared<R: Threads + Wait + Clock + Sync>(
     rt: &R,
     alloc: Global,
@@ -138,6 +139,7 @@ fn are_shared<R: Threads + Wait + Clock + Sync>(
     as_wanted
 }
 
+// The workers of each row divide the places among themselves. Each place must be in exactly one list, and two workers must meet while they work.
 // Promise: workers overlap, workers-in-turn.
 #[test]
 fn workers_meet_and_share_places_out(rt: HostRuntime) {

@@ -1,4 +1,4 @@
--- That a cursor can be made anew on the member to which another moved, and on the one from which it moves.
+-- A cursor can be made on the member to which another cursor moves, and on the member from which the other cursor moves.
 use Rattle.std.proofs.Common.{◌≡◌, Option, Some, List, [], ◌∷◌, ◌++◌, append_assoc, drop, sym, ◌∙◌}
 use Rattle.ic_link_ops.specs.Prelude.{Place, Table, CursorState, RepresentsAt, IsValidCursor, MovesOn}
 use Rattle.ic_link_ops.proofs.Positions.{member_there}

@@ -1,4 +1,4 @@
--- That a table represents nothing for a tree with no root, where members are placed, and that a vacant entry can insert.
+-- A table represents the empty sequence for a tree with no root, there is an object at each member of a tree, and a vacant entry can insert an object.
 use Rattle.std.proofs.Common.{◌≡◌, true, Option, None, List, [], ◌∷◌, refl}
 use Rattle.std.specs.List.{AllByRecursion}
 use Rattle.std.specs.declared.cmp.Ordering.{Ordering}
@@ -23,7 +23,7 @@ use Rattle.ic_rbtree.specs.Kept.{alone}
 pub none_represented : {A : Type 0} (links : TreeLinkOps A) (root : Option Place) → root ≡ None → PlainRepresentsSome links root
 none_represented links root e = ([], rw e (represents_nothing {n = node_of} (plain_table links)))
 
--- where an object stands at each covered place, one stands at each member, which is covered
+-- if there is an object at each covered place, then there is an object at each member of a tree, because each member is covered
 module _ {A : Type 0} (links : TreeLinkOps A) {T : Type 0} (o : Objects T) (all : (q : Place) → IsCovered (plain_table links) q → is_placed o q ≡ true) where
   each_placed : (s : List Place) → AllByRecursion (λ q. IsCovered (plain_table links) q) s → ArePlaced o s
   each_placed [] h = tt
@@ -36,7 +36,7 @@ module _ {A : Type 0} (links : TreeLinkOps A) {T : Type 0} (o : Objects T) (all 
       = rw (← h.held.order) (tree_covered node_of (plain_table links) (λ q k. linked_is_covered (index_of q) k) None h.tree h.held.entries) in
       record { members = s; shown = h; placed = each_placed s covered }
 
--- a vacant entry of a tree that is represented has a gap where it inserts. `P` and `Q`: whatever else is known of it
+-- a vacant entry of a tree that is represented can insert, because it has a gap. `P` and `Q` are whatever else is known of the entry
 module _ {A L V K E : Type 0} (n : E → Node) (table : L → Table E) (at : Place → Ordering) (P Q : InsertCursor A L (Option Place) → Type 0) (tree : RBTree A (Option Place)) (links : L) {s : List Place}
     (shown : Represents n (table links) (root_of tree) s) where
   pub can_insert : (e : Entry A L (Option Place) V K) → IfVacant e (IsVacantFor n at (table links) s) → IfVacant e (λ v. P v × Q v × (v.tree.now ≡ tree) × (v.links.now ≡ links))
@@ -44,7 +44,7 @@ module _ {A L V K E : Type 0} (n : E → Node) (table : L → Table E) (at : Pla
   can_insert (Occupied c) f b = tt
   can_insert (Vacant v) f b = (f.gap, rw (b.2, b.3, f.same) shown, rw b.3 f.is_at)
 
--- an entry that is not occupied is vacant
+-- if the entry of a key is not occupied, then it is vacant
 pub vacant_one : {A L H V K : Type 0} (entry : Entry A L H V K) → ((c : CursorOf A L V H) → entry ≡ Occupied c → ⊥) → (v : InsertCursor A L H) × (entry ≡ Vacant v)
 vacant_one (Occupied c) other = absurd (other c refl)
 vacant_one (Vacant v) other = (v, refl)

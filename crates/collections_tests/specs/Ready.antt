@@ -1,4 +1,4 @@
--- A tree of the first eight places whose fresh summaries are right, with room for one at each place.
+-- What the tests know of a tree with summaries: its table covers eight places, its fresh summaries are right, and each place has room for a summary.
 use Rattle.std.specs.Prelude.{◌≡◌, List}
 use Rattle.ic_link_ops.specs.Prelude.{Place, Table, IsCovered}
 use Rattle.ic_link_ops.specs.RedBlackTree.{Node}
@@ -7,12 +7,13 @@ use Rattle.ic_rbtree.specs.Tree.{head_of}
 use Rattle.ic_rbtree.specs.declared.tree.RBTree.{RBTree}
 use Rattle.ic_augmented.specs.Consistent.{IsConsistent}
 use Rattle.ic_augmented.specs.Summaries.{Summaries}
-use Rattle.ic_augmented.specs.Summed.{links_of, summaries_of}
-use Rattle.ic_augmented.specs.declared.summed.Summed.{Summed}
+use Rattle.ic_augmented.specs.Augmented.{links_of, summaries_of}
+use Rattle.ic_augmented.specs.declared.augmented.Augmented.{Augmented}
 
 module _ {H N M E S A : Type 0} (kept : H → Kept) (n : E → Node) (table : N → Table E) (summaries : M → Summaries S) (Covers : M → Place → Type 0) where
-  -- THE TREE IS READY for edits, for a refresh, and for questions after that
-  pub record IsReady (tree : RBTree A H) (summed : Summed N M) : Type 0 where
+  -- THE TREE IS READY FOR EDITS: the table covers eight places and represents some members, their fresh summaries are right, and each covered place has
+  -- room for a summary. After a refresh the tree can be read
+  pub record IsReady (tree : RBTree A H) (summed : Augmented N M) : Type 0 where
     pub covers : (table (links_of summed)).extent.places ≡ 8
     pub members : List Place
     pub shown : RepresentsKept kept n (table (links_of summed)) (head_of tree) members

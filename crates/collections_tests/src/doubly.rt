@@ -1,4 +1,4 @@
-//! The doubly linked list: edits by a cursor that borrows the list, cursors that own it, and a walk that removes its members.
+//! Tests of the doubly linked list: edits by a cursor that borrows the list, cursors that own the list, and a walk that removes its members.
 
 ghost use Rattle.std.specs.Prelude.{◌≡◌};
 ghost use Rattle.ic_link_ops.specs.Chains.{RepresentsChain, RepresentsSomeChain};
@@ -7,7 +7,7 @@ ghost use Rattle.ic_chain.specs.Standing.{IsValidAt};
 
 use crate::lists::{ListFixture, list_of};
 use crate::notes::{assert_words, write_object, write_values};
-use ic_chain::{BidirectionalLinks, Chain, DoubleEnded, NamesNext};
+use ic_chain::{BidirectionalLinks, DoubleEnded, LinkList, NamesNext};
 use ic_cursors::CursorMut;
 use ic_link_ops::linked_list::TwoWords;
 use ic_link_ops::{LinkOps, TwoNarrowWords};
@@ -22,14 +22,14 @@ use std::process::Abort;
 /// A doubly linked list, its links and its objects.
 pub(crate) type DoublyFixture = ListFixture<DoublyLinked, TwoWords>;
 
-/// The same over links of 4-byte words.
+/// A doubly linked list over links of 4-byte words, its links and its objects.
 pub(crate) type NarrowDoublyFixture = ListFixture<DoublyLinked, TwoNarrowWords>;
 
-// Makes each edit by a cursor on the last of the members 0, 1 and 2, and notes what each returned. It also notes the member before the cursor, which
-// is none after the part before it was moved after it, and whether the cursor is at null after two steps.
+// Makes each edit by a cursor on the last of the members 0, 1 and 2, and notes the results. Then it moves all members before the cursor after the
+// cursor. The function notes the member before the cursor, which must be none, and whether the cursor is at null after two steps.
 fn write_edits<K: DoubleEnded + BidirectionalLinks<L>, L: LinkOps>(
     notes: &mut Text,
-    cursor: &mut CursorMut<'_, Chain<K, u64>, L>,
+    cursor: &mut CursorMut<'_, LinkList<K, u64>, L>,
 )
     requires covers { (L.table (edits.links_of cursor.old)).extent.places ≡ 8 }
     requires stands { edits.IsValid (IsValidAt (RepresentsChain K.Between K.kept) L.table K.Position.member K.Position.CachesNext) cursor.old }
@@ -74,7 +74,8 @@ fn doubly_linked_list(rt: HostRuntime) {
     assert_words(&rt, &notes, "2 1 3 none no  0 4 5  10");
 }
 
-// The same edits over links of 4-byte words, by a cursor that goes from null to the last member, and where it is then.
+// The edits over links of 4-byte words must have the results that they have over 8-byte words. The edits are made by a cursor that goes from null to
+// the last member, and the test notes where the cursor is afterwards.
 // Promise: edits of a list over 4-byte words.
 #[test]
 fn doubly_linked_list_over_narrow_links(rt: HostRuntime) {
@@ -88,12 +89,12 @@ fn doubly_linked_list_over_narrow_links(rt: HostRuntime) {
     assert_words(&rt, &notes, "2 1 3 none no  0");
 }
 
-// Notes the position of a cursor that reads the list, made on the second member by its reference, and those of cursors that own the list, made there
-// and at the back.
+// Notes the positions of three cursors. The first cursor reads the list and is made on the second member by its reference. The other two own the list,
+// and are made on the second member by its reference, and at the back.
 fn write_on_member<K: NamesNext + DoubleEnded + BidirectionalLinks<L>, L: LinkOps>(
     rt: &impl Abort,
     notes: &mut Text,
-    list: Chain<K, u64>,
+    list: LinkList<K, u64>,
     links: &L,
 )
     requires shown { RepresentsSomeChain K.Between K.kept (L.table links.now) list }
@@ -107,6 +108,8 @@ fn write_on_member<K: NamesNext + DoubleEnded + BidirectionalLinks<L>, L: LinkOp
     write_places(notes, &[read, second, at_back.get_ptr()]);
 }
 
+// The test makes cursors of a list on its members, and removes two of four members by a walk, which is then finished. The cursors must be on the right
+// members, and no place must be linked at the end.
 // Promise: a finished walk of a doubly linked list.
 #[test]
 fn doubly_linked_list_by_value(rt: HostRuntime) {
@@ -117,7 +120,8 @@ fn doubly_linked_list_by_value(rt: HostRuntime) {
         write_on_member(&rt, &mut notes, fixture.list.take(), &fixture.links);
     }
     {
-        // Notes the first and the last member, which are removed, what is then linked, and what is linked after the walk has unlinked the rest.
+        // A walk removes the first and the last member of four. The test notes both members, the places that are then linked, and the places that are
+        // linked after the walk has unlinked the rest.
         let mut fixture: DoublyFixture = list_of(&rt, alloc, 4);
         let mut rest = fixture.list.take().into_iter(&mut fixture.links);
         write_object(&mut notes, rest.next());

@@ -1,4 +1,4 @@
-//! The laws of several calls together, on doubly linked lists.
+//! Tests of the laws of several calls together, on doubly linked lists.
 
 ghost use Rattle.std.specs.Prelude.{◌≡◌, None};
 ghost use Rattle.ic_link_ops.specs.Chains.{RepresentsChain, RepresentsSomeChain};
@@ -10,7 +10,7 @@ use crate::doubly::DoublyFixture;
 use crate::lent::{write_moved, write_turned};
 use crate::lists::list_of;
 use crate::notes::{assert_words, write_object};
-use ic_chain::{BidirectionalLinks, Chain, DoubleEnded, ForwardLinks, laws};
+use ic_chain::{BidirectionalLinks, DoubleEnded, ForwardLinks, LinkList, laws};
 use ic_cursors::Cursor;
 use ic_link_ops::LinkOps;
 use ic_test_support::answers::write_places;
@@ -19,10 +19,10 @@ use ic_test_support::objects::{place_at, reference};
 use ic_test_support::tables::write_linked;
 use std::process::Abort;
 
-// Inserts an object at the front and removes it again, which leaves the list as it was, and notes whether it is a member.
+// Inserts an object at the front and removes it again, which leaves the list unchanged. Notes the removed object, and whether it is still a member.
 fn write_front<K: ForwardLinks<L>, L: LinkOps>(
     notes: &mut Text,
-    list: &mut Chain<K, u64>,
+    list: &mut LinkList<K, u64>,
     links: &mut L,
 )
     requires covers { (L.table links.old).extent.places ≡ 8 }
@@ -39,10 +39,11 @@ fn write_front<K: ForwardLinks<L>, L: LinkOps>(
     notes.add(Answer::Truth(is_member), " ");
 }
 
-// Inserts an object at the back and removes it again, which leaves the list as it was, and notes both ends.
+// Inserts an object at the back and removes it again, which leaves the list unchanged. Notes the removed object, and the first and the last member of
+// the list.
 fn write_back<K: DoubleEnded + BidirectionalLinks<L>, L: LinkOps>(
     notes: &mut Text,
-    list: &mut Chain<K, u64>,
+    list: &mut LinkList<K, u64>,
     links: &mut L,
 )
     requires covers { (L.table links.old).extent.places ≡ 8 }
@@ -56,10 +57,10 @@ fn write_back<K: DoubleEnded + BidirectionalLinks<L>, L: LinkOps>(
     write_ends(notes, list.cursor(&*links));
 }
 
-// Notes both ends of a list, by a cursor at null that moves there and back.
+// Notes the first and the last member of a list, to which a cursor moves from null.
 fn write_ends<K: DoubleEnded + BidirectionalLinks<L>, L: LinkOps>(
     notes: &mut Text,
-    mut cursor: Cursor<'_, Chain<K, u64>, L>,
+    mut cursor: Cursor<'_, LinkList<K, u64>, L>,
 )
     requires stands { reads.IsValid (IsValidAt (RepresentsChain K.Between K.kept) L.table K.Position.member K.Position.CachesNext) cursor }
     requires null { reads.position K.Position.member cursor ≡ None }
@@ -68,7 +69,7 @@ fn write_ends<K: DoubleEnded + BidirectionalLinks<L>, L: LinkOps>(
     write_places(notes, &[front, back]);
 }
 
-// Inserts one object into two lists of two fields, empties the first, and notes what is linked in each field.
+// Inserts one object into two lists of two fields, empties the first list, and notes the places that are linked in each field.
 fn write_apart(
     rt: &impl Abort,
     notes: &mut Text,

@@ -1,18 +1,19 @@
-//! A list that is lent together with the table of its links, and a cursor at a member by its reference.
+//! Calls on a list that is lent together with the table of its links, and on a cursor that is made on a member by its reference.
 
 ghost use Rattle.std.specs.Prelude.{◌≡◌};
 ghost use Rattle.ic_link_ops.specs.Chains.{RepresentsSomeChain};
 
-use ic_chain::{BidirectionalLinks, Chain, DoubleEnded, ForwardLinks, NamesBoth, NamesNext};
+use ic_chain::{BidirectionalLinks, DoubleEnded, ForwardLinks, LinkList, NamesBoth, NamesNext};
 use ic_link_ops::LinkOps;
 use ic_test_support::answers::write_places;
 use ic_test_support::notes::Text;
 use ic_unsafe_ref::UnsafeRef;
 
-/// Moves the first member to the back, on the list and its links lent together, and notes where a cursor on it is, and the ends.
+/// Moves the first member to the back, while the list and its links are lent together. Notes the position of a cursor on the moved member, and the
+/// first and the last member.
 pub(crate) fn write_turned<K: DoubleEnded + NamesNext + ForwardLinks<L>, L: LinkOps>(
     notes: &mut Text,
-    list: &mut Chain<K, u64>,
+    list: &mut LinkList<K, u64>,
     links: &mut L,
 )
     requires covers { (L.table links.old).extent.places ≡ 8 }
@@ -35,9 +36,13 @@ pub(crate) fn write_turned<K: DoubleEnded + NamesNext + ForwardLinks<L>, L: Link
     write_places(notes, &[turned, list.first(), list.last()]);
 }
 
-/// Removes the last member, inserts it at the front, at the back and at the front again, and then removes it by its reference, all on the list and
-/// its links lent together. It notes the ends after each move, and after the list is given back.
-pub(crate) fn write_moved<K, L: LinkOps>(notes: &mut Text, list: &mut Chain<K, u64>, links: &mut L)
+/// Removes the last member, inserts it at the front, moves it to the back and to the front, and removes it by its reference. Meanwhile the list and its
+/// links are lent together. Notes the first and the last member of the list after each move, and after the list is given back.
+pub(crate) fn write_moved<K, L: LinkOps>(
+    notes: &mut Text,
+    list: &mut LinkList<K, u64>,
+    links: &mut L,
+)
 where
     K: DoubleEnded + NamesBoth<L> + BidirectionalLinks<L>,
     requires covers { (L.table links.old).extent.places ≡ 8 }

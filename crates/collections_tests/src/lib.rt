@@ -1,6 +1,6 @@
-//! The collections: the calls that no session of the program makes, since a world does not make them, and that no other test or use
-//! makes. Cursors that read, and those that borrow their collection, walks, laws, the words and the shapes that links have, and what is
-//! printed. Each test makes its calls one after the other, notes what each answers, and compares the notes with what they are to be.
+//! Tests of the collections. The tests make the calls that no session of the program, no other test and no use makes. They are calls of cursors that
+//! read or borrow their collection, walks and laws, and reads of the words of links, the shapes of trees, and printed texts. Each test makes its calls
+//! one after the other, notes their results, and compares the notes with the expected text.
 #![tactic(auto)]
 
 #[cfg(test)]

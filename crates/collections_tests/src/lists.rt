@@ -1,11 +1,11 @@
-//! Lists of any kind, over the plain table of their links.
+//! Fixtures for tests of lists of any kind, over the plain table of their links.
 
 ghost use Rattle.std.specs.Prelude.{◌≡◌, ◌≤◌};
 ghost use Rattle.ic_link_ops.specs.Chains.{RepresentsChain, RepresentsSomeChain};
 ghost use Rattle.ic_link_ops.specs.PlacedObjects.{RepresentsPlaced};
 ghost use Rattle.ic_link_ops.specs.PlainTables.{table};
 
-use ic_chain::{Chain, ForwardLinks, ListKind};
+use ic_chain::{ForwardLinks, LinkList, ListKind};
 use ic_link_ops::{LinkOps, PlainTable, Words};
 use ic_test_support::notes::Text;
 use ic_test_support::objects::{TENS, eight_objects, place_at, reference};
@@ -14,14 +14,15 @@ use ic_unsafe_ref::Objects;
 use std::alloc::Global;
 use std::process::Abort;
 
-/// A list, the table of its links, which covers the places 0 to 7, and its objects: 10 to 80, in the order of their places.
+/// A list, the table of its links, which covers the places 0 to 7, and its objects. The objects are 10 to 80, in the order of their places.
 pub(crate) struct ListFixture<K: ListKind, W: Words> {
     pub(crate) objects: Objects<u64>,
     pub(crate) links: PlainTable<W>,
-    pub(crate) list: Chain<K, u64>,
+    pub(crate) list: LinkList<K, u64>,
 }
 
-// Not derived: so a function that lets a fixture go has one call of this to prove, and not the drop of each part.
+// The `Drop` of a fixture is not derived. The reason is that the proof of a function that drops a fixture then covers one call of this `drop`, and not
+// the drop of each part.
 impl<K: ListKind, W: Words> Drop for ListFixture<K, W> {
     fn drop(self) {
         let ListFixture {
@@ -32,21 +33,24 @@ impl<K: ListKind, W: Words> Drop for ListFixture<K, W> {
     }
 }
 
-/// Inserts the objects at the first places into a new list, in their order.
-pub(crate) fn filled<K: ForwardLinks<L>, L: LinkOps>(links: &mut L, members: usize) -> Chain<K, u64>
+/// Inserts the objects at the first `members` places into a new list, in the order of their places.
+pub(crate) fn filled<K: ForwardLinks<L>, L: LinkOps>(
+    links: &mut L,
+    members: usize,
+) -> LinkList<K, u64>
     requires covered { (L.table links.old).extent.places ≡ 8 }
     requires few { members ≤ 8 }
     ensures covers { (L.table links.new).extent.places ≡ 8 }
     ensures shown { RepresentsSomeChain K.Between K.kept (L.table links.new) result }
 {
-    let mut list = Chain::new();
+    let mut list = LinkList::new();
     for given in 0..members {
         let _ = list.push_front(links, reference(members - 1 - given));
     }
     list
 }
 
-/// A list of the objects at the first places, as many as that, in their order.
+/// Returns a list of the objects at the first `members` places, in the order of their places.
 pub(crate) fn list_of<K: ForwardLinks<PlainTable<W>>, W: Words>(
     rt: &impl Abort,
     alloc: Global,
@@ -65,7 +69,7 @@ pub(crate) fn list_of<K: ForwardLinks<PlainTable<W>>, W: Words>(
     }
 }
 
-/// Unlinks each linked place by force, one after the other, and notes before each what is linked.
+/// Unlinks each linked place by force, one after the other. Before each of these calls it notes the places that are linked.
 pub(crate) fn free_each<W: Words>(rt: &impl Abort, notes: &mut Text, links: &mut PlainTable<W>)
     ensures covers { (table W.width W.unlinked links.new).extent.places ≡ 8 }
 {

@@ -1,4 +1,4 @@
-//! Cursors of an XOR list that are made on a member with one of its neighbors.
+//! Tests of cursors of an XOR list that are made from a member and one of its neighbors.
 
 ghost use Rattle.ic_link_ops.specs.Chains.{RepresentsChain, RepresentsSomeChain};
 ghost use Rattle.ic_cursors.specs.Cursor as reads;
@@ -8,7 +8,7 @@ ghost use Rattle.ic_chain.specs.Standing.{IsValidAt, HasMemberAfter, HasMemberBe
 use crate::lists::list_of;
 use crate::notes::{assert_words, write_values};
 use crate::xor::XorFixture;
-use ic_chain::{BidirectionalLinks, Chain, Reversible};
+use ic_chain::{BidirectionalLinks, LinkList, Reversible};
 use ic_cursors::{Cursor, CursorMut};
 use ic_link_ops::LinkOps;
 use ic_test_support::answers::write_places;
@@ -17,10 +17,10 @@ use ic_unsafe_ref::{Objects, UnsafeRef};
 use ic_xor_linked_list::laws;
 use std::process::Abort;
 
-// The second member, and the one before it, by a cursor on the first.
+// Returns the second member and the member before it, which are found by a cursor that starts on the first member.
 fn second<K: Reversible + BidirectionalLinks<L>, L: LinkOps>(
     rt: &impl Abort,
-    mut cursor: Cursor<'_, Chain<K, u64>, L>,
+    mut cursor: Cursor<'_, LinkList<K, u64>, L>,
 ) -> (UnsafeRef<u64>, Option<UnsafeRef<u64>>)
     requires stands { reads.IsValid (IsValidAt (RepresentsChain K.Between K.kept) L.table K.Position.member K.Position.CachesNext) cursor }
     ensures { HasMemberAfter (RepresentsChain K.Between K.kept (L.table (reads.links_of cursor.entry)) (reads.list_of cursor.entry)) result.0 result.1 }
@@ -30,10 +30,10 @@ fn second<K: Reversible + BidirectionalLinks<L>, L: LinkOps>(
     (cursor.clone_pointer().expect(rt, "a second member"), first)
 }
 
-// Notes the last member, and what is after it by a cursor on it, which is nothing.
+// Returns the last member and the member after it, which is none. The cursor is on the last member.
 fn last<K: Reversible + BidirectionalLinks<L>, L: LinkOps>(
     rt: &impl Abort,
-    cursor: Cursor<'_, Chain<K, u64>, L>,
+    cursor: Cursor<'_, LinkList<K, u64>, L>,
 ) -> (UnsafeRef<u64>, Option<UnsafeRef<u64>>)
     requires stands { reads.IsValid (IsValidAt (RepresentsChain K.Between K.kept) L.table K.Position.member K.Position.CachesNext) cursor }
     ensures { HasMemberBefore (RepresentsChain K.Between K.kept (L.table (reads.links_of cursor.entry)) (reads.list_of cursor.entry)) result.0 result.1 }
@@ -42,11 +42,12 @@ fn last<K: Reversible + BidirectionalLinks<L>, L: LinkOps>(
     (cursor.clone_pointer().expect(rt, "a last member"), after)
 }
 
-// Notes where a step back from the last member would lead, the last object, and where a step on from the second member leads.
+// Notes the member to which a step back from the last member would lead, the object of the last member, and the member to which a step from the second
+// member leads.
 fn write_borrowed<K: Reversible + BidirectionalLinks<L>, L: LinkOps>(
     rt: &impl Abort,
     notes: &mut Text,
-    list: &mut Chain<K, u64>,
+    list: &mut LinkList<K, u64>,
     links: &mut L,
     objects: &Objects<u64>,
 )
@@ -66,10 +67,10 @@ fn write_borrowed<K: Reversible + BidirectionalLinks<L>, L: LinkOps>(
     write_next(notes, &mut on_second);
 }
 
-// Notes the member to which the next step leads.
+// Moves the cursor to the next member, and notes the member on which the cursor then is.
 fn write_next<K: Reversible + BidirectionalLinks<L>, L: LinkOps>(
     notes: &mut Text,
-    cursor: &mut CursorMut<'_, Chain<K, u64>, L>,
+    cursor: &mut CursorMut<'_, LinkList<K, u64>, L>,
 )
     requires stands { edits.IsValid (IsValidAt (RepresentsChain K.Between K.kept) L.table K.Position.member K.Position.CachesNext) cursor.old }
 {
@@ -77,12 +78,12 @@ fn write_next<K: Reversible + BidirectionalLinks<L>, L: LinkOps>(
     write_places(notes, &[cursor.get_ptr()]);
 }
 
-// Notes the positions of a cursor that reads the list, made on the second member, and of cursors that own it, made on the second member and on the
-// last.
+// Notes the positions of three cursors. The first cursor reads the list and is made on the second member. The other two own the list, and are made on
+// the second and on the last member.
 fn write_kept<K: Reversible + BidirectionalLinks<L>, L: LinkOps>(
     rt: &impl Abort,
     notes: &mut Text,
-    list: Chain<K, u64>,
+    list: LinkList<K, u64>,
     links: &L,
 )
     requires shown { RepresentsSomeChain K.Between K.kept (L.table links.now) list }
@@ -98,7 +99,8 @@ fn write_kept<K: Reversible + BidirectionalLinks<L>, L: LinkOps>(
     write_places(notes, &[read, kept, on_last.get_ptr()]);
 }
 
-// The list with the members 0, 1 and 2, as it is, turned round, and turned round twice.
+// The cursors of a list with the members 0, 1 and 2 must be on the expected members. The list is unchanged at first, then reversed, and then reversed
+// twice.
 // Promise: cursors from an object and a neighbor.
 #[test]
 fn cursors_from_neighbors(rt: HostRuntime) {

@@ -1,5 +1,5 @@
-//! Cursors that keep their list, in each move and edit. A world makes these edits at a position of its own, and no use keeps a list in a
-//! cursor.
+//! Tests of each move and each edit of cursors that own their list. No other test and no use makes these calls, because a world edits its lists without
+//! such cursors.
 
 ghost use Rattle.std.specs.Prelude.{◌≡◌};
 ghost use Rattle.ic_link_ops.specs.Chains.{RepresentsSomeChain};
@@ -8,16 +8,16 @@ use crate::doubly::DoublyFixture;
 use crate::lists::list_of;
 use crate::notes::{assert_words, write_object};
 use crate::singly::SinglyFixture;
-use ic_chain::{BidirectionalLinks, Chain, DoubleEnded, ForwardLinks, SingleEnded};
+use ic_chain::{BidirectionalLinks, DoubleEnded, ForwardLinks, LinkList, SingleEnded};
 use ic_link_ops::LinkOps;
 use ic_test_support::answers::write_places;
 use ic_test_support::notes::Text;
 use ic_test_support::objects::reference;
 
-// Notes where a cursor is: at null, at the front, a step on, and at the back.
+// Notes the positions of a cursor at null, at the front, one step after the front, and at the back.
 fn write_moves<K: DoubleEnded + BidirectionalLinks<L>, L: LinkOps>(
     notes: &mut Text,
-    list: Chain<K, u64>,
+    list: LinkList<K, u64>,
     links: &L,
 )
     requires shown { RepresentsSomeChain K.Between K.kept (L.table links.now) list }
@@ -32,11 +32,12 @@ fn write_moves<K: DoubleEnded + BidirectionalLinks<L>, L: LinkOps>(
     write_places(notes, &[null, front, second, at_back.get_ptr()]);
 }
 
-// Inserts objects beside the first of the members 0, 1 and 2, removes them again, and notes both removed objects. Then the list is split after the
-// cursor and before it, the parts change places, and it notes where the cursor is, the first member, and the cursor at null.
+// Inserts two objects next to the first of the members 0, 1 and 2. Replaces one of them, removes the replacement, and notes both removed objects. Then
+// the list is split after the cursor and before it, and the parts are put together in the opposite order. The function notes the position of the
+// cursor, the first member, and the position of the cursor after it is moved to null.
 fn write_edits<K: DoubleEnded + BidirectionalLinks<L>, L: LinkOps>(
     notes: &mut Text,
-    list: Chain<K, u64>,
+    list: LinkList<K, u64>,
     links: &mut L,
 )
     requires covers { (L.table links.old).extent.places ≡ 8 }
@@ -59,10 +60,11 @@ fn write_edits<K: DoubleEnded + BidirectionalLinks<L>, L: LinkOps>(
     write_places(notes, &[cursor.get_ptr()]);
 }
 
-// Replaces the member after a cursor on the first one by the object at 3, removes that object again, and notes both.
+// Replaces the member after the first one by the object at 3, removes that object again, and notes both removed objects. The cursor is on the first
+// member.
 fn write_edits_after<K: SingleEnded + ForwardLinks<L>, L: LinkOps>(
     notes: &mut Text,
-    list: Chain<K, u64>,
+    list: LinkList<K, u64>,
     links: &mut L,
 )
     requires covers { (L.table links.old).extent.places ≡ 8 }
@@ -73,6 +75,7 @@ fn write_edits_after<K: SingleEnded + ForwardLinks<L>, L: LinkOps>(
     write_object(notes, cursor.remove_next(links));
 }
 
+// The test makes each move and edit of cursors that own their list, and their positions and the removed objects must be right.
 // Promise: owning cursors.
 #[test]
 fn owning_cursors(rt: HostRuntime) {

@@ -1,12 +1,12 @@
-//! What lists, trees and links print.
+//! A test of the texts that lists, trees and links print.
 
 use crate::doubly::DoublyFixture;
 use crate::lists::list_of;
 use crate::tree::trees::tree_of;
 use ic_test_support::objects::place_at;
 
-// A list on one line, a tree with each object on a line of its own, and the link of the list's first member, while it is one and when it was
-// taken off.
+// The test prints a list on one line, a tree with each object on a line of its own, and the link of the first member of the list. The link must print
+// `linked`, and after the removal of the member `unlinked`.
 // Promise: text of an entry, text of a list.
 #[test]
 fn printed(rt: HostRuntime) {

@@ -1,4 +1,4 @@
-//! The singly linked list: a walk with no last member to end at, and the edits after a cursor.
+//! Tests of the singly linked list: a walk, which does not know the last member, and the edits after a cursor.
 
 ghost use Rattle.std.specs.Prelude.{◌≡◌};
 ghost use Rattle.ic_link_ops.specs.Chains.{RepresentsChain};
@@ -7,7 +7,7 @@ ghost use Rattle.ic_chain.specs.Standing.{IsValidAt};
 
 use crate::lists::{ListFixture, list_of};
 use crate::notes::{assert_words, write_object, write_values};
-use ic_chain::{Chain, ForwardLinks, SingleEnded};
+use ic_chain::{ForwardLinks, LinkList, SingleEnded};
 use ic_cursors::CursorMut;
 use ic_link_ops::singly_linked_list::Singly;
 use ic_link_ops::{LinkOps, OneNarrowWord, OneWord};
@@ -19,13 +19,13 @@ use ic_test_support::objects::reference;
 /// A singly linked list, its links and its objects.
 pub(crate) type SinglyFixture = ListFixture<SinglyLinked, OneWord<Singly>>;
 
-/// The same over links of 4-byte words.
+/// A singly linked list over links of 4-byte words, its links and its objects.
 pub(crate) type NarrowSinglyFixture = ListFixture<SinglyLinked, OneNarrowWord<Singly>>;
 
-// Replaces the member after the cursor by the object at 3, removes that object again, and notes both.
+// Replaces the member after the cursor by the object at 3, removes that object again, and notes both removed objects.
 fn write_edits<K: SingleEnded + ForwardLinks<L>, L: LinkOps>(
     notes: &mut Text,
-    cursor: &mut CursorMut<'_, Chain<K, u64>, L>,
+    cursor: &mut CursorMut<'_, LinkList<K, u64>, L>,
 )
     requires covers { (L.table (edits.links_of cursor.old)).extent.places ≡ 8 }
     requires stands { edits.IsValid (IsValidAt (RepresentsChain K.Between K.kept) L.table K.Position.member K.Position.CachesNext) cursor.old }
@@ -34,11 +34,11 @@ fn write_edits<K: SingleEnded + ForwardLinks<L>, L: LinkOps>(
     write_object(notes, cursor.remove_next());
 }
 
-// Splits the list after the cursor, and notes where the cursor is, where the other part begins, and where a step leads after the parts were joined
-// again.
+// Splits the list after the cursor. Notes the position of the cursor, the first member of the second part, and the member to which a step leads after
+// the parts are joined again.
 fn write_parts<K: SingleEnded + ForwardLinks<L>, L: LinkOps>(
     notes: &mut Text,
-    cursor: &mut CursorMut<'_, Chain<K, u64>, L>,
+    cursor: &mut CursorMut<'_, LinkList<K, u64>, L>,
 )
     requires stands { edits.IsValid (IsValidAt (RepresentsChain K.Between K.kept) L.table K.Position.member K.Position.CachesNext) cursor.old }
 {
@@ -56,7 +56,7 @@ fn singly_linked_list(rt: HostRuntime) {
     let mut notes = Text::new(alloc);
     let mut fixture: SinglyFixture = list_of(&rt, alloc, 2);
     {
-        // Notes the members that a walk over two members returns, and that it ends.
+        // A walk over a list of two members must return both members and then none.
         let mut walk = fixture.list.iter(&fixture.links, &fixture.objects);
         write_values(&mut notes, &[walk.next(), walk.next(), walk.next()]);
     }

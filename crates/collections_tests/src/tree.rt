@@ -1,4 +1,4 @@
-//! The red-black tree.
+//! Tests of the red-black tree.
 
 mod beside;
 mod cached;

@@ -1,4 +1,4 @@
-//! Walks over lists: walks over the objects from both ends, and walks that remove members and are dropped.
+//! Tests of walks over lists: walks over the objects from both ends, and walks that remove members and are then dropped or finished.
 
 ghost use Rattle.std.specs.Prelude.{◌≡◌};
 ghost use Rattle.ic_link_ops.specs.Chains.{RepresentsChain, RepresentsSomeChain};
@@ -11,7 +11,7 @@ use crate::lists::{ListFixture, filled, free_each, list_of};
 use crate::notes::{assert_words, write_object};
 use crate::singly::{NarrowSinglyFixture, SinglyFixture};
 use crate::xor::{NarrowXorFixture, XorFixture};
-use ic_chain::{BidirectionalLinks, Chain, DoubleEnded, ForwardLinks, Iter};
+use ic_chain::{BidirectionalLinks, DoubleEnded, ForwardLinks, Iter, LinkList};
 use ic_link_ops::{LinkOps, PlainTable, Words};
 use ic_test_support::answers::value;
 use ic_test_support::notes::Text;
@@ -19,10 +19,10 @@ use ic_test_support::tables::write_linked;
 use ic_unsafe_ref::{Objects, UnsafeRef};
 use std::process::Abort;
 
-// Notes what a walk gives: one at the front, two at the back, one at the front, and then one at either end.
+// Notes the objects that a walk returns: one at the front, two at the back, one at the front, and then one at the front and one at the back.
 fn write_walk<'a, K: DoubleEnded + BidirectionalLinks<L>, L: LinkOps>(
     notes: &mut Text,
-    list: &Chain<K, u64>,
+    list: &LinkList<K, u64>,
     links: &'a L,
     objects: &'a Objects<u64>,
 )
@@ -36,7 +36,7 @@ fn write_walk<'a, K: DoubleEnded + BidirectionalLinks<L>, L: LinkOps>(
     write_ends(notes, walk);
 }
 
-// Notes what a walk gives at either end.
+// Notes the next object that a walk returns at the front, and the next one at the back.
 fn write_ends<K: DoubleEnded + BidirectionalLinks<L>, L: LinkOps>(
     notes: &mut Text,
     mut walk: Iter<'_, K, u64, L>,
@@ -47,7 +47,8 @@ fn write_ends<K: DoubleEnded + BidirectionalLinks<L>, L: LinkOps>(
     notes.add(value(walk.next_back()), " ");
 }
 
-// Four members of a doubly linked list, after which neither end gives one, and six of an XOR list.
+// A walk over a doubly linked list of four members must return each of them once, and then none at either end. A walk over an XOR list of six members
+// must return each of them once.
 // Promise: a walk from both ends, a walk that only reads.
 #[test]
 fn walks_from_both_ends(rt: HostRuntime) {
@@ -55,7 +56,7 @@ fn walks_from_both_ends(rt: HostRuntime) {
     let mut notes = Text::new(alloc);
     {
         let doubly: DoublyFixture = list_of(&rt, alloc, 4);
-        // A walk that is dropped after its first object leaves all as it was.
+        // A walk that is dropped after its first object must not change the list.
         let _ = doubly.list.iter(&doubly.links, &doubly.objects).next();
         write_walk(&mut notes, &doubly.list, &doubly.links, &doubly.objects);
     }
@@ -64,9 +65,9 @@ fn walks_from_both_ends(rt: HostRuntime) {
     assert_words(&rt, &notes, "10 40 30 20 none none  10 60 50 20 30 40");
 }
 
-// Removes the first member, by a walk that is dropped then.
+// Removes the first member by a walk, drops the walk, and returns the member.
 fn take_first<K: ForwardLinks<L>, L: LinkOps>(
-    list: Chain<K, u64>,
+    list: LinkList<K, u64>,
     links: &mut L,
 ) -> Option<UnsafeRef<u64>>
     requires shown { RepresentsSomeChain K.Between K.kept (L.table links.old) list }
@@ -75,8 +76,8 @@ fn take_first<K: ForwardLinks<L>, L: LinkOps>(
     rest.next()
 }
 
-// Does this, and notes the member and what is then linked, and what is linked after each of the other members was unlinked by force. Then it inserts
-// all members again, and notes what is linked.
+// Removes the first member by a walk that is then dropped, and notes the member. Then it unlinks each remaining member by force, and before each of
+// these calls notes the places that are linked. At last it inserts all members again, and notes the linked places.
 fn write_dropped<K: ForwardLinks<PlainTable<W>>, W: Words>(
     rt: &impl Abort,
     notes: &mut Text,
@@ -91,7 +92,7 @@ fn write_dropped<K: ForwardLinks<PlainTable<W>>, W: Words>(
     write_linked(notes, &fixture.links);
 }
 
-// One list of each kind, with four members.
+// After a walk that is dropped, the members that it did not return must still be linked. The test uses one list of each kind, with four members.
 // Promise: a dropped walk of a doubly linked list, a dropped walk of a singly linked list, a dropped walk of an XOR list.
 #[test]
 fn walks_that_are_dropped(rt: HostRuntime) {
@@ -112,7 +113,7 @@ fn walks_that_are_dropped(rt: HostRuntime) {
     );
 }
 
-// The same of lists over links of 4-byte words.
+// After a walk that is dropped, the members that it did not return must still be linked, in lists over links of 4-byte words.
 // Promise: a dropped walk over 4-byte words.
 #[test]
 fn walks_over_narrow_links_that_are_dropped(rt: HostRuntime) {
@@ -133,9 +134,9 @@ fn walks_over_narrow_links_that_are_dropped(rt: HostRuntime) {
     );
 }
 
-// Removes the first member, and then unlinks the rest.
+// Removes the first member by a walk, and then finishes the walk, which unlinks the rest.
 fn finish_first<K: ForwardLinks<L>, L: LinkOps>(
-    list: Chain<K, u64>,
+    list: LinkList<K, u64>,
     links: &mut L,
 ) -> Option<UnsafeRef<u64>>
     requires shown { RepresentsSomeChain K.Between K.kept (L.table links.old) list }
@@ -146,9 +147,9 @@ fn finish_first<K: ForwardLinks<L>, L: LinkOps>(
     first
 }
 
-// Removes the first member and the last, and then unlinks the rest.
+// Removes the first and the last member by a walk, and then finishes the walk, which unlinks the rest.
 fn finish_both<K: DoubleEnded + BidirectionalLinks<L>, L: LinkOps>(
-    list: Chain<K, u64>,
+    list: LinkList<K, u64>,
     links: &mut L,
 ) -> (Option<UnsafeRef<u64>>, Option<UnsafeRef<u64>>)
     requires shown { RepresentsSomeChain K.Between K.kept (L.table links.old) list }
@@ -160,7 +161,7 @@ fn finish_both<K: DoubleEnded + BidirectionalLinks<L>, L: LinkOps>(
     (first, last)
 }
 
-// Rows: a singly linked list and an XOR list with four members each, and the places that are linked after the walk is finished.
+// After a walk over a list of four members is finished, no place must be linked. The test uses a singly linked list and an XOR list.
 // Promise: a finished walk of a singly linked list, a finished walk of an XOR list.
 #[test]
 fn walks_that_are_finished(rt: HostRuntime) {

@@ -1,5 +1,5 @@
-//! The words of the links of an XOR list: each is the exclusive or of the neighbors' numbers, which are `2 * (index + 1)` for a place and 0 for none.
-//! The word 1 means that a place is unlinked.
+//! Tests of the words of the links of an XOR list. The word of a member is the exclusive or of the numbers of its two neighbors. The number of a place
+//! is `2 * (index + 1)`, and 0 means that there is no neighbor. The word 1 means that a place is unlinked.
 
 use crate::lists::{ListFixture, list_of};
 use crate::notes::{assert_words, write_object};
@@ -20,7 +20,7 @@ fn write_words(notes: &mut Text, links: &LinkOps) {
     }
 }
 
-// Tests the words of a list of the places 0, 1 and 2, before and after 1 is removed.
+// The words of a list of the places 0, 1 and 2 must be right before and after the member 1 is removed.
 // Promise: words of an XOR list, words after a removal.
 #[test]
 fn words_of_an_xor_list(rt: HostRuntime) {
@@ -37,7 +37,8 @@ fn words_of_an_xor_list(rt: HostRuntime) {
     assert_words(&rt, &notes, "4 4 4 1 1 1 1 1  1  6 1 2 1 1 1 1 1");
 }
 
-// The same list in the table of a tree: the words on the right, and the third ones, which say that a place is linked, black and below none.
+// A list of the places 0, 1 and 2 in a table of tree links must have right words. Each link has the list's word on the right. Its third word must mean
+// that the place is linked, black and without a parent.
 // Promise: an XOR list in a table of trees.
 #[test]
 fn words_of_an_xor_list_in_a_tree_table(rt: HostRuntime) {

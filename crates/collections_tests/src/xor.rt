@@ -1,4 +1,4 @@
-//! The XOR list: its cursor reads each entry together with a neighbor of the place.
+//! A test of the XOR list, whose cursor keeps a neighbor of its member, because an entry is read together with one neighbor.
 
 ghost use Rattle.ic_link_ops.specs.Chains.{RepresentsChain};
 ghost use Rattle.ic_cursors.specs.Cursor as reads;
@@ -6,7 +6,7 @@ ghost use Rattle.ic_chain.specs.Standing.{IsValidAt};
 
 use crate::lists::{ListFixture, list_of};
 use crate::notes::assert_words;
-use ic_chain::{BidirectionalLinks, Chain, DoubleEnded};
+use ic_chain::{BidirectionalLinks, DoubleEnded, LinkList};
 use ic_cursors::Cursor;
 use ic_link_ops::xor_linked_list::Xor;
 use ic_link_ops::{LinkOps, OneNarrowWord, OneWord};
@@ -17,13 +17,13 @@ use ic_xor_linked_list::XorLinked;
 /// An XOR list, its links and its objects.
 pub(crate) type XorFixture = ListFixture<XorLinked, OneWord<Xor>>;
 
-/// The same over links of 4-byte words.
+/// An XOR list over links of 4-byte words, its links and its objects.
 pub(crate) type NarrowXorFixture = ListFixture<XorLinked, OneNarrowWord<Xor>>;
 
-// Notes where a cursor is, where a step back would lead it, where it is after that step, and what is after a copy of it.
+// Notes the member on which the cursor is, the member before it, the cursor's member after one step back, and the member after a copy of the cursor.
 fn write_read<K: DoubleEnded + BidirectionalLinks<L>, L: LinkOps>(
     notes: &mut Text,
-    mut cursor: Cursor<'_, Chain<K, u64>, L>,
+    mut cursor: Cursor<'_, LinkList<K, u64>, L>,
 )
     requires stands { reads.IsValid (IsValidAt (RepresentsChain K.Between K.kept) L.table K.Position.member K.Position.CachesNext) cursor }
 {
@@ -35,7 +35,7 @@ fn write_read<K: DoubleEnded + BidirectionalLinks<L>, L: LinkOps>(
     notes.add(Answer::Truth(cursor.is_null()), " ");
 }
 
-// A cursor at the back of five members.
+// A cursor at the back of an XOR list of five members must be on the member 4, and after one step back on the member 3.
 #[test]
 fn xor_linked_list(rt: HostRuntime) {
     let alloc = rt.alloc();

@@ -1,4 +1,4 @@
--- What a command does, and what its outcome means.
+-- What each command does to the table, and what its outcome says.
 use Rattle.std.specs.Prelude.{◌≡◌, ℕ, false, None, Some, is_some, IsSome, List, ◌∷◌, length, min, max}
 use Rattle.std.specs.List.{AllByRecursion}
 use Rattle.connections.specs.declared.connection.Connection.{Connection}
@@ -8,11 +8,11 @@ use Rattle.connection_desk.specs.declared.command.Command.TheVariants.{Open, Tou
 use Rattle.connection_desk.specs.declared.apply.Outcome.{Outcome}
 use Rattle.connection_desk.specs.declared.apply.Outcome.TheVariants.{Opened, Refused, Touched, Closed, Found, NotOpen, Now, Expired}
 
--- no connection has the id
+-- no connection of the table has the id
 abbrev pub Lacks : ℕ → Table → Type 0
 Lacks id table = is_some (connection_with id table.live) ≡ false
 
--- a connection was opened; touched; closed
+-- The connection with the id was opened, was touched, or was closed: `old` is the table before the command, and `new` is the table after it
 abbrev pub Opens : ℕ → Table → Table → Type 0
 Opens id old new = (connection_with id old.live ≡ None) × (new ≡ with_live old (seen_now id old ∷ old.live))
 
@@ -22,7 +22,8 @@ Touches id old new = IsSome (connection_with id old.live) × (new ≡ with_live 
 abbrev pub Closes : Connection → ℕ → Table → Table → Type 0
 Closes c id old new = (connection_with id old.live ≡ Some c) × (new ≡ with_live old (others_than id old.live))
 
--- `had` and `has` are the contents of the vector of closed connections before and after
+-- The command changes the table from `old` to `new` and ends with the outcome. `had` and `has` are the contents of the vector of closed connections
+-- before and after the command
 abbrev pub Does : Command → Outcome → List Connection → List Connection → Table → Table → Type 0
 Does (Open id) Opened had has old new = Opens id old new
 Does (Open id) (Refused error) had has old new = IsRefused error id old.live × (new ≡ old)

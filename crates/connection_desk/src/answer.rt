@@ -1,4 +1,4 @@
-//! The line that answers a command.
+//! The line of text that answers a command.
 
 use crate::apply::{Outcome, apply};
 use crate::command::Command;
@@ -6,7 +6,7 @@ use connections::{Connection, ConnectionTable, OpenError};
 use ic_keyed::Index;
 use std::alloc::{AllocError, Allocator, Global};
 
-/// Carries out a command, and writes how it ended.
+/// Carries out a command on the table, and returns a line of text that says how the command ended.
 pub fn answer<I: Index<Connection, A>, A: Allocator>(
     alloc: Global,
     table: &mut ConnectionTable<I, A>,
@@ -27,7 +27,7 @@ pub fn answer<I: Index<Connection, A>, A: Allocator>(
     }
 }
 
-// The ids of the closed connections, in their order.
+// Returns a line with the ids of the closed connections, in their order.
 fn list(alloc: Global, gone: &[Connection]) -> Result<String, AllocError> {
     let mut line = String::from_str(alloc, "expired")?;
     for connection in gone {

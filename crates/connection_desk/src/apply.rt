@@ -1,4 +1,4 @@
-//! What a command does to the table.
+//! Carries out commands on the table.
 
 ghost use Rattle.std.specs.Prelude.{IfOk};
 ghost use Rattle.connection_desk.specs.Does.{Does};
@@ -21,7 +21,7 @@ pub enum Outcome {
     Expired,
 }
 
-/// Carries out a command. It appends the connections that expire to `gone`.
+/// Carries out a command on the table, and returns how it ended. It appends the connections that expire to `gone`.
 pub fn apply<I: Index<Connection, A>, A: Allocator, C: Allocator>(
     table: &mut ConnectionTable<I, A>,
     command: Command,

@@ -1,4 +1,4 @@
--- The order of ages, over each call.
+-- Lemmas which show that each call maintains the order of ages: from the connection that was touched last to the oldest one.
 use Rattle.std.proofs.Common.{◌≡◌, ℕ, ◌+◌, ◌-◌, ◌≤◌, Bool, true, false, nat_lt, Option, None, Some, MatchOption, MatchBool, List, [], ◌∷◌, ◌++◌, reverse, filter, refl, sym, ap, ◌∙◌, subst, cond, arith, append-nil, append_assoc, length-append}
 use Rattle.std.specs.List.{AllByRecursion}
 use Rattle.std.proofs.lemmas.Bool.Decides.{nat_tests}
@@ -9,12 +9,12 @@ use Rattle.ic_keyed.proofs.KeyLemmas.{one_last}
 use Rattle.connections.specs.declared.connection.Connection.{Connection}
 use Rattle.connections.specs.Table.{Table, IsAged, IsActive, IsIdle, EndsIdle, Expires, ExpiresIdle, with_live}
 
--- what was not seen after a time was not seen after a later one
+-- if no connection was touched after the time `m`, then none was touched after the later time `n`
 pub aged_later : {m n : ℕ} (s : List Connection) → m ≤ n → IsAged m s → IsAged n s
 aged_later [] le aged = tt
 aged_later (c ∷ s) le aged = (omega (arith, le, aged.0), aged.1)
 
--- SOME ARE LEFT OUT
+-- SOME CONNECTIONS ARE REMOVED, and the others are still in the order of ages
 pub aged_filter : (m : ℕ) (test : Connection → Bool) (s : List Connection) → IsAged m s → IsAged m (filter test s)
 aged_filter m test [] aged = tt
 aged_filter m test (c ∷ s) aged = by (test c) (aged_filter c.seen test s aged.1) where
@@ -22,14 +22,14 @@ aged_filter m test (c ∷ s) aged = by (test c) (aged_filter c.seen test s aged.
   by true rest = (aged.0, rest)
   by false rest = aged_later (filter test s) aged.0 rest
 
--- THE LAST one is the oldest,
+-- THE LAST CONNECTION is the oldest: it was touched no later than any other connection
 pub oldest_last : {m : ℕ} {s : List Connection} {c : Connection} → EndsWith c s → IsAged m s → (c.seen ≤ m) × AllByRecursion (λ (d : Connection). c.seen ≤ d.seen) s
 oldest_last {m} {s} {c} e aged = subst (λ (s : List Connection). (c.seen ≤ m) × AllByRecursion (λ (d : Connection). c.seen ≤ d.seen) s) (sym e.1) (by m e.0 (subst (IsAged m) e.1 aged)) where
   by : (m : ℕ) (front : List Connection) → IsAged m (front ++ c ∷ []) → (c.seen ≤ m) × AllByRecursion (λ (d : Connection). c.seen ≤ d.seen) (front ++ c ∷ [])
   by m [] aged = (aged.0, (omega arith, tt))
   by m (x ∷ front) aged = let r = by x.seen front aged.1 in (omega (arith, r.0, aged.0), (r.0, r.1))
 
--- and may be taken out
+-- the other connections are in the order of ages if the last connection is removed
 aged_front : (m : ℕ) (front : List Connection) (c : Connection) → IsAged m (front ++ c ∷ []) → IsAged m front
 aged_front m [] c aged = tt
 aged_front m (x ∷ front) c aged = (aged.0, aged_front x.seen front c aged.1)
@@ -39,7 +39,7 @@ pub aged_popped : (m : ℕ) (old new : KeyedValues Connection) (popped : Option 
 aged_popped m old new None e aged = subst (λ (k : KeyedValues Connection). IsAged m k.values) (sym e.1) aged
 aged_popped m old new (Some c) e aged = aged_front m new.values c (subst (λ (k : KeyedValues Connection). IsAged m k.values) e aged)
 
--- so it says whether any is idle
+-- the last connection tells whether any connection was idle for longer than `limit`: either it is idle, or all connections are active
 pub idle_or_active : (limit : ℕ) (table : Table) {c : Connection} → IsAged table.clock table.live → EndsWith c table.live
     → MatchBool (nat_lt limit (table.clock - c.seen)) (EndsIdle limit table) (AllByRecursion (IsActive limit table.clock) table.live)
 idle_or_active limit table {c} aged e = by (nat_lt limit (table.clock - c.seen)) refl where
@@ -49,7 +49,7 @@ idle_or_active limit table {c} aged e = by (nat_lt limit (table.clock - c.seen))
       let active : table.clock - c.seen ≤ limit = grind (arith, nat_tests) in
       all_map {P = λ (d : Connection). c.seen ≤ d.seen} (λ d le. omega (arith, le, active)) table.live (oldest_last e aged).1
 
--- SO MANY ARE CLOSED, and one more
+-- NO CONNECTION IS CLOSED at the beginning. A further lemma says that `k + 1` connections are closed if `k` were closed and then one more is
 pub expires_none : {had : List Connection} {table : Table} → Expires 0 had had table table
 expires_none {had} {table} = record { gone = []; many = refl; out = sym (append-nil had); were = ap (with_live table) (sym (append-nil table.live)) }
 

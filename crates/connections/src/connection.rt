@@ -1,13 +1,13 @@
-//! A connection.
+//! Open connections, which are the objects that a table contains.
 
 use ic_keyed::HasKey;
 
 /// A connection that is open.
 #[derive(Clone, Copy, PartialEq, Eq, Debug)]
 pub struct Connection {
-    /// The id by which the connection is found.
+    /// The id by which a search finds the connection.
     pub id: u64,
-    /// The time when it was opened or last touched.
+    /// The time when the connection was opened or last touched.
     pub seen: u64,
 }
 

@@ -1,4 +1,4 @@
-//! Connections by their ids, of which those that have been idle for longest are closed first.
+//! A table of connections, which are found by their ids. The connections that have been idle for longest are closed first.
 //!
 //! ```text
 //! let mut table = ConnectionTable::new(rt.alloc());

@@ -1,4 +1,4 @@
-//! The table of connections.
+//! The type `ConnectionTable` and its calls.
 //!
 //! ```text
 //! let mut table = ConnectionTable::new(rt.alloc());
@@ -20,15 +20,15 @@ use std::marker::Model;
 
 /// Connections that are open, and a clock.
 ///
-/// A contract sees them from the one that was touched last to the one that has been idle for longest. No two have the same id, none was touched
-/// earlier than one that comes after it, and none later than the clock's time (`IsSound`).
+/// A contract sees them from the one that was touched last to the one that has been idle for longest. No two connections have the same id. None was
+/// touched earlier than a connection that comes after it, and none was touched later than the clock's time (`IsSound`).
 #[derive(Drop)]
 pub struct ConnectionTable<I: Index<Connection, A>, A: Allocator = Global> {
     live: Keyed<Connection, I, A>,
     clock: u64,
 }
 
-/// Connections that are found by a tree, in O(log n).
+/// A table whose index is a tree, so that it finds a connection in O(log n).
 pub type TreeConnections<A = Global> = ConnectionTable<RBTree<ByKey<Connection>>, A>;
 
 impl<I: Index<Connection, A>, A: Allocator> Model for ConnectionTable<I, A> {
@@ -84,9 +84,9 @@ impl<I: Index<Connection, A>, A: Allocator> ConnectionTable<I, A> {
         self.live.peek(id)
     }
 
-    /// Opens a connection, which then is the one that was touched last.
+    /// Opens a connection with the id, which is then the connection that was touched last.
     ///
-    /// It is refused if one with the id is open, or if there is no room for one more. Then nothing has changed.
+    /// The call is refused if a connection with the id is open, or if there is no room for one more connection. Then nothing has changed.
     pub fn open(&mut self, id: u64) -> Result<(), OpenError>
         ensures opened { OnOk result ((connection_with id self.old.live ≡ None) × (self.new ≡ with_live self.old (seen_now id self.old ∷ self.old.live))) }
         ensures refused { IfErr result (λ error. IsRefused error id self.old.live × (self.new ≡ self.old)) }
@@ -103,7 +103,7 @@ impl<I: Index<Connection, A>, A: Allocator> ConnectionTable<I, A> {
         Ok(())
     }
 
-    /// Touches the connection with the id, so that all others have been idle for longer, and returns whether there is one. It takes no memory.
+    /// Touches the connection with the id, so that it is the one that was touched last, and returns whether there is one. It takes no memory.
     pub fn touch(&mut self, id: u64) -> bool
         ensures found { result ≡ is_some (connection_with id self.old.live) }
         ensures touched { MatchBool result (self.new ≡ with_live self.old (seen_now id self.old ∷ others_than id self.old.live)) (self.new ≡ self.old) }
@@ -134,7 +134,7 @@ impl<I: Index<Connection, A>, A: Allocator> ConnectionTable<I, A> {
         self.clock
     }
 
-    /// Moves the clock forward to a time. It never goes back.
+    /// Moves the clock forward to the time. If the time is earlier than the clock's, the clock stays.
     pub fn advance_to(&mut self, time: u64)
         ensures clock { self.new.clock ≡ max self.old.clock time }
         ensures live { self.new.live ≡ self.old.live }
@@ -144,17 +144,17 @@ impl<I: Index<Connection, A>, A: Allocator> ConnectionTable<I, A> {
         }
     }
 
-    /// Closes the connection that has been idle for longest, if there is one. It takes no memory.
+    /// Closes the connection that has been idle for longest and returns it, if there is one. It takes no memory.
     pub fn close_oldest(&mut self) -> Option<Connection>
         ensures { MatchOption result ((self.old.live ≡ []) × (self.new ≡ self.old)) (λ oldest. self.old ≡ with_live self.new (self.new.live ++ oldest ∷ [])) }
     {
         self.live.pop_last()
     }
 
-    /// Closes the `count` connections that have been idle for longest, or all if there are fewer. It appends them to `gone`, beginning with the one
-    /// that was idle for longest.
+    /// Closes the `count` connections that have been idle for longest, or all connections if there are fewer. It appends them to `gone`, beginning
+    /// with the one that was idle for longest.
     ///
-    /// If `gone` cannot grow, it contains the connections that were closed up to then, and all others are still open.
+    /// If `gone` cannot grow, it contains the connections that were closed up to then, and all other connections are still open.
     pub fn expire<C: Allocator>(
         &mut self,
         count: u64,
@@ -173,7 +173,7 @@ impl<I: Index<Connection, A>, A: Allocator> ConnectionTable<I, A> {
         Ok(())
     }
 
-    /// Returns whether a connection has been idle for longer than this.
+    /// Returns whether some connection has been idle for longer than `limit`.
     pub fn is_any_idle(&self, limit: u64) -> bool
         ensures { MatchBool result (EndsIdle limit self.now) (AllByRecursion (IsActive limit self.now.clock) self.now.live) }
     {
@@ -183,9 +183,9 @@ impl<I: Index<Connection, A>, A: Allocator> ConnectionTable<I, A> {
         }
     }
 
-    /// Closes all connections that have been idle for longer than this. It appends them to `gone`, beginning with the one that was idle for longest.
+    /// Closes all connections that have been idle for longer than `limit`. It appends them to `gone`, beginning with the one that was idle for longest.
     ///
-    /// If `gone` cannot grow, it contains the connections that were closed up to then, and all others are still open.
+    /// If `gone` cannot grow, it contains the connections that were closed up to then, and all other connections are still open.
     pub fn expire_idle<C: Allocator>(
         &mut self,
         limit: u64,

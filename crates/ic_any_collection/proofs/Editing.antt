@@ -1,4 +1,5 @@
--- Edits of a collection and moves of its cursor: what the call of a kind says, in the words of all kinds.
+-- Edits of a collection and moves of its cursor: from the contract of a kind's own call follows what the collection's call ensures, whatever the
+-- kind.
 use Rattle.std.proofs.Common.{◌≡◌, ◌∙◌, Bool, true, false, is_some, ap, Option, Some, None, List, [], ◌∷◌, refl, sym, subst, append-nil}
 use Rattle.std.specs.Bool.{OnTrue, OnFalse}
 use Rattle.ic_link_ops.specs.Prelude.{Place, Cut, join, at_front, at_back, first, last, IsAfter, IsBefore, Table, IsLinked, site, LinkStep, acquires, releases, ChangesOnlyIn, MovesOn, MovesBack}
@@ -22,25 +23,26 @@ use Rattle.ic_any_collection.specs.Edits.{AtGap, Moves, Puts, Swaps, TakesIfAny,
 use Rattle.ic_any_collection.proofs.Standing.{gap_after_cursor, gap_before_cursor}
 use Rattle.ic_any_collection.proofs.Made.{IsMade}
 
--- what the table of a field says of a link that it refuses
+-- an insertion of p is refused if p is linked in the table of the field, and then the table is as before
 abbrev pub Refused : {L M : Type 0} → (L → AnyTable M) → L → L → Place → Type 0
 Refused field old new p = IsLinked is_linked (table_in (field old)) p × (new ≡ old)
 
--- GAPS. The one that is meant is there,
+-- the members of a collection that the table keeps can be cut at the gap that a call names
 pub gap_there : {V : Type 0} {t : Table Entry} (gap : Gap) (m : AnyCollection V) → Held t m → AtGap (members_in t m) (IsGapAt gap (cursor_in m))
 gap_there Front m held = (at_front _, refl, refl)
 gap_there Back m held = (at_back _, append-nil _, refl)
 gap_there Before m held = gap_before_cursor m held
 gap_there After m held = gap_after_cursor m held
 
--- beside the position from which the edit is made
+-- the gap that a call names is directly after or before the position from which the edit is made
 pub gap_beside : (gap : Gap) (cursor : Option Place) (cut : Cut) → IsGapAt gap cursor cut → beside (is_after gap) cut (rests gap cursor)
 gap_beside Front cursor cut h = h
 gap_beside Back cursor cut h = h
 gap_beside Before cursor cut h = h
 gap_beside After cursor cut h = h
 
--- a kind that leads both ways has its members swapped at the cursor alone, one that leads on after it alone; and a tree has them taken out there
+-- which gaps are possible: all kinds except singly linked lists replace only the member that the cursor is on, and singly linked lists only the
+-- member after the cursor. A tree removes only the member that the cursor is on, and a singly linked list inserts only after a position
 pub replaced_before : (gap : Gap) (k : Kind) → is_singly k ≡ false → can_replace gap k ≡ true → gap ≡ Before
 replaced_before Front k both can = cc
 replaced_before Back k both can = cc
@@ -65,7 +67,7 @@ inserted_after Back can = cc
 inserted_after Before can = cc
 inserted_after After can = refl
 
--- something is there
+-- a position that is not none is some place
 some_there : (o : Option Place) → (o ≡ None → ⊥) → true ≡ is_some o
 some_there None some = absurd (some refl)
 some_there (Some p) some = refl
@@ -75,14 +77,14 @@ module _ {V L M E H C P : Type 0} {made : C → P → AnyCollection V} {own : L 
   abbrev table : L → Table Entry
   table links = table_in (field links)
 
-  -- the collection, and its members, before the call
+  -- the members of the collection before the call
   abbrev members : L → C → P → List Place
   members links c at = members_in (table links) (made c at)
 
   shown_cut : (links : L) {c : C} {at : P} → Held (table links) (made c at) → (gap : Cut) → join gap ≡ members links c at → Represents (own links) (head_of c) (join gap)
   shown_cut links {c} {at} held gap same = rw same (kind_of.shown links c at (members links c at) held.shown)
 
-  -- THE COLLECTION IS KEPT where its table represents a sequence and its position stands; the cursor is on the member of that,
+  -- THE NEW TABLE KEEPS THE COLLECTION if it represents a sequence u for the collection's head, and the cursor's position is valid in it
   keeps : {t : Table Entry} {links : L} {c c' : C} {at at' : P} {s u : List Place} → Keeps t (made c at) s → (table links).extent ≡ t.extent
       → Represents (own links) (head_of c') u → IsValid links c' at' → Keeps (table links) (made c' at') u
   keeps {links = links} {c = c} {c' = c'} {at = at} {at' = at'} {u = u} held extent shown valid = record {
@@ -91,7 +93,7 @@ module _ {V L M E H C P : Type 0} {made : C → P → AnyCollection V} {own : L 
     stands = kind_of.stands links c' at' u shown valid;
   }
 
-  -- and moves there, where neither the table nor the head is another,
+  -- if neither the table nor the head of the collection changes, a call that sets a new valid position only moves the cursor there
   pub moves : {links : L} {c c' : C} {at at' : P} {cursor : Option Place} → Held (table links) (made c at) → head_of c' ≡ head_of c → IsValid links c' at' → member at' ≡ cursor
       → Moves (table links) (made c at) (made c' at') cursor
   moves {links} {c} {c'} {at} {at'} held same valid is = record {
@@ -100,7 +102,7 @@ module _ {V L M E H C P : Type 0} {made : C → P → AnyCollection V} {own : L 
     cursor_is = kind_of.position c' at' ∙ is;
   }
 
-  -- or stays where its position does
+  -- if the head of the collection and the position do not change, the collection and its cursor stay as they are
   stays : (links : L) {c c' : C} {at at' : P} → Held (table links) (made c at) → head_of c' ≡ head_of c → at' ≡ at → Moves (table links) (made c at) (made c' at') (cursor_in (made c at))
   stays links {c} {c'} {at} {at'} held same there = record {
     kept = record {
@@ -112,34 +114,34 @@ module _ {V L M E H C P : Type 0} {made : C → P → AnyCollection V} {own : L 
     cursor_is = kind_of.position c' at' ∙ ap member there ∙ sym (kind_of.position c at);
   }
 
-  -- WHAT THE KIND'S CALLS ASK: the cursor's position stands,
+  -- WHAT THE KIND'S CALLS REQUIRE: the position of the cursor is valid if the table keeps the collection
   pub at_cursor : {links : L} {c : C} {at : P} → Held (table links) (made c at) → IsValid links c at
   at_cursor {links} {c} {at} held = kind_of.valid links c at (members links c at) (kind_of.shown links c at (members links c at) held.shown) held.stands
 
-  -- and that from which an edit is made
+  -- the position from which an edit is made is valid if the table keeps the collection
   pub at_start : {links : L} {c : C} {at : P} (null : P) (gap : Gap) → Held (table links) (made c at) → ((s : List Place) → IsCursorIn s (made c null)) → IsValid links c (from gap null at)
   at_start {links} {c} {at} null Front held nulls = kind_of.valid links c null (members links c at) (kind_of.shown links c at (members links c at) held.shown) (nulls (members links c at))
   at_start {links} {c} {at} null Back held nulls = kind_of.valid links c null (members links c at) (kind_of.shown links c at (members links c at) held.shown) (nulls (members links c at))
   at_start null Before held nulls = at_cursor held
   at_start null After held nulls = at_cursor held
 
-  -- the gap that is meant, beside the position
+  -- the members of a kept collection can be cut at the gap that a call names. The gap is found from the member of the position
   at_gap : (links : L) {c : C} {at : P} (gap : Gap) → Held (table links) (made c at) → AtGap (members links c at) (IsGapAt gap (member at))
   at_gap links {c} {at} gap held = subst (λ x. AtGap (members links c at) (IsGapAt gap x)) (kind_of.position c at) (gap_there gap (made c at) held)
 
-  -- A MOVE on,
+  -- A MOVE FORWARD by the kind's own call puts the collection's cursor on the next member, or to null after the last member
   pub goes_on : {links : L} {c : C} {at at' : P} → MovesOn Represents own (site links (head_of c) (member at)) (member at') → IsValid links c at' → Held (table links) (made c at)
       → AtGap (members links c at) (λ gap. IsAfter gap (member at) × Moves (table links) (made c at) (made c at') (first gap.back))
   goes_on e valid held =
       let g = at_gap _ After held in (g.0, g.1, (g.2, moves held refl valid (e.leads g.0 (shown_cut _ held g.0 g.1) g.2)))
 
-  -- and back
+  -- a move back by the kind's own call puts the collection's cursor on the previous member, or to null before the first member
   pub goes_back : {links : L} {c : C} {at at' : P} → MovesBack Represents own (site links (head_of c) (member at)) (member at') → IsValid links c at' → Held (table links) (made c at)
       → AtGap (members links c at) (λ gap. IsBefore gap (member at) × Moves (table links) (made c at) (made c at') (last gap.front))
   goes_back e valid held =
       let g = at_gap _ Before held in (g.0, g.1, (g.2, moves held refl valid (e.leads g.0 (shown_cut _ held g.0 g.1) g.2)))
 
-  -- AN INSERT,
+  -- AN INSERTION by the kind's own call inserts p into the collection, if the link of p was acquired
   module _ {T : Type 0} {gap : Gap} {p : Place} {links links' : L} {c c' : C} {at at' : P} where
     pub inserts : {acquired : Bool} → InsertsInGap Represents own Trace IsValid head_of member T (Refused field) gap p acquired links links' c c' at at' → Held (table links) (made c at)
         → OnTrue acquired (AtGap (members links c at) (λ cut. IsGapAt gap (member at) cut × Puts (table links) (table links') (made c at) (made c' at') cut p (rests gap (member at))))
@@ -164,13 +166,13 @@ module _ {V L M E H C P : Type 0} {made : C → P → AnyCollection V} {own : L 
         )
     inserts {acquired = false} e held = tt
 
-    -- which a linked object refuses
+    -- if the link of p was not acquired, p was linked already, and nothing has changed
     pub inserts_not : {acquired : Bool} → InsertsInGap Represents own Trace IsValid head_of member T (Refused field) gap p acquired links links' c c' at at' → Held (table links) (made c at)
         → OnFalse acquired (IsLinked is_linked (table links) p × IsUnchanged (field links) (field links') (made c at) (made c' at'))
     inserts_not {acquired = true} e held = tt
     inserts_not {acquired = false} e held = (e.made.refused.0, (ap field e.made.refused.1, stays _ held e.made.unchanged.1 e.stays))
 
-  -- A REMOVAL
+  -- A REMOVAL by the kind's own call removes the member after the gap from the collection, if there is one
   pub removes : {gap : Gap} {out : Option Place} {links links' : L} {c c' : C} {at at' : P} → RemovesInGap Represents own Trace IsValid head_of member gap out links links' c c' at at' → Held (table links) (made c at)
       → AtGap (members links c at) (λ cut. IsFrontOf gap (members links c at) (member at) cut × (out ≡ first cut.back) × TakesIfAny (field links) (field links') (made c at) (made c' at') cut (onward gap (member at) cut) out)
   removes {gap} {out = None} {links} {links'} {c} {c'} {at} {at'} e held =
@@ -198,7 +200,7 @@ module _ {V L M E H C P : Type 0} {made : C → P → AnyCollection V} {own : L 
         ),
       )
 
-  -- what a swap that is refused leaves, and one that is not
+  -- `unchanged`: a replacement that is refused changes nothing. `swapped`: a replacement that is done puts p in the position of `out`
   unchanged : {links links' : L} {c c' : C} {at at' : P} → Held (table links) (made c at) → IsValid links' c' at' → links' ≡ links → head_of c' ≡ head_of c → member at' ≡ member at
       → IsUnchanged (field links) (field links') (made c at) (made c' at')
   unchanged {c = c} {c' = c'} {at = at} {at' = at'} held valid same head there = (ap field same, moves held head (subst (λ l. IsValid l c' at') same valid) (there ∙ sym (kind_of.position c at)))
@@ -214,7 +216,7 @@ module _ {V L M E H C P : Type 0} {made : C → P → AnyCollection V} {own : L 
         links = kind_of.traced links links' _ exchanged;
       }
 
-  -- A SWAP of the member that the cursor is on,
+  -- A REPLACEMENT of the member that the cursor is on, by the kind's own call, replaces this member of the collection
   module _ {T : Type 0} {p : Place} {links links' : L} {c c' : C} {at at' : P} (held : Held (table links) (made c at)) (valid : IsValid links' c' at') where
     pub replaces : {gap : Gap} → gap ≡ Before → (out : Option Place) (acquired : Bool) → out ≡ member at
         → ReplacesThere Represents own Trace {T = T} (Refused field) (site links (head_of c) (member at)) p (replaced (member at) p acquired) (site links' (head_of c') (member at'))
@@ -237,7 +239,7 @@ module _ {V L M E H C P : Type 0} {made : C → P → AnyCollection V} {own : L 
             let there = sym g.2 ∙ e.answer in
             (g.0, g.1, (g.2, sym (ap is_some there), swapped _ held valid g.0 g.1 there e.moved (e.replaced g.0 (shown_cut _ held g.0 g.1) g.2) e.exchanged))
 
-    -- and of the one after it
+    -- a replacement of the member after the cursor, by the kind's own call, replaces this member of the collection
     pub replaces_after : {gap : Gap} → gap ≡ After → (out : Option Place) (acquired : Bool)
         → ReplacesNext Represents own Trace {T = T} (Refused field) (site links (head_of c) (member at)) p (replaced out p acquired) (site links' (head_of c') (member at'))
         → AtGap (members links c at) (λ cut. IsFrontOf gap (members links c at) (member at) cut × (is_some out ≡ is_some (first cut.back))

@@ -1,4 +1,4 @@
--- Edits at a gap, in the words of a kind: what its calls say of them.
+-- Removals at a gap, for one kind: each removal of the kind's own contracts removes the member that the gap names.
 use Rattle.std.proofs.Common.{◌≡◌, ◌∙◌, true, ap, Option, Some, None, IfSome, IfNone, OnSome, List, [], ◌∷◌, refl, sym, append-nil}
 use Rattle.ic_link_ops.specs.Prelude.{Place, Cut, join, remove, at_front, but_last, first, last, IsAfter, Table, ChangesOnlyIn, CursorState, site, LinkStep, releases}
 use Rattle.ic_link_ops.specs.Edits.{Removes}
@@ -12,7 +12,7 @@ use Rattle.ic_any_collection.specs.Gaps.{can_remove, rests, onward, IsGapAt, IsF
 use Rattle.ic_any_collection.specs.GapEdits.{RemovesInGap}
 use Rattle.ic_any_collection.specs.Edits.{AtGap}
 
--- a list that leads on alone has its members taken out at gaps after a position
+-- a singly linked list removes members only at a gap that is after a position, and the removed member is the one after this gap
 after_there : (gap : Gap) → can_remove gap kind.Singly ≡ true → (cursor : Option Place) (cut : Cut) → IsGapAt gap cursor cut → IsAfter cut (rests gap cursor)
 after_there Front can cursor cut h = h
 after_there Back can cursor cut h = absurd (cc)
@@ -41,7 +41,7 @@ on_some (Some p) x = x
 
 module _ {L E H C P : Type 0} {Represents : Table E → H → List Place → Type 0} {table : L → Table E} {Trace : L → L → List LinkStep → Type 0}
     {IsValid : L → C → P → Type 0} {head_of : C → H} {member : P → Option Place} {links links' : L} {c c' : C} {at : P} {out : Option Place} where
-  -- A REMOVAL of the member that the position is on,
+  -- A REMOVAL of the member that the cursor is on is a removal at the gap `Before`
   pub removes_there : {at' : P} {gap : Gap} → gap ≡ Before → RemovesThere Represents table Trace (site links (head_of c) (member at)) out (site links' (head_of c') (member at'))
       → IsValid links' c' at' → RemovesInGap Represents table Trace IsValid head_of member gap out links links' c c' at at'
   removes_there {at' = at'} is e valid = rw is (by e) where
@@ -54,7 +54,7 @@ module _ {L E H C P : Type 0} {Represents : Table E → H → List Place → Typ
       stands = valid;
     }
 
-  -- and of the one after a position, where the cursor goes
+  -- a removal of the member after a position is a removal at the gap after this position, and the cursor is then at the position
   pub removes_after : (start : P) {there : P} (gap : Gap) → can_remove gap kind.Singly ≡ true → member start ≡ rests gap (member at)
       → RemovesNext Represents table Trace (site links (head_of c) (member start)) out (site links' (head_of c') (member there))
       → IsValid links' c' there → RemovesInGap Represents table Trace IsValid head_of member gap out links links' c c' at there
@@ -68,12 +68,12 @@ module _ {L E H C P : Type 0} {Represents : Table E → H → List Place → Typ
     stands = valid;
   }
 
--- A LIST'S POSITION AT NULL stands, whatever it keeps
+-- A POSITION AT NULL is valid in every list that a table represents, whatever place it stores as the next one
 pub stands_at_null : {L E H P : Type 0} {Represents : Table E → H → List Place → Type 0} {table : L → Table E} {member : P → Option Place} {CachesNext : P → Option Place → Type 0} {links : L} {list : H} {at : P}
     (s : List Place) → Represents (table links) list s → member at ≡ None → IsValidAt Represents table member CachesNext links list at
 stands_at_null s shown null = record { gap = at_front s; shown = shown; after = null; caches = λ q is. absurd (none_not q (sym null ∙ is)) }
 
--- THE FIRST MEMBER, and the last, is taken out, and the cursor goes to null
+-- THE FIRST OR THE LAST MEMBER of a list is removed by a removal at the gap `Front` or `Back`, and the cursor is then at null
 module _ {L E H P : Type 0} {Represents : Table E → H → List Place → Type 0} {table : L → Table E} {Trace : L → L → List LinkStep → Type 0}
     {IsValid : L → H → P → Type 0} {member : P → Option Place} {links links' : L} {list list' : H} {at at' : P} (out : Option Place)
     (released : IfSome out (λ p. Trace links links' (releases p ∷ []))) (empty : IfNone out ((list' ≡ list) × (links' ≡ links)))

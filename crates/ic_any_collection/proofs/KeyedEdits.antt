@@ -1,4 +1,4 @@
--- Edits by key: what the calls of a tree give, in the words of all kinds, and that the cursor is moved after an edit.
+-- Insertions by key: from the contract of a tree's own call follows what the collection's call ensures. The cursor is moved after the insertion.
 use Rattle.std.proofs.Common.{◌≡◌, ◌∙◌, Bool, true, false, cond, append_assoc, Option, Some, None, List, [], ◌∷◌, ◌++◌, drop, refl, sym, ap, subst}
 use Rattle.std.specs.Prelude.{⊤}
 use Rattle.std.specs.Bool.{OnTrue, OnFalse}
@@ -30,11 +30,11 @@ use Rattle.ic_any_collection.specs.TreeTables.{is_linked as own_linked}
 use Rattle.ic_any_collection.proofs.OwnTrees.{of_field, to_own, step_in_field, inserts_in_field, in_order_in_field}
 use Rattle.ic_any_collection.proofs.Standing.{before_at}
 
--- a member of a sequence is a position of it
+-- a cursor can be on each member of a sequence
 on_it : {s : List Place} (front : List Place) (p : Place) (back : List Place) → front ++ p ∷ back ≡ s → IsAt s (Some p)
 on_it front p back same = (record { front = front ++ p ∷ []; back = back }, append_assoc front (p ∷ []) back ∙ same, sym (last_of_push front p))
 
--- p IS PUT INTO A TREE, as its insert gives it
+-- p IS INSERTED INTO A COLLECTION that is a tree, if the tree's own call inserted p and the cursor was then put to `cursor`
 pub puts_in_tree : {V : Type 0} {t t' : Table Entry} {l l' : RBTree (Unkeyed V) (Option Place)} {at at' : Option Place} {gap : Cut} {p : Place} {cursor : Option Place}
     → Held {V = V} t (Tree l at) → join gap ≡ members_in {V = V} t (Tree l at) → Inserts (tree.Represents node) t t' (root_of l') gap p
     → LinksAlso is_linked t t' p → IsAt (insert gap p) cursor → at' ≡ cursor
@@ -49,7 +49,7 @@ puts_in_tree {t = t} {t' = t'} {p = p} held same put links at there = record {
   links = links;
 }
 
--- a position of the members is one of them with p,
+-- a position of a cursor in s is also a position in the sequence with p inserted
 still_at : {s : List Place} (gap : Cut) (p : Place) → join gap ≡ s → (at : Option Place) → IsAt s at → IsAt (insert gap p) at
 still_at gap p same None at = (at_front _, refl, refl)
 still_at {s} gap p same (Some q) at =
@@ -60,7 +60,8 @@ still_at {s} gap p same (Some q) at =
     let k = member_split q (insert gap p) there in
     on_it k.0 q k.1 (sym k.2)
 
--- and in order, while the cursor stays, or goes to the object. `t`, `t'`: the tree's own table before and then. `l'`: the tree then
+-- p is inserted in the order of keys, and the cursor stays or goes to p. `t` and `t'` are the tree's own table before and after the call, and `l'` is
+-- the tree after the call
 module _ {V : Type 0} {t t' : Table (Link ThreeWords ⊤)} {l l' : RBTree (Unkeyed V) (Option Place)} {at : Option Place} (held : Held {V = V} (of_field t) (Tree l at)) (by : Place → Ordering) (p : Place) where
   put_in_order : {at' cursor : Option Place} → InsertsInOrder (tree.Represents node_of) by t t' (root_of l') (members_in {V = V} (of_field t) (Tree l at)) p → LinksAlso own_linked t t' p
       → ((gap : Cut) → join gap ≡ members_in {V = V} (of_field t) (Tree l at) → IsAt (insert gap p) cursor) → at' ≡ cursor
@@ -83,7 +84,7 @@ module _ {V : Type 0} (acquired : Bool) where
     of true put links = put_in_order held by p (put _ (to_own held.shown)) links (λ gap same. still_at gap p same at held.stands) refl
     of false put links = tt
 
-  -- A REFUSAL leaves all as it was
+  -- AN INSERTION THAT IS REFUSED leaves the collection and its table as they were
   pub put_stays : {L M : Type 0} (table : L → Table Entry) (field : L → AnyTable M) (old new : L) (l l' : RBTree (Unkeyed V) (Option Place)) (at : Option Place) (Linked Asked : Type 0) → Held {V = V} (table old) (Tree l at)
       → OnFalse acquired (Linked × Asked) → OnFalse acquired ((l' ≡ l) × (new ≡ old)) → OnFalse acquired (Linked × Asked × ((field new ≡ field old) × Moves {V = V} (table old) (Tree l at) (Tree l' at) at))
   put_stays {M = M'} table field old new l l' at Linked Asked held = of acquired where
@@ -97,7 +98,7 @@ pub vacant_one : {A L V K : Type 0} (entry : TreeEntry A L (Option Place) V K) �
 vacant_one (Occupied c) other = absurd (other c refl)
 vacant_one (Vacant v) other = (v, refl)
 
--- WHAT AN EDIT THROUGH A BORROW LEFT: the root and the table that the borrow ended as are those that the edit answered
+-- AFTER AN EDIT THROUGH A BORROW, the root and the table are those with which the borrow ended, and so what the edit ensures holds of them
 module _ {t t' : Table (Link ThreeWords ⊤)} {root root' : Option Place} where
   pub inserts_left : {old old' : Table (Link ThreeWords ⊤)} {gap : Cut} {p p' : Place} → old ≡ old' → p ≡ p' → Inserts (tree.Represents node_of) old t root gap p
       → t' ≡ t → root' ≡ root → Inserts (tree.Represents node_of) old' t' root' gap p'
@@ -106,7 +107,7 @@ module _ {t t' : Table (Link ThreeWords ⊤)} {root root' : Option Place} where
 pub links_left : {old old' t t' : Table (Link ThreeWords ⊤)} {p p' : Place} → old ≡ old' → p ≡ p' → LinksAlso own_linked old t p → t' ≡ t → LinksAlso own_linked old' t' p'
 links_left same place linked table = rw (table, ← same, ← place) linked
 
--- A MEMBER WITH THE KEY is found, and the cursor is moved there
+-- A MEMBER WITH THE KEY was found, and the cursor moves to this member
 passed : (test : Place → Bool) (o : Option Place) {p : Place} → Some p ≡ if_passes test o → Some p ≡ o
 passed test None e = e
 passed test (Some q) {p} e = by (test q) e where
@@ -123,7 +124,7 @@ moves_to_key {by = by} {p = p} held found same there =
       cursor_is = there;
     }
 
--- AN OBJECT IS PUT where the key would stand, and the cursor is put on it
+-- AN OBJECT IS INSERTED into the gap where the searched key belongs, and the cursor is put on the object
 pub puts_at_key : {V : Type 0} (by : Place → Ordering) {t t' : Table (Link ThreeWords ⊤)} {l l' : RBTree (Unkeyed V) (Option Place)} {at at' : Option Place} {p : Place} → Held {V = V} (of_field t) (Tree l at)
     → AtGap (members_in {V = V} (of_field t) (Tree l at)) (λ gap. IsVacantFor by gap × Inserts (tree.Represents node_of) t t' (root_of l') gap p) → LinksAlso own_linked t t' p
     → at' ≡ Some p → PutsAtKey {V = V} by (of_field t) (of_field t') (Tree l at) (Tree l' at') p (Some p)

@@ -1,4 +1,4 @@
--- Searches by key: that the cursor is put on a member.
+-- Searches by key: the position that a search of a tree returns is null or a member.
 use Rattle.std.proofs.Common.{◌≡◌, Option, Some, None, IfSome, List}
 use Rattle.std.specs.Prelude.{⊤}
 use Rattle.ic_link_ops.specs.Prelude.{Place, IsBefore, IsValidCursor, site}
@@ -22,7 +22,7 @@ on_member : {s : List Place} (position : Option Place) → IsAt s position → I
 on_member None at = tt
 on_member (Some p) at = before_at at
 
--- so it is for that of a cursor that a search gives
+-- the position of a cursor that a search of the tree returns is a member, if it is not null
 pub found_member : {V M : Type 0} {links : PlainTable ThreeWords M ⊤} {l : RBTree (Unkeyed V) (Option Place)} {s : List Place} {at : Option Place} (c : Cursor (Unkeyed V) (PlainTable ThreeWords M ⊤) V (Option Place))
     → Represents node_of (table_in links) (root_of l) s → IsValidCursor (Represents node_of) table_in (site_of c) → tree_of c ≡ l → links_of c ≡ links → at ≡ position c
     → IfSome at (λ p. AtGap s (λ gap. IsBefore gap (Some p)))

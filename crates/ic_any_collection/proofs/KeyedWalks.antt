@@ -1,4 +1,4 @@
--- What a walk has left: a cursor goes along with it, and gives the places.
+-- How the places of a walk are listed: a cursor goes along with the walk, and each place that it is on is appended to a list.
 use Rattle.std.proofs.Common.{◌≡◌, ◌∙◌, ◌+◌, Bool, true, false, ℕ, Result, Ok, Err, IfOk, Option, Some, None, IsSome, List, [], ◌∷◌, ◌++◌, length, refl, sym, ap, subst, arith, append_assoc, append-nil}
 use Rattle.std.specs.List.{cons_option}
 use Rattle.std.specs.declared.vec.Vec.{Vec}
@@ -13,7 +13,7 @@ use Rattle.ic_rbtree.specs.declared.iter.Iter.{Iter}
 use Rattle.ic_rbtree.specs.Iter.{rest_of, objects_left, CanWalk}
 use Rattle.ic_rbtree.proofs.Walking.{walk_members}
 
--- as many objects as places
+-- the walk has as many objects left as members, because there is an object at the place of each member
 one_more : {V : Type 0} (o : Option V) {n : ℕ} (vs : List V) → IsSome o → n ≡ length vs → n + 1 ≡ length (cons_option o vs)
 one_more None vs some e = absurd (cc)
 one_more (Some v) vs some e = omega (arith, e)
@@ -28,7 +28,8 @@ pub walk_count : {A L O V K E : Type 0} (node : E → Node) (table : L → Table
 walk_count node table values law walk can =
     rw (walk_members node (table walk.links.now) (law walk.links.now) can.1) (left_count (values walk.objects.now) can.0 can.2)
 
--- WHAT IS LISTED, and what is left of the whole: as many places as the walk has objects left, the first of which the cursor is on
+-- THE LIST DURING A WALK: `places` are the listed members of `whole`, and `rest` are the others. There are as many members in `rest` as the walk has
+-- objects left. The cursor is on the first of them, or after the last one if `rest` is empty
 pub record Lists {E V : Type 0} (node : E → Node) (t : Table E) (root : Option Place) (whole places : List Place) (position : Option Place) (left : List V) : Type 0 where
   pub front : List Place
   pub rest : List Place
@@ -65,12 +66,12 @@ module _ {E V : Type 0} {node : E → Node} {t : Table E} {root : Option Place} 
   }
 
   module _ {places : List Place} {position : Option Place} {left : List V} (l : Lists node t root whole places position left) where
-    -- all is listed
+    -- if the walk has no object left, all members of `whole` are listed
     pub lists_all : left ≡ [] → places ≡ whole
     lists_all none = sym (append-nil places) ∙ sym (ap (λ r. places ++ r) (no_more l.rest l.count none)) ∙ l.listed
 
     module _ {v : V} {vs : List V} (more : left ≡ v ∷ vs) where
-      -- the cursor is on the next one,
+      -- if the walk has an object left, the cursor is on the next member to list
       pub next : (p : Place) × (r : List Place) × (l.rest ≡ p ∷ r) × (length r ≡ length vs)
       next = some_more l.rest l.count more
 
@@ -80,7 +81,7 @@ module _ {E V : Type 0} {node : E → Node} {t : Table E} {root : Option Place} 
       pub is_there : IsSome position
       is_there = subst IsSome (sym position_is) refl
 
-      -- which is listed, as the cursor goes on
+      -- the member that the cursor is on is appended to the list, and the cursor moves to the next member
       pub lists_next : {q : Place} {places' : List Place} {position' : Option Place} → position ≡ Some q → places' ≡ places ++ q ∷ []
           → ((gap : Cut) → Represents node t root (join gap) → IsAfter gap position → IsBefore gap position') → Lists node t root whole places' position' vs
       lists_next is listed leads =
@@ -95,12 +96,12 @@ module _ {E V : Type 0} {node : E → Node} {t : Table E} {root : Option Place} 
             count = next.3;
           }
 
--- where the cursor stands
+-- the cursor that goes along with the walk is valid in the tree
 pub lists_stands : {L E V : Type 0} {node : E → Node} {table : L → Table E} {at : CursorState L (Option Place)} {whole places : List Place} {left : List V}
     → Lists node (table at.links) at.head whole places at.position left → IsValidCursor (Represents node) table at
 lists_stands l = stands_by_gap (record { front = l.front; back = l.rest ++ l.back }) l.shown l.stands
 
--- a range is represented: it stands between other members, or it is empty
+-- the members of a range are consecutive in s: there are members `front` before them and `back` after them. A range may be empty
 pub range_represented : {min max : Bound (Place → Ordering)} {runs : Option Place → Option Place → Bool} {s w : List Place} (shows : List Place → Type 0) → IsRange min max runs s w
     → shows s → (front back : List Place) × shows (front ++ (w ++ back))
 range_represented {runs = runs} {s} {w} shows x shown = by (runs x.low x.high) refl where
@@ -108,7 +109,7 @@ range_represented {runs = runs} {s} {w} shows x shown = by (runs x.low x.high) r
   by true e = let part = x.segment e in (part.front, part.back, subst shows (sym part.same) shown)
   by false e = ([], s, subst shows (sym (ap (λ r. r ++ s) (x.nothing e))) shown)
 
--- what holds of the members that a walk had left, holds of those that are listed
+-- a statement P that holds of the members which a walk had left holds of the listed places, if they are these members
 pub if_listed : {M E : Type 0} (P : List Place → Type 0) (walked : List Place) (listed : Result (Vec Place M) E) → IfOk listed (λ places. places.items ≡ walked) → P walked → IfOk listed (λ places. P places.items)
 if_listed P walked (Ok places) all h = subst P (sym all) h
 if_listed P walked (Err refusal) all h = tt

@@ -1,5 +1,5 @@
--- A KIND'S OWN WORDS, over the table of a field: what a table represents for a list or tree, and where a position stands in it, is so for the
--- collection that they make. So each edit is lifted once, for all kinds.
+-- HOW A KIND'S OWN DEFINITIONS ARE USED FOR A COLLECTION. What a table represents for a list or tree, it also represents for the collection made from
+-- it, and valid positions stay valid. Because of this each edit is proved once for all kinds.
 use Rattle.std.proofs.Common.{◌≡◌, Option, None, List, refl}
 use Rattle.std.specs.Prelude.{⊤}
 use Rattle.ic_link_ops.specs.Prelude.{Place, Table, ChangesOnlyIn, LinkStep, TraceIs, IsValidCursor, site}
@@ -31,7 +31,8 @@ use Rattle.ic_any_collection.specs.AnyCollection.{IsCursorIn, RepresentsIn, curs
 use Rattle.ic_any_collection.proofs.AllKinds.{singly_kind, doubly_kind}
 use Rattle.ic_any_collection.proofs.Standing.{stands_plainly, knows, known}
 
--- `own`: the kind's own table, as its calls see it, and `Trace` the steps that they take. `field`: the field's table, which has that one inside
+-- `own` is the table that the kind's own calls see, and `Trace` states the link steps of these calls. `field` is the field's table, which contains
+-- the kind's table
 pub record IsMade {V L M E H C P : Type 0} (made : C → P → AnyCollection V) (own : L → Table E) (Trace : L → L → List LinkStep → Type 0)
     (Represents : Table E → H → List Place → Type 0) (field : L → AnyTable M) (IsValid : L → C → P → Type 0) (head_of : C → H) (member : P → Option Place) : Type 0 where
   pub alike : (c c' : C) (at at' : P) → Alike (made c at) (made c' at')
@@ -44,11 +45,11 @@ pub record IsMade {V L M E H C P : Type 0} (made : C → P → AnyCollection V) 
   pub stands : (links : L) (c : C) (at : P) (s : List Place) → Represents (own links) (head_of c) s → IsValid links c at → IsCursorIn s (made c at)
   pub valid : (links : L) (c : C) (at : P) (s : List Place) → Represents (own links) (head_of c) s → IsCursorIn s (made c at) → IsValid links c at
 
--- the steps of a table that is seen as the field's
+-- the link steps between two states of a table, which is read as the table of a field
 abbrev pub Steps : {L M : Type 0} → (L → AnyTable M) → L → L → List LinkStep → Type 0
 Steps field old new steps = TraceIs is_linked (table_in (field old)) (table_in (field new)) steps
 
--- what trees bring, over their own table
+-- trees over their own table satisfy the laws of the record `IsKind`
 pub own_trees : IsKind (tree.Represents node_of) tree_table.is_linked None
 own_trees = red_black_trees (λ e. refl)
 

@@ -1,4 +1,4 @@
--- Trees in the words of their own table, and in those of all tables: what a table of tree links represents, and how an edit leaves it, is so of the
+-- Trees over their own table and over the table of a field. What a table of tree links represents, and what an edit changes in it, is the same in the
 -- field's table.
 use Rattle.std.proofs.Common.{Option, List, [], ◌∷◌, refl, ap}
 use Rattle.std.specs.Prelude.{⊤}
@@ -19,7 +19,7 @@ use Rattle.ic_any_collection.specs.Entries.{node, of_three, read}
 use Rattle.ic_any_collection.specs.TreeTables.{is_linked}
 use Rattle.ic_any_collection.proofs.Reading.{seen}
 
--- the table as the field's table has it
+-- a table of tree links, read as the table of a field
 abbrev pub of_field : Table (Link ThreeWords ⊤) → Table Entry
 of_field t = read kind.Tree of_three t
 
@@ -30,11 +30,11 @@ module _ {t : Table (Link ThreeWords ⊤)} {root : Option Place} {s : List Place
   pub to_own : Represents node (of_field t) root s → Represents node_of t root s
   to_own shown = seen node node_of (λ p. refl) shown
 
-  -- what keyed calls require of the objects at its members
+  -- the requirement of a tree's keyed calls: the tree represents members, and there is an object at each of them
   pub placed_in : {V : Type 0} {objects : Objects V} → Represents node (of_field t) root s → ArePlaced objects s → RepresentsPlaced (Represents node_of t root) objects
   placed_in shown placed = record { members = s; shown = to_own shown; placed = placed }
 
--- what changes, and which link steps are taken
+-- an edit changes the same entries, and makes the same link steps, in a tree's own table and in the field's table
 pub frame_in_field : {t t' : Table (Link ThreeWords ⊤)} {s : List Place} → ChangesOnlyIn t t' s → ChangesOnlyIn (of_field t) (of_field t') s
 frame_in_field frame = record {
   extent = ap (λ e. record { places = e.places; identity = number_of kind.Tree ∷ [] }) frame.extent;

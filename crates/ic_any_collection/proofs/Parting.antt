@@ -1,4 +1,4 @@
--- Parts of lists: what a call that splits or splices says, as a collection of any kind leaves it.
+-- Splits and splices of lists: from the contract of a kind's own call follows what the collection's call ensures, whatever the kind of list.
 use Rattle.std.proofs.Common.{◌≡◌, ◌∙◌, Option, None, List, ◌++◌, refl, sym, subst, append-nil, append_assoc}
 use Rattle.ic_link_ops.specs.Prelude.{Place, Cut, join, splice, at_front, at_back, IsAfter, IsBefore, IsDisjoint, Table, ChangesOnlyIn, site, TraceIs}
 use Rattle.ic_link_ops.specs.LinkedList as doubly
@@ -14,22 +14,23 @@ use Rattle.ic_any_collection.specs.declared.any_collection.AnyCollection.TheVari
 use Rattle.ic_any_collection.specs.AnyCollection.{IsAt, IsXorAt, RepresentsIn, IsCursorIn, cursor_in, Keeps, Alike}
 use Rattle.ic_any_collection.specs.Edits.{PutsAll, Parts}
 
--- WHERE A CURSOR STANDS: at null,
+-- A CURSOR CAN BE AT NULL in every sequence
 pub at_null : {s : List Place} {position : Option Place} → position ≡ None → IsAt s position
 at_null {s} null = (at_front s, refl, null)
 
--- where a gap is before it,
+-- a cursor can be at a position that has a gap directly before it
 pub at_before : (gap : Cut) {position : Option Place} → IsBefore gap position → IsAt (join gap) position
 at_before gap {position} before = gap_after gap position before
 
--- at the end of what is kept before it, and at the start of what is kept after it,
+-- after a split, the cursor is at a position of the part that is kept. The cursor is at the end of the part before the gap, or at the start of the
+-- part after the gap
 pub at_end : (gap : Cut) {position : Option Place} → IsAfter gap position → IsAt gap.front position
 at_end gap after = (at_back gap.front, append-nil gap.front, after)
 
 pub at_start : (gap : Cut) {position : Option Place} → IsBefore gap position → IsAt gap.back position
 at_start gap before = at_before (at_front gap.back) before
 
--- before what is put after it, and after what is put before it
+-- after a splice, the cursor is still at a position of the sequence, whether the members r were inserted after the cursor or before it
 pub at_put_after : (gap : Cut) (r : List Place) {position : Option Place} → IsAfter gap position → IsAt (splice gap r) position
 at_put_after gap r after = (record { front = gap.front; back = r ++ gap.back }, refl, after)
 
@@ -37,11 +38,11 @@ pub at_put_before : (gap : Cut) (r : List Place) {position : Option Place} → I
 at_put_before gap r {position} before =
     let at = at_before (record { front = gap.front ++ r; back = gap.back }) before in (at.0, at.1 ∙ append_assoc gap.front r gap.back, at.2)
 
--- an XOR list's cursor at null, where it keeps nothing
+-- the cursor of an XOR list can be at null in every sequence, because it stores no next place there
 pub xor_null : (s : List Place) {at : Option PlaceAndNext} → at ≡ None → IsXorAt s at
 xor_null s null = rw null (at_front s, refl, refl, tt)
 
--- a kind of list: what the table represents for the list, it represents for the collection
+-- a kind of list: what a table represents for the list, the table also represents for the collection made from the list, and the other way round
 pub record IsListKind {V H P : Type 0} (made : H → P → AnyCollection V) (Represents : Table Entry → H → List Place → Type 0) : Type 0 where
   pub alike : (l l' : H) (at at' : P) → Alike (made l at) (made l' at')
   pub shows : (t : Table Entry) (l : H) (at : P) (s : List Place) → Represents t l s → RepresentsIn t (made l at) s
@@ -58,11 +59,11 @@ module _ {V : Type 0} where
   xor_list = record { alike = λ l l' at at'. refl; shows = λ t l at s h. h; shown = λ t l at s h. h }
 
 module _ {V H P : Type 0} {made : H → P → AnyCollection V} {Represents : Table Entry → H → List Place → Type 0} (kind : IsListKind made Represents) where
-  -- what the list represents, cut at a gap
+  -- the table represents for the list the members of the collection, joined again after a cut at a gap
   represented_cut : {t : Table Entry} {l : H} {at : P} {s : List Place} → Keeps t (made l at) s → (gap : Cut) → join gap ≡ s → Represents t l (join gap)
   represented_cut {t} {l} {at} {s} held gap cut = rw cut (kind.shown t l at s held.shown)
 
-  -- a table with the same extent keeps what it represents for another list of the kind
+  -- a new table with the same extent keeps the sequence u for a collection, if it represents u for the list of the collection
   keeps : {t t' : Table Entry} {l l' : H} {at at' : P} {s u touched : List Place} → Keeps t (made l at) s → ChangesOnlyIn t t' touched
       → Represents t' l' u → IsCursorIn u (made l' at') → Keeps t' (made l' at') u
   keeps {t' = t'} {l = l} {l' = l'} {at = at} {at' = at'} {u = u} held frame shown stands = record {
@@ -73,7 +74,7 @@ module _ {V H P : Type 0} {made : H → P → AnyCollection V} {Represents : Tab
 
   module _ {L : Type 0} (table : L → Table Entry) {IsBeside : Cut → Option Place → Type 0} {links links' : L} {l l' : H} {at at' : P} {s : List Place} (held : Keeps (table links) (made l at) s)
       (gap : Cut) (cut : join gap ≡ s) (there : IsBeside gap (cursor_in (made l at))) where
-    -- A SPLIT BESIDE THE CURSOR leaves one part, and hands out the other in a collection of its own
+    -- A SPLIT BESIDE THE CURSOR leaves one part in the collection, and returns the other part as a new collection
     pub parts : {kept handed : Cut → List Place} {part : H} {null : P}
         → SplitsBeside Represents table (λ a b steps. TraceIs is_linked (table a) (table b) steps) IsBeside kept handed
         (site links l (cursor_in (made l at))) part (site links' l' (cursor_in (made l' at')))
@@ -89,7 +90,7 @@ module _ {V H P : Type 0} {made : H → P → AnyCollection V} {Represents : Tab
           links = e.trace_stays;
         }
 
-    -- A SPLICE BESIDE THE CURSOR puts all of the given list there
+    -- A SPLICE BESIDE THE CURSOR inserts all members r of the given list into the gap beside the cursor
     pub puts_all : {given : H} (r : List Place)
         → SplicesBeside Represents table (λ a b steps. TraceIs is_linked (table a) (table b) steps) IsBeside
         (site links l (cursor_in (made l at))) given (site links' l' (cursor_in (made l' at')))

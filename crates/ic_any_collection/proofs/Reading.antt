@@ -1,4 +1,4 @@
--- Readings: the member after one, walks from the front, and trees seen through two tables.
+-- How calls read a collection: the member after a member, walks from the front, and a tree that is read through two tables.
 use Rattle.std.proofs.Common.{◌≡◌, ◌≢◌, ◌∙◌, ◌<◌, ◌+◌, ◌++◌, true, false, cond, Option, Some, None, List, [], ◌∷◌, drop, length, refl, sym, ap, append_assoc, arith, nat_eq, eq-eqb, eqb-true}
 use Rattle.std.proofs.lemmas.Bool.{eqb-false, false_from_ne_true}
 use Rattle.std.proofs.lemmas.List.{length-append}
@@ -10,7 +10,7 @@ use Rattle.ic_link_ops.specs.RedBlackTree.{Node, IsTree, Represents}
 use Rattle.ic_link_ops.proofs.SequenceLemmas.{first_is, last_of_push, some_same}
 use Rattle.ic_link_ops.proofs.Walks.{is_end_yes}
 
--- A MOVE ON FROM A MEMBER leads to the one after it
+-- A MOVE FROM A MEMBER p leads to the member after p, or to null if p is the last
 pub leads_after : {L E H : Type 0} {Represents : Table E → H → List Place → Type 0} {table : L → Table E} {old : CursorState L H} {position : Option Place} {p : Place} {s : List Place}
     → MovesOn Represents table old position → old.position ≡ Some p → RepresentsAt Represents table old s → (gap : Cut) → join gap ≡ s → IsBefore gap (Some p) → position ≡ first (drop 1 gap.back)
 leads_after {Represents = Represents} {table = table} {old = old} {p = p} {s = s} moves at shown gap cut before =
@@ -19,25 +19,26 @@ leads_after {Represents = Represents} {table = table} {old = old} {p = p} {s = s
     let there : RepresentsAt Represents table old ((gap.front ++ p ∷ []) ++ back) = rw (append_assoc gap.front (p ∷ []) back, is) shown in
     moves.leads (record { front = gap.front ++ p ∷ []; back = back }) there (at ∙ sym (last_of_push gap.front p))
 
--- two places that are compared as numbers
+-- two places are equal exactly if their words are equal as numbers
 pub same_place : (p q : Place) → nat_eq p.word q.word ≡ true → p ≡ q
 same_place p q equal = same_index p q (eqb-true _ _ (sym (word_tells p q) ∙ equal))
 
 pub other_place : (p q : Place) → nat_eq p.word q.word ≡ false → q ≢ p
 other_place p q differs same = eqb-false p.word q.word differs (ap (λ x. x.word) (sym same))
 
--- A WALK FROM THE FRONT of s: `done` is after it, `prev` the last of that, and `current` the first of what is left
+-- A WALK FROM THE FRONT of s has passed the members `done`, and the members `left` follow them. `prev` is the last member of `done`, and `current` is
+-- the first member of `left`
 pub record Walks (s done : List Place) (prev current : Option Place) : Type 0 where
   pub left : List Place
   pub whole : done ++ left ≡ s
   pub prev_is : prev ≡ last done
   pub current_is : current ≡ first left
 
--- the gap that it is at
+-- a walk is at the gap between the members that it has passed and the members that are left
 pub gap_at : {s done : List Place} {prev current : Option Place} → Walks s done prev current → (gap : Cut) × (join gap ≡ s) × (IsAfter gap prev × IsBefore gap current)
 gap_at {done = done} w = (record { front = done; back = w.left }, w.whole, (w.prev_is, w.current_is))
 
--- it starts at the first member, goes on to the one after,
+-- `walks_first`: a walk starts at the first member of s. `walks_next`: a walk goes on to the member after the current one
 pub walks_first : {s : List Place} {current : Option Place} → current ≡ first s → Walks s [] None current
 walks_first {s} is = record { left = s; whole = refl; prev_is = refl; current_is = is }
 
@@ -52,7 +53,7 @@ walks_next {done = done} {p = p} w next =
       current_is = next gap.0 gap.1 w.prev_is w.current_is;
     }
 
--- HOW FAR IT IS: the members of s from a place on
+-- HOW FAR A WALK IS: the members of s from the given place on
 unfoldable pub from : Option Place → List Place → List Place
 from None s = []
 from (Some p) [] = []
@@ -75,7 +76,7 @@ pub walks_from : {s done : List Place} {prev current : Option Place} → IsDisti
 walks_from {done = done} distinct w =
     rw (w.current_is, ← w.whole) (from_first done w.left (rw w.whole distinct))
 
--- each step leaves fewer
+-- each step of a walk leaves fewer members to walk, so the walk ends
 pub walks_fewer : {s done : List Place} {prev current : Option Place} {p : Place} → IsDistinct s → Walks s done prev (Some p)
     → Walks s (done ++ p ∷ []) (Some p) current → length (from current s) < length (from (Some p) s)
 walks_fewer {s} {done} {current = current} {p = p} distinct w next =
@@ -85,7 +86,7 @@ walks_fewer {s} {done} {current = current} {p = p} distinct w next =
     let there : length (from current s) ≡ length next.left = ap length (walks_from distinct next) in
     omega (arith, before, after, here, there, length-append done (p ∷ []))
 
--- A TREE SEEN THROUGH ANOTHER TABLE, whose entries say the same of the places
+-- A TREE READ THROUGH ANOTHER TABLE has the same members, if the entries of both tables give the same node at each place
 module _ {E F : Type 0} (node : E → Node) (other : F → Node) {entry : Place → E} {entries : Place → F} (same : (p : Place) → other (entries p) ≡ node (entry p)) where
   seen_tree : (up : Option Place) (tree : Tree) → IsTree node entry up tree → IsTree other entries up tree
   seen_tree up leaf h = tt

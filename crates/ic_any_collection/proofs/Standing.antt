@@ -1,4 +1,4 @@
--- Where a cursor stands: the gaps beside it, and what an XOR list's cursor keeps.
+-- Where a cursor is: the gaps directly before and after its position, and the next place that the cursor of an XOR list stores.
 use Rattle.std.proofs.Common.{◌≡◌, ◌∙◌, Option, Some, None, IfSome, List, [], ◌∷◌, ◌++◌, drop, refl, sym, ap, subst, append_assoc}
 use Rattle.std.specs.Prelude.{⊤}
 use Rattle.ic_link_ops.specs.Prelude.{Place, Cut, join, first, IsBefore, IsDistinct, Table}
@@ -15,7 +15,7 @@ use Rattle.ic_any_collection.specs.declared.any_collection.AnyCollection.TheVari
 use Rattle.ic_any_collection.specs.AnyCollection.{IsAt, IsXorAt, IsCursorIn, cursor_in, members_in, Held}
 use Rattle.ic_any_collection.proofs.AllKinds.{xor_kind}
 
--- the gap before a position
+-- a sequence can be cut at the gap directly before the position of a cursor
 pub before_at : {s : List Place} {position : Option Place} → IsAt s position → (gap : Cut) × (join gap ≡ s) × IsBefore gap position
 before_at {s} {position} at = let prev = gap_before at.0 position at.2 in (prev.0, prev.1 ∙ at.1, prev.2)
 
@@ -27,14 +27,14 @@ module _ {V : Type 0} where
   stands_at s (Xor l at) stands = (stands.0, stands.1, stands.2)
   stands_at s (Tree l at) stands = stands
 
-  -- so there is a gap after it, and one before it
+  -- the members of a collection that a table keeps can be cut at the gap after the cursor, and at the gap before the cursor
   pub gap_after_cursor : {t : Table Entry} (m : AnyCollection V) → Held t m → IsAt (members_in t m) (cursor_in m)
   gap_after_cursor {t} m held = stands_at (members_in t m) m held.stands
 
   pub gap_before_cursor : {t : Table Entry} (m : AnyCollection V) → Held t m → (gap : Cut) × (join gap ≡ members_in t m) × IsBefore gap (cursor_in m)
   gap_before_cursor m held = before_at (gap_after_cursor m held)
 
--- A LIST'S CURSOR STANDS as its calls ask it: where it keeps its place alone,
+-- A LIST'S CURSOR IS VALID as the calls of the list require, if it is at a position of s. This is for kinds whose cursor stores only its own place
 pub stands_plainly : {L E H : Type 0} {Represents : Table E → H → List Place → Type 0} {table : L → Table E} {links : L} {list : H} {at : Option Place} (s : List Place)
     → Represents (table links) list s → IsAt s at → IsValidAt Represents table (λ at. at) (λ at next. ⊤) links list at
 stands_plainly {Represents = Represents} {table} {links} {list} s shown at = record {
@@ -44,7 +44,7 @@ stands_plainly {Represents = Represents} {table} {links} {list} s shown at = rec
   caches = λ q on. tt;
 }
 
--- and where it keeps the place after it too, as an XOR list's does,
+-- the cursor of an XOR list is valid as the calls of the list require. It also stores the place after its own
 abbrev pub XorStands : {L : Type 0} → (L → Table Entry) → L → Ends → Option PlaceAndNext → Type 0
 XorStands table links l at = IsValidAt (xor.Represents is_linked HasNeighbors) table member_of CachesNext links l at
 
@@ -57,7 +57,7 @@ knows {table = table} {links = links} {l = l'} s shown at = record {
   caches = λ q on. at.3;
 }
 
--- and as they leave it
+-- if a cursor that is on a member stores `next` as the next place, `CachesNext` holds of it. At null this is always so
 caches_next : (at : Option PlaceAndNext) (next : Option Place) → ((q : Place) → member_of at ≡ Some q → CachesNext at next) → CachesNext at next
 caches_next None next caches = tt
 caches_next (Some at) next caches = caches at.place refl
@@ -66,7 +66,7 @@ pub known : {L : Type 0} {table : L → Table Entry} {links : L} {l : Ends} {at 
     → xor.Represents is_linked HasNeighbors (table links) l s → XorStands table links l at → IsXorAt s at
 known {at = at'} s shown k = (k.gap, one_sequence_is_represented xor_kind k.shown shown, k.after, caches_next at' _ k.caches)
 
--- the place that it keeps is the one after its member
+-- the next place that the cursor of an XOR list stores is the member after the member p that the cursor is on
 pub next_known : {L : Type 0} {table : L → Table Entry} {links : L} {l : Ends} {at : Option PlaceAndNext} {p : Place} {next : Option Place} {s : List Place}
     → xor.Represents is_linked HasNeighbors (table links) l s → XorStands table links l at → member_of at ≡ Some p → IfSome at (λ a. next ≡ a.next)
     → (gap : Cut) → join gap ≡ s → IsBefore gap (Some p) → next ≡ first (drop 1 gap.back)

@@ -1,4 +1,4 @@
--- Whole collections: new ones, taken ones, and such as are turned round.
+-- Whole collections: what a table keeps for a new collection, for a collection that was taken, and for an XOR list that was reversed.
 use Rattle.std.proofs.Common.{◌≡◌, true, Option, None, List, [], reverse, ap}
 use Rattle.ic_link_ops.specs.Prelude.{Place, Table}
 use Rattle.ic_link_ops.specs.Chains.{Ends, list_head, no_members}
@@ -19,7 +19,7 @@ use Rattle.ic_any_collection.specs.AnyCollection.{Keeps}
 use Rattle.ic_any_collection.proofs.AllKinds.{singly_kind, doubly_kind, xor_kind, tree_kind}
 use Rattle.ic_any_collection.proofs.Parting.{at_null, xor_null}
 
--- EVERY TABLE THAT CARRIES ITS KIND keeps nothing for a new collection
+-- A TABLE KEEPS THE EMPTY SEQUENCE for a new collection, if the table can serve collections of this kind
 module _ {V : Type 0} (t : Table Entry) where
   pub new_singly : {l : Front} {at : Option Place} → carries (kind_of t) kind.Singly ≡ true → l ≡ list_from None → at ≡ None → Keeps {V = V} t (Singly l at) []
   new_singly carried empty null = record { carried = carried; shown = rw empty (singly_kind.nothing t); stands = at_null null }
@@ -33,7 +33,7 @@ module _ {V : Type 0} (t : Table Entry) where
   pub new_tree : {l : RBTree (Unkeyed V) (Option Place)} {at : Option Place} → carries (kind_of t) kind.Tree ≡ true → root_of l ≡ None → at ≡ None → Keeps {V = V} t (Tree l at) []
   new_tree carried empty null = record { carried = carried; shown = rw empty (tree_kind.nothing t); stands = at_null null }
 
--- A TABLE THAT KEEPS an XOR list keeps it turned round
+-- A TABLE THAT KEEPS s for an XOR list keeps the reverse of s for the reversed list. No entry changes
 pub keeps_turned : {V : Type 0} {t : Table Entry} {l l' : Ends} {at at' : Option PlaceAndNext} {s : List Place} → Keeps {V = V} t (Xor l at) s
     → l' ≡ list_head l.tail l.head → at' ≡ None → Keeps {V = V} t (Xor l' at') (reverse s)
 keeps_turned {s = s} kept list null = record {

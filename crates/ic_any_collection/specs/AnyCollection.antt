@@ -17,17 +17,18 @@ use Rattle.ic_any_collection.specs.Entries.{is_linked, neighbors, successor, nod
 use Rattle.ic_any_collection.specs.declared.any_collection.AnyCollection.{AnyCollection}
 use Rattle.ic_any_collection.specs.declared.any_collection.AnyCollection.TheVariants.{Singly, Doubly, Xor, Tree}
 
--- the position is one of s: null, or a member, so that there is a gap after it
+-- the position is null or a member of s, so that s can be cut at the gap directly after the position
 abbrev pub IsAt : List Place → Option Place → Type 0
 IsAt s position = (gap : Cut) × (join gap ≡ s) × IsAfter gap position
 
--- the same for a position of an XOR list, which also keeps the place after that gap
+-- the cursor of an XOR list is at null or on a member of s. On a member it also keeps the place of the next member, or none on the last one
 abbrev pub IsXorAt : List Place → Option PlaceAndNext → Type 0
 IsXorAt s at = (gap : Cut) × (join gap ≡ s) × IsAfter gap (member_of at) × CachesNext at (first gap.back)
 
 module _ {V : Type 0} where
-  -- FOR EACH KIND, with the list `l` and the position `at` of its cursor: its name, the member that the cursor is on, the sequence that a table
-  -- represents, the walk that finds this sequence, and the position of the cursor in it. The cursor of an XOR list also keeps the place after it
+  -- FOR EACH KIND OF COLLECTION, five definitions follow. Three say which kind it is, which member its cursor is on, and which sequence a table
+  -- represents for it. The other two define the members that a walk finds, and whether the cursor is at a position of a sequence. `l` is the list or
+  -- tree, and `at` is the position of its cursor. The cursor of an XOR list also keeps the place of the next member
   abbrev pub kind_in : AnyCollection V → Kind
   kind_in (Singly l at) = kind.Singly
   kind_in (Doubly l at) = kind.Doubly
@@ -58,16 +59,16 @@ module _ {V : Type 0} where
   IsCursorIn s (Xor l at) = IsXorAt s at
   IsCursorIn s (Tree l at) = IsAt s at
 
-  -- THE TABLE KEEPS s for the collection: the table can serve its kind and represents s, and the cursor is at a position of s
+  -- THE TABLE t KEEPS s FOR THE COLLECTION m: t can serve the kind of m and represents s for m. The cursor of m is at null or on a member of s
   pub record Keeps (t : Table Entry) (m : AnyCollection V) (s : List Place) : Type 0 where
     pub carried : carries (kind_of t) (kind_in m) ≡ true
     pub shown : RepresentsIn t m s
     pub stands : IsCursorIn s m
 
-  -- the table keeps the sequence that the walk finds, as every call requires
+  -- the table t keeps for the collection m the members that a walk through the table finds. Every call that takes the table requires this
   abbrev pub Held : Table Entry → AnyCollection V → Type 0
   Held t m = Keeps t m (members_in t m)
 
-  -- a collection of the same kind
+  -- the collections m and m' have the same kind
   abbrev pub Alike : (m m' : AnyCollection V) → Type 0
   Alike m m' = kind_in m' ≡ kind_in m

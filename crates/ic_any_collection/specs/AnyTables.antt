@@ -14,7 +14,7 @@ use Rattle.ic_any_collection.specs.Entries.{of_one, read, is_linked}
 use Rattle.ic_any_collection.specs.TablesWithPrev as with_prev
 
 module _ {M : Type 0} where
-  -- how many places the table covers, and its entries
+  -- the table as contracts see it: how many places it covers, and the entry of each place
   abbrev pub table_in : AnyTable M → Table Entry
   table_in (Singly t) = read kind.Singly of_one (table wide one.no_word t)
   table_in (Xor t) = read kind.Xor of_one (table wide one.no_word t)

@@ -1,4 +1,4 @@
--- What the calls of a collection leave. The definitions are the same for every kind.
+-- What a collection and its table are after each kind of edit. The definitions are the same for every kind of collection.
 use Rattle.std.specs.Prelude.{◌≡◌, Bool, true, false, Option, Some, None, List, [], ◌∷◌, ◌++◌}
 use Rattle.ic_link_ops.specs.Prelude.{Place, Cut, join, insert, remove, replace, splice, first, Table, ChangesOnlyIn, IsLinked, KeepsLinked, LinksAlso, Unlinks, TraceIs, acquires, releases, releases_each}
 use Rattle.ic_any_collection.specs.declared.entry.Entry.{Entry}
@@ -8,31 +8,32 @@ use Rattle.ic_any_collection.specs.AnyTables.{table_in}
 use Rattle.ic_any_collection.specs.declared.any_collection.AnyCollection.{AnyCollection}
 use Rattle.ic_any_collection.specs.AnyCollection.{cursor_in, members_in, Keeps, Alike}
 
--- there is a gap at which the members are cut, and the rest of the statement holds of it
+-- s can be cut at a gap of which the statement `Rest` holds
 abbrev pub AtGap : List Place → (Cut → Type 0) → Type 0
 AtGap s Rest = (gap : Cut) × (join gap ≡ s) × Rest gap
 
--- `t`, `t'`: the table before a call and after it. `m`, `m'`: the collection before and after
+-- `t` is the table before a call, and `t'` is the table after the call. `m` is the collection before the call, and `m'` is the collection after the
+-- call
 module _ {V : Type 0} where
-  -- ONLY THE CURSOR OF THE COLLECTION MAY HAVE MOVED: its kind and members are as before
+  -- ONLY THE CURSOR OF THE COLLECTION MAY HAVE MOVED: the collection has the same kind and members as before, and its cursor is now at `cursor`
   pub record Moves (t : Table Entry) (m m' : AnyCollection V) (cursor : Option Place) : Type 0 where
     pub kept : Keeps t m' (members_in t m)
     pub alike : Alike m m'
     pub cursor_is : cursor_in m' ≡ cursor
 
-  -- NOTHING HAS CHANGED: the table is the same, and the collection has its members and its cursor
+  -- NOTHING HAS CHANGED: the table is as before the call, and the collection has the same members and the same cursor as before
   abbrev pub IsUnchanged : {M : Type 0} → (links links' : AnyTable M) → (m m' : AnyCollection V) → Type 0
   IsUnchanged links links' m m' = (links' ≡ links) × Moves (table_in links) m m' (cursor_in m)
 
   module _ (t t' : Table Entry) (m m' : AnyCollection V) where
-    -- THE COLLECTION NOW HAS THE MEMBERS s and its cursor at this position, and only entries of `touched` have changed
+    -- THE COLLECTION NOW HAS THE MEMBERS s, its kind is as before, and its cursor is at `cursor`. Only entries of places in `touched` have changed
     pub record Leaves (s : List Place) (cursor : Option Place) (touched : List Place) : Type 0 where
       pub kept : Keeps t' m' s
       pub alike : Alike m m'
       pub cursor_is : cursor_in m' ≡ cursor
       pub frame : ChangesOnlyIn t t' touched
 
-    -- p, which was unlinked, is inserted into the gap
+    -- the place p, which was unlinked, is inserted into the gap and is linked now
     pub record Puts (gap : Cut) (p : Place) (cursor : Option Place) : Type 0 where
       pub leaves : Leaves (insert gap p) cursor (p ∷ members_in t m)
       pub links : LinksAlso is_linked t t' p
@@ -43,23 +44,24 @@ module _ {V : Type 0} where
       pub leaves : Leaves (remove gap) cursor (members_in t m)
       pub links : Unlinks is_linked t t' p
 
-    -- p, which was unlinked, replaces the member `out` after the gap, which is unlinked
+    -- the place p, which was unlinked, replaces the member `out` after the gap. Now p is linked and `out` is unlinked
     pub record Swaps (gap : Cut) (p out : Place) (cursor : Option Place) : Type 0 where
       pub there : first gap.back ≡ Some out
       pub leaves : Leaves (replace gap p) cursor (p ∷ members_in t m)
       pub links : TraceIs is_linked t t' (acquires p ∷ releases out ∷ [])
 
-    -- all members are removed and unlinked
+    -- all members of the collection are removed and unlinked
     pub record Empties : Type 0 where
       pub leaves : Leaves [] None (members_in t m)
       pub links : TraceIs is_linked t t' (releases_each (members_in t m))
 
-    -- all members of r are inserted into the gap, and stay linked
+    -- all members of the sequence r are inserted into the gap, and each place that was linked stays linked
     pub record PutsAll (gap : Cut) (r : List Place) : Type 0 where
       pub leaves : Leaves (splice gap r) (cursor_in m) (splice gap r)
       pub links : KeepsLinked is_linked t t'
 
-    -- the collection keeps one part, and the other becomes a new collection that is returned. All members stay linked
+    -- the collection keeps the members `kept`, and the members `handed` become the new collection `part` that the call returns. All members stay
+    -- linked
     pub record Parts (kept handed : List Place) (part : AnyCollection V) : Type 0 where
       pub leaves : Leaves kept (cursor_in m) (kept ++ handed)
       pub hands_out : Keeps t' part handed
@@ -67,12 +69,12 @@ module _ {V : Type 0} where
       pub null : cursor_in part ≡ None
       pub links : KeepsLinked is_linked t t'
 
-  -- THE MEMBER AFTER THE GAP is removed, if there is one. If there is none, only the cursor moves to its new position
+  -- THE MEMBER AFTER THE GAP is removed if there is one. If there is none, only the cursor moves to its new position, and the table is as before
   abbrev pub TakesIfAny : {M : Type 0} → (links links' : AnyTable M) → (m m' : AnyCollection V) → Cut → Option Place → Option Place → Type 0
   TakesIfAny links links' m m' gap cursor None = (links' ≡ links) × Moves (table_in links) m m' cursor
   TakesIfAny links links' m m' gap cursor (Some p) = Takes (table_in links) (table_in links') m m' gap p cursor
 
-  -- THE MEMBER AFTER THE GAP is replaced by p, if the link of p can be acquired. Otherwise nothing has changed
+  -- THE MEMBER AFTER THE GAP is replaced by the place p. If no member follows the gap, or if p was linked already, nothing has changed
   abbrev pub SwapsIfAny : {M : Type 0} → (links links' : AnyTable M) → (m m' : AnyCollection V) → Cut → Place → Option Place → Option Place → Bool → Type 0
   SwapsIfAny links links' m m' gap p cursor None acquired = IsUnchanged links links' m m'
   SwapsIfAny links links' m m' gap p cursor (Some out) false = IsLinked is_linked (table_in links) p × IsUnchanged links links' m m'

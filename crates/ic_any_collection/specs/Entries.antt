@@ -17,7 +17,7 @@ use Rattle.ic_any_collection.specs.declared.entry.Entry.{Entry}
 use Rattle.ic_any_collection.specs.declared.kind.Kind.{Kind}
 use Rattle.ic_any_collection.specs.Kinds.{number_of, kind_with}
 
--- the entry that the links of each kind of table describe
+-- three functions compute the entry that a link of one, two or three words describes
 abbrev pub of_one : {K : Type 0} → Link (OneWord K) ⊤ → Entry
 of_one l = record { linked = one.has_word (words_of l); word = one.next_word_of (words_of l); prev = None; parent = None; color = Red }
 
@@ -27,7 +27,7 @@ of_two l = record { linked = two.has_words (words_of l); word = two.next_word_of
 abbrev pub of_three : Link ThreeWords ⊤ → Entry
 of_three l = record { linked = three.has_link (words_of l); word = three.right_word_of (words_of l); prev = three.left_of (words_of l); parent = (three.node_of l).parent; color = (three.node_of l).color }
 
--- how each kind of collection reads an entry
+-- the following functions say what each kind of collection reads in an entry
 abbrev pub is_linked : Entry → Bool
 is_linked e = e.linked
 
@@ -40,17 +40,17 @@ successor e = record { linked = e.linked; next = place_at e.word }
 abbrev pub node : Entry → Node
 node e = record { linked = e.linked; left = e.prev; right = place_at e.word; parent = e.parent; color = e.color }
 
--- an XOR list: the word is the exclusive or of the words of a and b. Given a, the other place can be computed from it
+-- in an XOR list, the word of a member's entry is the exclusive or of the words of its two neighbors a and b. `other` computes b from the entry and a
 abbrev pub HasNeighbors : Entry → Option Place → Option Place → Type 0
 HasNeighbors e a b = e.word ≡ bit_xor (word_of a) (word_of b)
 
 abbrev pub other : Entry → Option Place → Option Place
 other e a = place_at (bit_xor e.word (word_of a))
 
--- a table of a kind, with a function that reads its entries
+-- a table of links, read as a table of entries: `of` computes each entry from the link, and the extent now contains the number of `kind`
 abbrev pub read : {E : Type 0} → Kind → (E → Entry) → Table E → Table Entry
 read kind of t = record { extent = record { places = t.extent.places; identity = number_of kind ∷ [] }; entry = λ p. of (t.entry p) }
 
--- the kind of a table
+-- the kind of a table, computed from the number in the extent of the table
 abbrev pub kind_of : Table Entry → Kind
 kind_of t = kind_with t.extent.identity

@@ -1,4 +1,4 @@
--- What keyed calls of a tree leave and return.
+-- Where a call that searches a tree for a key inserts an object.
 use Rattle.std.specs.Prelude.{Option}
 use Rattle.std.specs.declared.cmp.Ordering.{Ordering}
 use Rattle.ic_link_ops.specs.Prelude.{Place, Cut, Table}
@@ -8,15 +8,15 @@ use Rattle.ic_any_collection.specs.declared.any_collection.AnyCollection.{AnyCol
 use Rattle.ic_any_collection.specs.AnyCollection.{members_in}
 use Rattle.ic_any_collection.specs.Edits.{AtGap, Puts}
 
--- the gap where the searched key belongs: the member before it is smaller, and the member after it larger
+-- the searched key belongs in the gap: the member directly before the gap has a smaller key, and the member directly after the gap has a larger key
 abbrev pub IsVacantFor : (Place → Ordering) → Cut → Type 0
 IsVacantFor at gap = IsBorder (at_most_at at) gap × IsBorder (less_at at) gap
 
 module _ {V : Type 0} (at : Place → Ordering) (t t' : Table Entry) (m m' : AnyCollection V) (p : Place) (cursor : Option Place) where
-  -- p is inserted in order: after members that are not greater than the searched key, and before greater ones
+  -- p is inserted in order: after members whose keys are not greater than the searched key, and before members with greater keys
   abbrev pub PutsInOrder : Type 0
   PutsInOrder = AtGap (members_in t m) (λ gap. IsBorder (less_at at) gap × Puts t t' m m' gap p cursor)
 
-  -- p is inserted where the searched key belongs
+  -- the place p is inserted into the gap where the searched key belongs
   abbrev pub PutsAtKey : Type 0
   PutsAtKey = AtGap (members_in t m) (λ gap. IsVacantFor at gap × Puts t t' m m' gap p cursor)

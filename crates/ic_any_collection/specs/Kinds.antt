@@ -4,7 +4,7 @@ use Rattle.std.proofs.Common.{zero, suc}
 use Rattle.ic_any_collection.specs.declared.kind.Kind.{Kind}
 use Rattle.ic_any_collection.specs.declared.kind.Kind.TheVariants.{Singly, Doubly, Xor, Tree}
 
--- the kinds as numbers. The extent of a table contains its kind in this form
+-- the number of each kind. The extent of a table contains the kind of the table as this number
 abbrev pub number_of : Kind → ℕ
 number_of Singly = 0
 number_of Doubly = 1
@@ -18,7 +18,7 @@ kind_with (suc zero ∷ rest) = Doubly
 kind_with (suc (suc zero) ∷ rest) = Xor
 kind_with (suc (suc (suc n)) ∷ rest) = Tree
 
--- whether a table of the first kind can serve collections of the second
+-- whether a table of the first kind can serve collections of the second kind
 abbrev pub carries : Kind → Kind → Bool
 carries table Singly = true
 carries table Xor = true
@@ -38,7 +38,7 @@ has_before Doubly = true
 has_before Xor = true
 has_before Tree = true
 
--- which kinds are lists, which can be cut at a gap and spliced into one
+-- which kinds are lists. A list can be split at a gap, and two lists of one kind can be spliced into one list
 abbrev pub is_list : Kind → Bool
 is_list Singly = true
 is_list Doubly = true

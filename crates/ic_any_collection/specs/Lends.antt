@@ -1,4 +1,4 @@
--- What a field's table is at the end of a `&mut` borrow of the table inside it.
+-- What a link field's table is at the end of a `&mut` borrow of the inner table that the field's table contains.
 use Rattle.std.specs.Prelude.{⊤}
 use Rattle.std.specs.Borrow.{Lends, Fml, RattleType, MutBor, unit}
 use Rattle.std.specs.declared.alloc.Allocator.{Ghosts}
@@ -13,7 +13,7 @@ use Rattle.ic_any_collection.specs.contracts.table_with_prev.TableWithPrev.{the_
 use Rattle.ic_link_ops.specs.contracts.table.PlainTable.{the_row as plain_row}
 use Rattle.ic_link_ops.specs.contracts.rbtree.ThreeWords.{the_row as words_row}
 
--- when the borrow r ends, the table inside s is the last value written through r
+-- when the borrow r ends, the table that s contains is the last value that was written through r
 module _ (M : RattleType) (alloc : Ghosts M.Denot) where
   abbrev pub LendsWithPrev : MutBor (AnyTable M.Denot) → MutBor (TableWithPrev M.Denot) → Fml
   LendsWithPrev s r = Lends (any_row M alloc) (with_prev_row M alloc) s r (λ t. WithPrev t)

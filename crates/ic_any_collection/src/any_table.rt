@@ -59,7 +59,7 @@ impl<M: Allocator> AnyTable<M> {
         }
     }
 
-    /// Returns how many places the table covers: it covers those with a smaller index.
+    /// Returns how many places the table covers. It covers each place whose index is below this number.
     #[inline]
     pub fn covers(&self) -> usize
         ensures { result ≡ (table_in self.now).extent.places }
@@ -103,10 +103,10 @@ impl<M: Allocator> AnyTable<M> {
         }
     }
 
-    /// Covers the first `count` places, with an unlinked entry for each that is new.
+    /// Covers the first `count` places, with an unlinked entry for each place that is new.
     ///
-    /// It is refused if `count` is above 4,294,967,296 or there is not enough memory. Then nothing has changed. Existing entries stay, and if the
-    /// table already covers `count` places, nothing changes. It makes at most one request for memory.
+    /// It is refused if `count` is above 4,294,967,296 or there is not enough memory. If it is refused, nothing has changed. Existing entries stay,
+    /// and if the table already covers `count` places, nothing changes. It makes at most one request for memory.
     pub fn cover(&mut self, count: usize) -> Result<(), CoverError>
         ensures too_many { (result ≡ Err CoverError.TooManyPlaces) ↔ 4294967296 < count }
         ensures covers { OnOk result ((table_in self.new).extent.places ≡ max (table_in self.old).extent.places count) }

@@ -1,4 +1,4 @@
-//! Edits at a gap of a collection of one kind, with the position of its cursor.
+//! Edits of a collection of one kind at a gap. Each edit also takes the position of the collection's cursor.
 //!
 //! ```text
 //! at_gap::insert(list, links, at, Gap::Back, place) // whether its link was acquired: then it is the last member, and `at` is null
@@ -18,12 +18,12 @@ ghost use Rattle.ic_any_collection.specs.Gaps.{can_remove, from, is_after, rests
 ghost use Rattle.ic_any_collection.specs.GapEdits.{InsertsInGap, RemovesInGap};
 
 use crate::gap::Gap;
-use ic_chain::{BidirectionalLinks, Chain, DoubleEnded, ListPosition};
+use ic_chain::{BidirectionalLinks, DoubleEnded, LinkList, ListPosition};
 use ic_cursors::{Bidirectional, Collection, CursorOps, ForwardOnly, Position};
 use ic_link_ops::LinkOps;
 use ic_unsafe_ref::{Place, UnsafeRef};
 
-// Returns the position from which an edit at the gap is made.
+// Returns the position from which an edit at the gap is made: null if the gap is an end of the list, and otherwise the cursor's position.
 #[inline]
 fn start<C: Collection>(list: &C, gap: Gap, at: &C::Position) -> C::Position
     ensures start { result ≡ from gap (C.null_of list.now) at.now }
@@ -35,7 +35,7 @@ fn start<C: Collection>(list: &C, gap: Gap, at: &C::Position) -> C::Position
     }
 }
 
-// Moves the cursor to its position after an edit, if the object's link was acquired.
+// Moves the cursor to the position `there` after an edit, if the object's link was acquired. If the object was already linked, the cursor stays.
 #[inline]
 fn settled<P: Position>(at: &mut P, there: P, acquired: bool) -> bool
     ensures same { result ≡ acquired }
@@ -109,7 +109,7 @@ pub(crate) fn remove_after<C: ForwardOnly<L>, L: LinkOps>(
     out
 }
 
-// Returns the place of an object, if there is one.
+// Returns the place of an object, or `None` if there is no object.
 #[inline]
 fn place_of<T>(object: Option<UnsafeRef<T>>) -> Option<Place>
     ensures { result ≡ object }
@@ -120,10 +120,10 @@ fn place_of<T>(object: Option<UnsafeRef<T>>) -> Option<Place>
     }
 }
 
-/// Removes the member that a gap means in a list whose links lead both ways, and returns it.
+/// Removes the member after the gap, or the last member if the gap is at the back, and returns it. The links of the list lead both ways.
 #[inline(always)]
 pub(crate) fn remove<K: DoubleEnded + BidirectionalLinks<L>, T, L: LinkOps>(
-    list: &mut Chain<K, T>,
+    list: &mut LinkList<K, T>,
     links: &mut L,
     at: &mut K::Position,
     gap: Gap,
@@ -150,7 +150,7 @@ pub(crate) fn remove<K: DoubleEnded + BidirectionalLinks<L>, T, L: LinkOps>(
     }
 }
 
-/// Replaces the member at the position by the object. It returns the member, and whether the object's link was acquired.
+/// Replaces the member at the position by the object. It returns the replaced member, and whether the object's link was acquired.
 #[inline(always)]
 pub(crate) fn replace<C: Bidirectional<L>, L: LinkOps>(
     list: &mut C,

@@ -24,8 +24,8 @@ impl<T> AnyCollection<T> {
     ghost use Rattle.ic_any_collection.specs.AnyCollection.{kind_in, cursor_in, members_in, Held};
     ghost use Rattle.ic_any_collection.specs.Edits.{AtGap, Puts, TakesIfAny, SwapsIfAny, IsUnchanged};
 
-    /// Inserts the object into the gap, and returns whether its link was acquired: if the object is already linked, nothing changes. If the gap is an
-    /// end of a list, the cursor goes to null, otherwise it stays. O(1), in a tree O(log n).
+    /// Inserts the object into the gap, and returns whether its link was acquired. If the object is already linked, it returns `false`, and nothing
+    /// changes. If the gap is an end of a list, the cursor goes to null, otherwise it stays. O(1), in a tree O(log n).
     ///
     /// It requires that the kind has the gap, as [`Gap::can_insert`] says, and that the table covers the object's place.
     #[inline(always)]
@@ -45,8 +45,9 @@ impl<T> AnyCollection<T> {
         }
     }
 
-    /// Removes the member that the gap means, and returns it, or `None` if there is none. If the gap is an end of a list, the cursor goes to null. If
-    /// the cursor is on the member, it goes on to the next one. O(1), in a tree O(log n).
+    /// Removes the member after the gap, or the last member if the gap is at the back, and returns it. It returns `None` if there is no such member.
+    /// If the gap is an end of a list, the cursor goes to null. If the cursor is on the removed member, it goes on to the next member. O(1), in a
+    /// tree O(log n).
     ///
     /// It requires that the kind has the call, as [`Gap::can_remove`] says.
     #[inline(always)]
@@ -64,8 +65,8 @@ impl<T> AnyCollection<T> {
         }
     }
 
-    /// Replaces the member that the gap means by the object. It returns the member, and whether the object's link was acquired. A cursor that was on
-    /// the member is then on the object. If there is no member, or if the object is linked, nothing has changed. O(1).
+    /// Replaces the member after the gap by the object. It returns the replaced member, and whether the object's link was acquired. A cursor that was
+    /// on the member is then on the object. If there is no member, or if the object is linked, nothing has changed. O(1).
     ///
     /// It requires that the kind has the call, as [`Gap::can_replace`] says, and that the table covers the object's place.
     #[inline(always)]

@@ -10,7 +10,7 @@ ghost use Rattle.ic_any_collection.specs.Gaps as gaps;
 
 use crate::kind::Kind;
 
-/// A gap of a collection. A call that removes or replaces a member takes the one after the gap, or the last member if the gap is at the back.
+/// A gap of a collection. A call that removes or replaces a member takes the member after the gap, or the last member if the gap is at the back.
 #[derive(Clone, Copy)]
 pub enum Gap {
     /// The gap before all members.
@@ -38,8 +38,8 @@ impl Gap {
         }
     }
 
-    /// Returns whether collections of this kind can remove the member there. They can at each gap at which they can insert, with one exception: after
-    /// the cursor only singly linked lists can.
+    /// Returns whether collections of this kind can remove the member at the gap. They can at each gap at which they can insert, with one exception:
+    /// only singly linked lists can remove the member after the cursor.
     #[inline]
     pub fn can_remove(self, kind: Kind) -> bool
         ensures { result ≡ gaps.can_remove self kind }
@@ -50,8 +50,8 @@ impl Gap {
         }
     }
 
-    /// Returns whether collections of this kind can replace the member there by an object: the member that the cursor is on, or in a singly linked
-    /// list the member after it.
+    /// Returns whether collections of this kind can replace the member at the gap by an object. They can replace the member that the cursor is on, or
+    /// in a singly linked list the member after the cursor.
     #[inline]
     pub fn can_replace(self, kind: Kind) -> bool
         ensures { result ≡ gaps.can_replace self kind }
@@ -62,7 +62,7 @@ impl Gap {
         }
     }
 
-    // Returns whether an insertion into the gap is made after a position, which is that of the cursor or null.
+    // Returns whether an insertion into the gap is made after a position. The position is the cursor's, or null if the gap is an end of the list.
     #[inline]
     pub(crate) fn is_after(self) -> bool
         ensures { result ≡ gaps.is_after self }

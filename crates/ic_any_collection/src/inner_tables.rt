@@ -1,4 +1,5 @@
-//! The table inside a field's table, for the calls of doubly linked lists and trees, which not every kind of table can serve.
+//! The inner table that a field's table contains. The calls of doubly linked lists and of trees use it, because not every kind of table can serve
+//! them.
 //!
 //! ```text
 //! tree.remove_at(links.tree_mut(), at) // proved: the field carries trees
@@ -32,7 +33,7 @@ impl<M: Allocator> AnyTable<M> {
         }
     }
 
-    /// Returns the same table by a mutable reference.
+    /// Returns the table whose entries also name the previous place, by a mutable reference.
     #[inline(always)]
     pub(crate) fn with_prev_mut(&mut self) -> &mut TableWithPrev<M>
         requires carried { carries (kind_of (table_in self.old)) kind.Doubly ≡ true }
@@ -57,7 +58,7 @@ impl<M: Allocator> AnyTable<M> {
         }
     }
 
-    /// Returns the same table by a mutable reference.
+    /// Returns the table of tree links of a field's table, by a mutable reference.
     #[inline(always)]
     pub(crate) fn tree_mut(&mut self) -> &mut rbtree::LinkOps<M>
         requires carried { carries (kind_of (table_in self.old)) kind.Tree ≡ true }
@@ -69,7 +70,7 @@ impl<M: Allocator> AnyTable<M> {
 }
 
 impl<M: Allocator> TableWithPrev<M> {
-    /// Returns the table of tree links by a mutable reference. It requires that the table can serve trees.
+    /// Returns the table of tree links by a mutable reference. It requires that this table can serve trees.
     #[inline(always)]
     fn tree_mut(&mut self) -> &mut rbtree::LinkOps<M>
         requires carried { carries (kind_of (with_prev.table_in self.old)) kind.Tree ≡ true }

@@ -1,4 +1,4 @@
-//! Keyed calls of a collection that is a tree. Each searches with a probe of the caller's, which makes all comparisons and counts them.
+//! Keyed calls of a collection that is a tree. Each call searches with a probe of the caller, which makes all comparisons and counts them.
 //!
 //! ```text
 //! let mut probe = KeyProbe::new(adapter, &5);
@@ -35,7 +35,7 @@ use ic_rbtree::{Bound, Entry, Iter, KeyAdapter, KeyProbe, Probe, RBTree, Refused
 use ic_unsafe_ref::{Objects, Place, UnsafeRef, Values};
 use std::alloc::{AllocError, Allocator};
 
-// Returns the places of the members that a walk has not returned yet, which are consecutive in the tree, in memory of `alloc`.
+// Returns the places of the members that a walk has not returned yet, in memory of `alloc`. These members are consecutive in the tree.
 fn list_walk<A: KeyAdapter, L: RBTreeOps, O: Values<A::Value>, N: Allocator>(
     alloc: N,
     tree: &RBTree<A>,
@@ -66,7 +66,7 @@ impl<T> AnyCollection<T> {
 
     /// Puts the cursor on the first member that compares equal, or to null if there is none, and returns that member.
     ///
-    /// It requires that this is a tree, that there is an object at each member's place, and that the probe's count is at most `u64::MAX - 66`. O(log
+    /// It requires that `self` is a tree, that there is an object at each member's place, and that the probe's count is at most `u64::MAX - 66`. O(log
     /// n): in a tree of n members the probe compares at most 2 log2(n + 1) times.
     pub fn find_by<P: Probe<T>, M: Allocator, B: Allocator>(
         &mut self,
@@ -107,7 +107,7 @@ impl<T> AnyCollection<T> {
     /// Puts the cursor on the first member that meets the bound, or to null if there is none, and returns that member. For `Unbounded` it compares
     /// nothing.
     ///
-    /// It requires what [`AnyCollection::find_by`] does, of the bound's probe. If the tree is not sorted by the probe's order, the cursor is at a
+    /// It requires of the bound's probe what [`AnyCollection::find_by`] requires. If the tree is not sorted by the probe's order, the cursor is at a
     /// point where the result of the comparison changes from one member to the next. O(log n).
     pub fn lower_bound_by<P: Probe<T>, M: Allocator, B: Allocator>(
         &mut self,
@@ -134,7 +134,7 @@ impl<T> AnyCollection<T> {
     /// Puts the cursor on the last member that meets the bound, or to null if there is none, and returns that member. For `Unbounded` it compares
     /// nothing.
     ///
-    /// It requires what [`AnyCollection::find_by`] does, of the bound's probe. If the tree is not sorted by the probe's order, the cursor is at a
+    /// It requires of the bound's probe what [`AnyCollection::find_by`] requires. If the tree is not sorted by the probe's order, the cursor is at a
     /// point where the result of the comparison changes from one member to the next. O(log n).
     pub fn upper_bound_by<P: Probe<T>, M: Allocator, B: Allocator>(
         &mut self,
@@ -160,8 +160,8 @@ impl<T> AnyCollection<T> {
 
     /// Returns the members between two bounds, in memory of `alloc`. It makes a separate search with each bound's probe.
     ///
-    /// It requires that this is a tree, that there is an object at each member's place, that both probes have the adapter, and that their counts are
-    /// at most `u64::MAX - 66`. O(log n + answer).
+    /// It requires that `self` is a tree, and that there is an object at each member's place. Both probes have to use the adapter `adapter`, and
+    /// their counts have to be at most `u64::MAX - 66`. O(log n + answer).
     pub fn range_by<A: KeyAdapter<Value = T>, M: Allocator, B: Allocator, N: Allocator>(
         &self,
         alloc: N,
@@ -194,10 +194,10 @@ impl<T> AnyCollection<T> {
     }
 
     /// Inserts the object at its position in the probe's order, after members that compare equal, and returns whether its link was acquired. Then the
-    /// cursor is on it. If the object is already linked, nothing changes, and the probe compares nothing. O(log n).
+    /// cursor is on the object. If the object is already linked, nothing changes, and the probe compares nothing. O(log n).
     ///
-    /// It requires that this is a tree, that there is an object at each member's place, that the table covers the place, and that the probe's count
-    /// is at most `u64::MAX - 66`.
+    /// It requires that `self` is a tree, and that there is an object at each member's place. The table has to cover the object's place, and the
+    /// probe's count has to be at most `u64::MAX - 66`.
     #[inline]
     pub fn insert_by<P: Probe<T>, M: Allocator, B: Allocator>(
         &mut self,
@@ -228,7 +228,7 @@ impl<T> AnyCollection<T> {
     }
 
     /// Inserts the object at its position in the probe's order, after members that compare equal, and returns whether its link was acquired. The
-    /// cursor stays. It requires what [`AnyCollection::insert_by`] does.
+    /// cursor stays. It requires what [`AnyCollection::insert_by`] requires.
     pub fn cursor_insert_by<P: Probe<T>, M: Allocator, B: Allocator>(
         &mut self,
         links: &mut AnyTable<M>,
@@ -254,11 +254,11 @@ impl<T> AnyCollection<T> {
     }
 
     /// Puts the cursor on the first member that compares equal, or else inserts the object into the gap where the searched key belongs and puts the
-    /// cursor on it. It returns whether a member compares equal, and that member or the object. If none does and the object is already linked, it
-    /// returns `None`, and neither tree nor links have changed.
+    /// cursor on the object. It returns whether a member compares equal, and that member or the object. If no member compares equal and the object is
+    /// already linked, it returns `None`, and neither tree nor links have changed.
     ///
-    /// It requires that this is a tree, that there is an object at each member's place, that the object's place is covered, and that the probe's
-    /// count is at most `u64::MAX - 66`. O(log n).
+    /// It requires that `self` is a tree, and that there is an object at each member's place. The object's place has to be covered, and the probe's
+    /// count has to be at most `u64::MAX - 66`. O(log n).
     pub fn entry_by<P: Probe<T>, M: Allocator, B: Allocator>(
         &mut self,
         links: &mut AnyTable<M>,

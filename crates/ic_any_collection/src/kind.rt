@@ -6,7 +6,7 @@
 
 ghost use Rattle.std.specs.Prelude.{◌≡◌};
 
-/// A kind of tables, and of the collections that need everything that such a table stores.
+/// A kind of link tables, and of collections. A collection needs everything that a table of its own kind stores.
 #[derive(Clone, Copy, PartialEq, Eq, Debug)]
 pub enum Kind {
     /// Singly linked lists: an entry names the next place.
@@ -22,7 +22,7 @@ pub enum Kind {
 impl Kind {
     ghost use Rattle.ic_any_collection.specs.Kinds.{carries};
 
-    /// Returns whether a table of this kind can serve collections of the other kind.
+    /// Returns whether a table of this kind can serve collections of the kind `collection`.
     ///
     /// Every table can serve singly linked lists and XOR lists. Tables of doubly links and of tree links can also serve doubly linked lists, and
     /// tables of tree links can serve every kind.

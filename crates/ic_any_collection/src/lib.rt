@@ -11,8 +11,8 @@
 //! An [`AnyTable`] is a table of any kind, and every kind can serve singly linked lists and XOR lists. If its entries also name the previous place,
 //! it contains a [`TableWithPrev`], which can serve doubly linked lists, too. If it has tree links, it can also serve trees.
 //!
-//! An [`AnyCollection`] is a collection of any kind, with its cursor. Each call is passed on to the collection's kind and to the table that serves
-//! it, and its contract is the same for every kind. If a kind lacks a call, the call requires that the collection is of another kind.
+//! An [`AnyCollection`] is a collection of any kind, with its cursor. Each call is passed on to the collection's kind and to its table. The contract
+//! of a call is the same for every kind. If a kind of collection lacks a call, the call requires that the collection is of another kind.
 #![tactic(auto)]
 
 mod any_collection;

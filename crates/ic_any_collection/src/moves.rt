@@ -17,7 +17,7 @@ use ic_link_ops::PlaceWord;
 use ic_unsafe_ref::Place;
 use std::alloc::Allocator;
 
-// Moves a position to that member or to null, and returns the member that it is on.
+// Moves the position `at` to the position `to`, and returns the member at `to`, or `None` at null.
 #[inline]
 fn moved_to<P: Position>(at: &mut P, to: P) -> Option<Place>
     ensures moved { at.new ≡ to }
@@ -50,7 +50,7 @@ impl<T> AnyCollection<T> {
     /// Moves the cursor to the next member, from null to the first one, and from the last one to null, and returns the member that it is then on.
     /// O(1), in a tree O(log n).
     ///
-    /// It requires that the field's table keeps the collection, as all calls do that take the table.
+    /// It requires that the field's table keeps the collection. All calls that take the table require this.
     #[inline]
     pub fn move_next<M: Allocator>(&mut self, links: &AnyTable<M>) -> Option<Place>
         requires held { Held (table_in links.now) self.old }

@@ -1,4 +1,4 @@
-//! Calls that only read a collection: they return its members from the front, and whether a place is one of them.
+//! Calls that only read a collection: they return its members from the front, and whether a place is a member.
 //!
 //! ```text
 //! queue.listed(alloc, &field)?     // the places of all members
@@ -19,7 +19,7 @@ impl<T> AnyCollection<T> {
     ghost use Rattle.ic_any_collection.specs.AnyCollection.{members_in, Held};
     ghost use Rattle.ic_any_collection.specs.Edits.{AtGap};
 
-    // Returns the first member.
+    // Returns the first member of the collection, or `None` if it is empty.
     #[inline]
     fn front<M: Allocator>(&self, links: &AnyTable<M>) -> Option<Place>
         requires held { Held (table_in links.now) self.now }
@@ -33,8 +33,8 @@ impl<T> AnyCollection<T> {
         }
     }
 
-    /// Returns the member after `place`, or `None` if `place` is the last. It requires that `place` is a member, and `prev` the member before it.
-    /// O(1), in a tree O(log n).
+    /// Returns the member after `place`, or `None` if `place` is the last. It requires that `place` is a member, and that `prev` is the member before
+    /// `place`. O(1), in a tree O(log n).
     #[inline]
     pub fn after<M: Allocator>(
         &self,

@@ -1,4 +1,4 @@
-//! The tables whose entries also name the previous place, under one type.
+//! One type for the two kinds of tables whose entries also name the previous place.
 //!
 //! ```text
 //! if let AnyTable::WithPrev(links) = &mut field {

@@ -1,4 +1,4 @@
-//! The adapter of a tree whose searches each pass an adapter of their own.
+//! The adapter of a tree without keys of its own: the caller passes each search an adapter for the keys.
 //!
 //! ```text
 //! let tree = RBTree::new(Unkeyed::new()); // searched by `find_by`, which compares by its probe

@@ -23,7 +23,8 @@ impl<T> AnyCollection<T> {
     ghost use Rattle.ic_any_collection.specs.AnyCollection.{kind_in, cursor_in, members_in, is_list, is_two_way_list, is_xor, Keeps, Held, Alike};
     ghost use Rattle.ic_any_collection.specs.Edits.{AtGap, Empties, PutsAll, Parts};
 
-    /// Returns the whole collection, with its cursor at null, and leaves this one empty. O(1): it reads no table, and no link changes.
+    /// Returns a collection with all members and with its cursor at null, and leaves `self` empty. It costs O(1), because it reads no table and
+    /// changes no link.
     #[inline]
     pub fn take(&mut self) -> AnyCollection<T>
         ensures whole { (t : Table Entry) (s : List Place) → Keeps t self.old s → Keeps t result s }
@@ -62,10 +63,10 @@ impl<T> AnyCollection<T> {
         self.take().dispose(links);
     }
 
-    /// Moves all members of the given collection after the cursor, or to the front if the cursor is at null. The cursor stays.
+    /// Moves all members of the collection `given` after the cursor, or to the front if the cursor is at null. The cursor stays.
     ///
-    /// It requires that both are lists of one kind, kept by the same table, which share no member. O(1). For singly linked lists it reads one entry
-    /// for each given member.
+    /// It requires that both collections are lists of one kind, that one table keeps both, and that they share no member. O(1). For singly linked
+    /// lists it reads one entry for each given member.
     #[inline]
     pub fn splice_after<M: Allocator>(&mut self, links: &mut AnyTable<M>, given: AnyCollection<T>)
         requires held { Held (table_in links.old) self.old }
@@ -96,9 +97,10 @@ impl<T> AnyCollection<T> {
         }
     }
 
-    /// Moves all members of the given collection before the cursor, or to the back if the cursor is at null. The cursor stays.
+    /// Moves all members of the collection `given` before the cursor, or to the back if the cursor is at null. The cursor stays.
     ///
-    /// It requires that both are doubly linked lists or both XOR lists, kept by the same table, which share no member. O(1).
+    /// It requires that both collections are doubly linked lists, or both are XOR lists. It also requires that one table keeps both, and that they
+    /// share no member. O(1).
     #[inline]
     pub fn splice_before<M: Allocator>(&mut self, links: &mut AnyTable<M>, given: AnyCollection<T>)
         requires held { Held (table_in links.old) self.old }
@@ -126,7 +128,7 @@ impl<T> AnyCollection<T> {
 
     /// Returns the members after the cursor as a collection, or all members if the cursor is at null. The cursor stays.
     ///
-    /// It requires that this is a list. O(1).
+    /// It requires that the collection is a list. O(1).
     #[inline]
     pub fn split_after<M: Allocator>(&mut self, links: &mut AnyTable<M>) -> AnyCollection<T>
         requires held { Held (table_in links.old) self.old }
@@ -150,7 +152,7 @@ impl<T> AnyCollection<T> {
 
     /// Returns the members before the cursor as a collection, or all members if the cursor is at null. The cursor stays.
     ///
-    /// It requires that this is a doubly linked or an XOR list. O(1).
+    /// It requires that the collection is a doubly linked list or an XOR list. O(1).
     #[inline]
     pub fn split_before<M: Allocator>(&mut self, links: &mut AnyTable<M>) -> AnyCollection<T>
         requires held { Held (table_in links.old) self.old }
@@ -168,9 +170,9 @@ impl<T> AnyCollection<T> {
         }
     }
 
-    /// Reverses an XOR list, and moves its cursor to null. O(1): no entry is written.
+    /// Reverses an XOR list, and moves its cursor to null. It costs O(1), because it writes no entry.
     ///
-    /// It requires that this is an XOR list.
+    /// It requires that the collection is an XOR list.
     #[inline]
     pub fn reverse<M: Allocator>(&mut self, links: &AnyTable<M>)
         requires held { Held (table_in links.now) self.old }

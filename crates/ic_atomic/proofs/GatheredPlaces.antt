@@ -1,4 +1,4 @@
--- Places that one holder claims one after the other, and the list of those that it got.
+-- How one holder claims places one after the other, and gets a list of the places whose claims succeeded.
 use Rattle.std.proofs.Common.{◌≡◌, ◌+◌, ℕ, Bool, true, false, if◌then◌else◌, List, [], ◌∷◌, ◌++◌, length, refl, sym, ap, ◌∙◌, subst, arith, append_assoc, append-nil}
 use Rattle.ic_link_ops.specs.Prelude.{Place, IsAbsent, Table, ChangesOnlyIn}
 use Rattle.ic_link_ops.specs.Chains.{Ends}
@@ -9,7 +9,7 @@ use Rattle.ic_atomic.specs.declared.step.Event.{Event}
 use Rattle.ic_atomic.specs.Records.{event}
 use Rattle.ic_atomic.specs.Gathering.{claims_of_each, chosen}
 
--- one claim more
+-- the record of the claims of several places and then p is the record of these claims, followed by the claim of p
 claims_more : (ps : List Place) (got : List Bool) (p : Place) (b : Bool) → length got ≡ length ps
     → claims_of_each (ps ++ p ∷ []) (got ++ b ∷ []) ≡ claims_of_each ps got ++ event (Claim p) (if b then 0 else 1) ∷ []
 claims_more [] [] p b e = refl
@@ -30,7 +30,7 @@ one_more : {X : Type 0} (xs : List X) (x : X) → length (xs ++ x ∷ []) ≡ le
 one_more [] x = refl
 one_more (y ∷ xs) x = let e = one_more xs x in omega (arith, e)
 
--- what is absent among all is absent among the chosen ones
+-- a place that is not among the offered places is not among the places whose claims succeeded
 absent_chosen : (q : Place) (ps : List Place) (got : List Bool) → IsAbsent q ps → IsAbsent q (chosen ps got)
 absent_chosen q [] got h = tt
 absent_chosen q (p ∷ ps) [] h = tt
@@ -38,7 +38,7 @@ absent_chosen q (p ∷ ps) (true ∷ got) h = (h.0, absent_chosen q ps got h.1)
 absent_chosen q (p ∷ ps) (false ∷ got) h = absent_chosen q ps got h.1
 
 module _ {E : Type 0} (n : E → Neighbors) where
-  -- THESE PLACES WERE CLAIMED, one after the other, and the list has those that were had after what it had
+  -- THE PLACES IN `seen` WERE CLAIMED, one after the other, and the places whose claims succeeded were appended to the list
   pub record Gathered (t u : Table E) (list new_list : Ends) (r w : List Event) (seen : List Place) (pushed : ℕ) : Type 0 where
     pub got : List Bool
     pub each : length got ≡ length seen
@@ -66,7 +66,7 @@ module _ {E : Type 0} {n : E → Neighbors} where
         ∙ append_assoc r (claims_of_each seen k.got) (event (Claim p) (if b then 0 else 1) ∷ [])
         ∙ ap (λ (es : List Event). r ++ es) (sym (claims_more seen k.got p b k.each))
 
-    -- the next one was had,
+    -- if the claim of the next place succeeds, this place is appended to the list
     pub gathered_one : {v : Table E} {last_list : Ends} {more_pushed : ℕ} → more_pushed ≡ pushed + 1 → w' ≡ w ++ event (Claim p) 0 ∷ [] → ((s : List Place) → Represents n u new_list s → Represents n v last_list (s ++ p ∷ []))
         → ((s : List Place) → Represents n u new_list s → ChangesOnlyIn u v (p ∷ s)) → v.extent ≡ u.extent → Gathered n t v list last_list r w' (seen ++ p ∷ []) more_pushed
     gathered_one {v} {last_list} counts is joins keeps same =
@@ -89,7 +89,7 @@ module _ {E : Type 0} {n : E → Neighbors} where
           extent = same ∙ k.extent;
         }
 
-    -- or not
+    -- if the claim of the next place does not succeed, the list stays as it is
     pub gathered_none : {v : Table E} {last_list : Ends} {more_pushed : ℕ} → more_pushed ≡ pushed → w' ≡ w ++ event (Claim p) 1 ∷ [] → last_list ≡ new_list → v ≡ u
         → Gathered n t v list last_list r w' (seen ++ p ∷ []) more_pushed
     gathered_none {v} {last_list} counts is list_same same_table =

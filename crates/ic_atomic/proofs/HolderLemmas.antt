@@ -1,25 +1,25 @@
--- Holders whose seats have one record in hand, and seats that gather records.
+-- Holders whose seats have one record in hand, and seats to which the records of several holders are moved.
 use Rattle.std.proofs.Common.{◌≡◌, ◌≢◌, zero, suc, ℕ, ◌+◌, ◌<◌, ◌≤◌, true, true≢false, List, [], ◌∷◌, ◌++◌, map, drop, append-nil, length, get_or, set, replicate, refl, sym, ap, ◌∙◌, subst, arith}
 use Rattle.std.proofs.lemmas.List.{get_or-set_same, get_or-set_other, drop_more, nil_from_length}
 use mathlib.Core.Logic.{dite}
 use native.Mathlib.Decide.{ℕ_discrete}
 use Rattle.ic_unsafe_ref.specs.declared.place.Place.{Place}
 use Rattle.ic_atomic.specs.declared.step.Event.{Event}
-use Rattle.ic_atomic.specs.declared.hand.Size.{Size}
-use Rattle.ic_atomic.specs.declared.hand.HeldRecords.{HeldRecords}
+use Rattle.ic_atomic.specs.declared.held.Size.{Size}
+use Rattle.ic_atomic.specs.declared.held.HeldRecords.{HeldRecords}
 use Rattle.ic_atomic.specs.declared.claims.Claims.{Claims}
 use Rattle.ic_atomic.specs.declared.claims.Holder.{Holder}
-use Rattle.ic_atomic.specs.Hands.{hand, without_first, only_first}
+use Rattle.ic_atomic.specs.Held.{hand, without_first, only_first}
 use Rattle.ic_atomic.specs.Records.{holds}
 use Rattle.ic_atomic.specs.OneList.{record_at, IsOneList}
 use Rattle.ic_atomic.specs.Rule.{mine, Compares}
 use Rattle.ic_atomic.specs.Holders.{holders_of, IsSeatOf, hand_of, hand_with, record_of, IsOf, AreOneList, AreWholeList, NoneTwice}
 
--- a holder with this record in hand
+-- a holder with the record r alone in hand was made with the claims, and r is its record
 pub is_of : {A : Type 0} (claims : Claims A) (h : Holder) (r : List Event) → IsSeatOf claims h.seat → hand_of h.seat ≡ hand_with claims (r ∷ []) → IsOf claims h × (record_of h ≡ r)
 is_of claims h r t e = (record { table = t; hand = e ∙ ap (λ (x : List Event). hand_with claims (x ∷ [])) (sym (ap mine e)) }, ap mine e)
 
--- one more empty record is dealt
+-- if the first of n empty records is moved to a new seat, n - 1 empty records are left
 module _ (size : Size) (n m : ℕ) (v : HeldRecords) (has : v ≡ hand size (replicate n [])) (is : n ≡ suc m) where
   pub dealt_rest : without_first v ≡ hand size (replicate m [])
   dealt_rest = ap without_first (has ∙ ap (λ k. hand size (replicate k [])) is)
@@ -27,11 +27,11 @@ module _ (size : Size) (n m : ℕ) (v : HeldRecords) (has : v ≡ hand size (rep
   pub dealt_first : only_first v ≡ hand size ([] ∷ [])
   dealt_first = ap only_first (has ∙ ap (λ k. hand size (replicate k [])) is)
 
--- a holder's seat has these records in hand
+-- the seat of the holder h has exactly these records in hand
 abbrev pub HasRecords : {A : Type 0} → Claims A → List (List Event) → Holder → Type 0
 HasRecords claims records h = IsSeatOf claims h.seat × (hand_of h.seat ≡ hand_with claims records)
 
--- the first of the gathered records goes back
+-- the first of the gathered records moves back to the seat of its holder
 module _ (size : Size) (hs : List Holder) (i : ℕ) (d : Holder) (lt : i < length hs) (v : HeldRecords) (has : v ≡ hand size (map record_of (drop i hs))) where
   gathered : v ≡ hand size (record_of (get_or hs i d) ∷ map record_of (drop (i + 1) hs))
   gathered = has ∙ ap (λ (l : List Holder). hand size (map record_of l)) (drop_more hs i d lt)
@@ -43,7 +43,7 @@ module _ (size : Size) (hs : List Holder) (i : ℕ) (d : Holder) (lt : i < lengt
   first_back = ap only_first gathered
 
 module _ {A : Type 0} (claims : Claims A) where
-  -- one holder more has its record again
+  -- if the first i holders have their records again and the next holder gets its record, the first i + 1 holders have their records
   pub one_back : (hs now : List Holder) (i : ℕ) (new : Holder) → i < length now
       → ((k : ℕ) (d : Holder) → k < i → HasRecords claims (record_of (get_or hs k d) ∷ []) (get_or now k d))
       → ((d : Holder) → HasRecords claims (record_of (get_or hs i d) ∷ []) new)
@@ -59,7 +59,7 @@ module _ {A : Type 0} (claims : Claims A) where
       let ne : k ≢ i = λ e. absurd (omega (arith, e, above)) in
       subst (HasRecords claims []) (sym (get_or-set_other now i k new d ne)) (empty k d (omega (arith, above)) inside)
 
-  -- all have their records again
+  -- if each holder has its record again, the records of all holders are as they were before
   pub all_back : (hs now : List Holder) → length now ≡ length hs
       → ((k : ℕ) (d : Holder) → k < length hs → HasRecords claims (record_of (get_or hs k d) ∷ []) (get_or now k d))
       → map record_of now ≡ map record_of hs
@@ -71,7 +71,7 @@ module _ {A : Type 0} (claims : Claims A) where
       let rest = all_back xs ys (omega (arith, long)) (λ k d h. back (suc k) d (omega (arith, h))) in
       λ i. one i ∷ rest i
 
-  -- what was told of the gathered records
+  -- if the gathered records were compared with all others, they are in one list of steps with the records of all other holders
   pub reported : (rs : List (List Event)) (v : HeldRecords) → v ≡ hand_with claims rs → Compares v → AreOneList claims rs
   reported rs v has c =
       let here : Compares (hand_with claims rs) = subst Compares has c in record {
@@ -82,7 +82,7 @@ module _ {A : Type 0} (claims : Claims A) where
         one = here.one;
       }
 
-  -- where there is no other
+  -- if the given records are those of all holders, they alone are one list of steps
   pub told_whole : (rs : List (List Event)) → AreOneList claims rs → length rs ≡ holders_of claims → AreWholeList claims rs
   told_whole rs one all =
       let none : one.others ≡ [] = nil_from_length one.others (omega (arith, one.all, all)) in record {
@@ -96,6 +96,6 @@ held_in p [] others h e = absurd (true≢false (sym e))
 held_in p (r ∷ rs) others zero e = e
 held_in p (r ∷ rs) others (suc h) e = held_in p rs others h e
 
--- where some records are of one list with others, no place is held by two of them
+-- if some records are in one list of steps with others, no place is held by two holders with these records
 pub none_twice : (words : List ℕ) (rs others : List (List Event)) → IsOneList words (rs ++ others) → NoneTwice rs
 none_twice words rs others one h k p a b = one.apart h k p (held_in p rs others h a) (held_in p rs others k b)

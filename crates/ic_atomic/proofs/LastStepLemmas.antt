@@ -1,4 +1,4 @@
--- What one list says of its last step: where that is a claim that was refused, somebody holds the place.
+-- What follows from one list of steps for its last step: if this is a claim that was refused, some holder holds the place.
 use Rattle.std.proofs.Common.{◌≡◌, ℕ, cond, eq-eqb, List, [], ◌∷◌, ◌++◌, map, length, refl, sym, ap, ◌∙◌, arith, Option, Some, None}
 use Rattle.ic_link_ops.specs.Prelude.{Place, index_of}
 use Rattle.ic_atomic.specs.declared.step.Step.{Step}
@@ -10,7 +10,7 @@ use Rattle.ic_atomic.proofs.Lists.{map-snoc, last_map-snoc, words_found-snoc}
 use Rattle.ic_atomic.proofs.OneListLemmas.{end_map, ends_of, someone, steps_of-mine}
 
 module _ {A : Type 0} where
-  -- the last of a list, or this one where it is empty
+  -- the last element of a list, or d if the list is empty
   abbrev last_or : A → List A → A
   last_or d [] = d
   last_or d (x ∷ xs) = last_or x xs
@@ -19,7 +19,7 @@ module _ {A : Type 0} where
   last_or-snoc d [] a = refl
   last_or-snoc d (x ∷ xs) a = last_or-snoc x xs a
 
-  -- lists that are equal end alike
+  -- if two lists are equal, their last elements are equal
   pub same_last : (xs ys : List A) (a b : A) → xs ++ a ∷ [] ≡ ys ++ b ∷ [] → a ≡ b
   same_last xs ys a b e = sym (last_or-snoc a xs a) ∙ (ap (last_or a) e ∙ last_or-snoc a ys b)
 
@@ -27,7 +27,7 @@ module _ {A : Type 0} where
   snoc_not_nil [] a e = let short = ap length e in absurd (omega (arith, short))
   snoc_not_nil (x ∷ xs) a e = let short = ap length e in absurd (omega (arith, short))
 
-  -- a list, as what comes before its last and that
+  -- a list that is not empty is its last element and the elements before it
   record Parted (l : List A) : Type 0 where
     before : List A
     last : A
@@ -37,18 +37,18 @@ module _ {A : Type 0} where
   parted x [] = record { before = []; last = x; is = refl }
   parted x (y ∷ ys) = let rest = parted y ys in record { before = x ∷ rest.before; last = rest.last; is = ap (λ l. x ∷ l) rest.is }
 
--- a claim of a held place leaves its holder
+-- a claim of a place that is held leaves the place with its holder
 refused_leaves : (o : Option ℕ) (a : ℕ) (p : Place) → word_for o ≡ 1 → holder_after o a (Claim p) ≡ o
 refused_leaves None a p e = absurd (omega (arith, e))
 refused_leaves (Some h) a p e = refl
 
--- the last step of all ends its holder's record
+-- the last step of all is the last step in the record of its holder
 pub record LastStep (records : List (List Event)) : Type 0 where
   pub holder : ℕ
   pub before : List Event
   pub event : Event
   pub is : record_at records holder ≡ before ++ event ∷ []
-  -- Where it is a claim that was refused, somebody holds the place.
+  -- If the last step of all is a claim that was refused, some holder holds the place.
   pub refused : (p : Place) → event.step ≡ Claim p → event.found ≡ 1 → IsHeld records p
 
 module _ (words : List ℕ) (records : List (List Event)) (one : IsOneList words records) where
@@ -73,7 +73,7 @@ module _ (words : List ℕ) (records : List (List Event)) (one : IsOneList words
             (by.0, sym (ends_of words records one by.0 p) ∙ by.1);
       }
 
-  -- where some record has a step, there is a last one
+  -- if some record has a step, there is a last step of all
   pub last_step : (h : ℕ) (r : List Event) (e : Event) → record_at records h ≡ r ++ e ∷ [] → LastStep records
   last_step h r e has = from one.order refl
     where

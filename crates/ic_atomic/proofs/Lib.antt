@@ -5,7 +5,7 @@ pub mod LastChangeLemmas
 pub mod RecordLemmas
 pub mod OneListLemmas
 pub mod OrderLemmas
-pub mod HandLemmas
+pub mod HeldLemmas
 pub mod RuleLemmas
 pub mod HolderLemmas
 pub mod LastStepLemmas

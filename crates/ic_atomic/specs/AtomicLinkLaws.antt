@@ -7,7 +7,7 @@ use Rattle.ic_atomic.specs.declared.step.Event.{Event}
 use Rattle.ic_atomic.specs.declared.atomic_link_ops.AtomicLinkOps.{AtomicLinkOps}
 use Rattle.ic_atomic.specs.AtomicLinks.{step_of, record_in, links_of, Gains}
 
--- the steps of two lists of link steps, one after the other
+-- the steps of a holder for two lists of link steps, one after the other, are the steps for the first list, followed by the steps for the second
 steps_on : (s t : List LinkStep) → map step_of (s ++ t) ≡ map step_of s ++ map step_of t
 steps_on [] t = refl
 steps_on (x ∷ s) t = ap (λ (es : List Event). step_of x ∷ es) (steps_on s t)

@@ -1,4 +1,4 @@
--- A table whose places are claimed, as contracts see it.
+-- What contracts say about a table that claims each place before it links the place.
 use Rattle.std.specs.Prelude.{◌≡◌, List, [], ◌∷◌, ◌++◌, map}
 use Rattle.ic_link_ops.specs.Prelude.{Place, LinkStep, acquires, releases}
 use Rattle.ic_link_ops.specs.declared.link_ops.LinkOps.{Ghosts}
@@ -10,13 +10,13 @@ use Rattle.ic_atomic.specs.declared.atomic_link_ops.AtomicLinkOps.{AtomicLinkOps
 use Rattle.ic_atomic.specs.Holders.{record_of}
 use Rattle.ic_atomic.specs.Records.{event}
 
--- the step of its holder by which a table links a place, or unlinks it
+-- the holder's step for a link step of its table: a claim that found 0 if a place is linked, and a release that found 1 if it is unlinked
 abbrev pub step_of : LinkStep → Event
 step_of (acquires p) = event (Claim p) 0
 step_of (releases p) = event (Release p) 1
 
 module _ {L A E : Type 0} {g : Ghosts L E} where
-  -- the claims, the holder with the record of its steps, and the table that links the places which it holds
+  -- the parts of the table t: its claims, its holder, the record of the holder's steps, and the table with the links of the places that the holder holds
   abbrev pub claims_of : AtomicLinkOps L A E g → Claims A
   claims_of t = t.claims.now
 
@@ -29,13 +29,14 @@ module _ {L A E : Type 0} {g : Ghosts L E} where
   abbrev pub links_of : AtomicLinkOps L A E g → L
   links_of t = t.links
 
-  -- THE RECORD GAINS, in this order, a claim that found 0 for each link and a release for each unlink, and nothing else
+  -- THE RECORD GAINS THE STEPS: in the order of `steps`, the holder's record gains a claim that found 0 for each link and a release for each unlink. The record
+  -- gains nothing else
   pub record Gains (Trace : L → L → List LinkStep → Type 0) (old new : AtomicLinkOps L A E g) (steps : List LinkStep) : Type 0 where
     pub claims : claims_of new ≡ claims_of old
     pub gained : record_in new ≡ record_in old ++ map step_of steps
     pub did : Trace (links_of old) (links_of new) steps
 
-  -- THE LINK WAS REFUSED: the record gains a claim that found 1, and nothing else has changed
+  -- THE LINK WAS REFUSED: the holder's record gains a claim of p that found 1, and nothing else has changed
   pub record Fails (old new : AtomicLinkOps L A E g) (p : Place) : Type 0 where
     pub claims : claims_of new ≡ claims_of old
     pub gained : record_in new ≡ record_in old ++ event (Claim p) 1 ∷ []

@@ -5,52 +5,52 @@ use Rattle.ic_link_ops.specs.Prelude.{Place, index_of}
 use Rattle.ic_atomic.specs.declared.step.Step.{Step}
 use Rattle.ic_atomic.specs.declared.step.Step.TheVariants.{Claim, Release, Look}
 use Rattle.ic_atomic.specs.declared.step.Event.{Event}
-use Rattle.ic_atomic.specs.declared.hand.Size.{Size}
-use Rattle.ic_atomic.specs.declared.hand.HeldRecords.{HeldRecords}
+use Rattle.ic_atomic.specs.declared.held.Size.{Size}
+use Rattle.ic_atomic.specs.declared.held.HeldRecords.{HeldRecords}
 use Rattle.ic_atomic.specs.Records.{event, holds}
 use Rattle.ic_atomic.specs.OneList.{record_at, IsOneList}
-use Rattle.ic_atomic.specs.Hands.{hand, records_in}
+use Rattle.ic_atomic.specs.Held.{hand, records_in}
 
--- there are this many words, and this many records in all hands, and these records are one list
+-- The number of claim words and the number of records in all hands are those that `size` says, and the records are one list of steps
 pub record Rule (size : Size) (s : State (Unit {0}) HeldRecords) : Type 0 where
   pub words : length s.words ≡ size.words
   pub holders : length (records_in s.views) ≡ size.holders
   pub one : IsOneList s.words (records_in s.views)
 
--- at first one hand has every record, and all are empty
+-- at first one hand has the records of all holders, and each record is empty
 abbrev pub all_fresh : Size → HeldRecords
 all_fresh size = hand size (replicate size.holders [])
 
--- what a seat knows: its hand, and no slots
+-- what a seat knows: the records in its hand. The seat has no slots
 abbrev pub Mine : Type 0
 Mine = Me (Unit {0}) HeldRecords
 
--- the record of a holder's hand
+-- the first record in a hand, which is the record of the holder that has the hand
 abbrev pub mine : HeldRecords → List Event
 mine v = record_at v.records 0
 
--- the one record in hand gains the step with the word that it found
+-- the first record in hand gains the step s with the word `found` that the step found, and the hand has no other record afterwards
 pub record Gains (s : Step) (found : ℕ) (old new : HeldRecords) : Type 0 where
   pub gained : new ≡ hand old.size ((mine old ++ event s found ∷ []) ∷ [])
 
--- a compare-exchange finds 0 only if this holder doesn't hold the place
+-- After a compare-exchange the record gains a claim with the word n that was found, which is 0 or 1. The word is 0 only if this holder doesn't hold the place
 abbrev pub claimed : TableStep (Unit {0}) → Mine → ℕ → Mine → Type 0
 claimed t me n me' =
     (n < 2) × ((p : Place) → index_of p ≡ t.word → Gains (Claim p) n me.0 me'.0 × (n ≡ 0 → holds p (mine me.0) ≡ false))
 
--- a store finds 1, since its holder holds the place
+-- After a store that releases a place the record gains a release. The store finds 1, because the holder holds the place
 abbrev pub released : TableStep (Unit {0}) → Mine → ℕ → Mine → Type 0
 released t me n me' = (p : Place) → index_of p ≡ t.word → Gains (Release p) 1 me.0 me'.0
 
--- a load finds the word as it is
+-- After a load of a claim word the record gains a look with the word n that was found, which is 0 or 1
 abbrev pub looked : TableStep (Unit {0}) → Mine → ℕ → Mine → Type 0
 looked t me n me' = (n < 2) × ((p : Place) → index_of p ≡ t.word → Gains (Look p) n me.0 me'.0)
 
--- a new seat has no record
+-- a new seat has no record in hand
 abbrev pub seated : TableStep (Unit {0}) → Mine → ℕ → Mine → Type 0
 seated t me n me' = me'.0 ≡ hand me.0.size []
 
--- at one moment, the records in hand and those in all other hands are one list
+-- at one moment, the records in hand and the records in all other hands are one list of steps
 pub record Compares (v : HeldRecords) : Type 0 where
   pub others : List (List Event)
   pub all : length v.records + length others ≡ v.size.holders
@@ -58,6 +58,6 @@ pub record Compares (v : HeldRecords) : Type 0 where
   pub counted : length words ≡ v.size.words
   pub one : IsOneList words (v.records ++ others)
 
--- after a load, the statement above is known of the records in hand, which stay as they are
+-- after a load it is known that, at one moment, the records in hand and those in all other hands are one list of steps. The records in hand stay as they are
 abbrev pub compared : TableStep (Unit {0}) → Mine → ℕ → Mine → Type 0
 compared t me n me' = (me'.0 ≡ me.0) × Compares me.0

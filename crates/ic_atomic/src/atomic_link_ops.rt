@@ -1,4 +1,4 @@
-//! Tables of links whose places are claimed: for objects that threads share.
+//! Tables of links for objects that threads share: a table claims a place before it links the place.
 //!
 //! ```text
 //! let mut links = linked_list::AtomicLinkOps::new(&claims, holder, table);
@@ -20,9 +20,8 @@ use std::alloc::{Allocator, Global};
 
 /// A table of links whose linked places are exactly those that its holder has claimed.
 ///
-/// It refuses a link exactly if some holder, living or dropped, holds the place. Each link is one claim of its holder, and
-/// each unlink is one release. Nobody else reads or writes the entries of the table, so no call waits. If the table is
-/// dropped, its places stay held.
+/// The table refuses a link exactly if some holder, living or dropped, holds the place. Each link is one claim of its holder, and each unlink is one release.
+/// No other thread reads or writes the entries of the table, so no call waits. If the table is dropped, the places that its holder holds stay held.
 #[derive(Drop)]
 pub struct AtomicLinkOps<'c, L: PlainLinkOps, A: Allocator = Global> {
     claims: &'c Claims<A>,
@@ -38,10 +37,10 @@ impl<'c, L: PlainLinkOps, A: Allocator> AtomicLinkOps<'c, L, A> {
     ghost use Rattle.ic_atomic.specs.AtomicLinks.{claims_of, holder_of, record_in, links_of, Gains};
     ghost use Rattle.ic_atomic.specs.declared.step.Step.TheVariants.{Look};
 
-    /// Turns a table into one whose places the holder claims.
+    /// Makes a table of claimed places from a table of links, the claims, and the holder that claims the places.
     ///
-    /// It requires that the holder was made with the claims and holds nothing, and that the table links nothing and covers at
-    /// most the claims' places. O(1).
+    /// The call requires that the holder was made with the claims and holds nothing. The table of links must link nothing, and may only cover places of the
+    /// claims. O(1).
     pub fn new(claims: &'c Claims<A>, holder: Holder, links: L) -> AtomicLinkOps<'c, L, A>
         requires made { IsOf claims.now holder }
         requires covered { (L.table links).extent.places ≤ places_of claims.now }
@@ -58,7 +57,7 @@ impl<'c, L: PlainLinkOps, A: Allocator> AtomicLinkOps<'c, L, A> {
         }
     }
 
-    /// The number of places that are covered. A place is covered if its index is smaller than this number. O(1).
+    /// Returns the number of places that the table covers. A place is covered if its index is smaller than this number. O(1).
     #[inline]
     pub fn covers(&self) -> usize
         ensures { result ≡ (L.table (links_of self.now)).extent.places }
@@ -66,8 +65,8 @@ impl<'c, L: PlainLinkOps, A: Allocator> AtomicLinkOps<'c, L, A> {
         self.links.covers()
     }
 
-    /// Whether this table's holder holds `place`, which is whether this table links it. It requires that the place is
-    /// covered. O(1).
+    /// Returns whether the holder of this table holds `place`, which is the case exactly if this table links the place. The call requires that the table covers
+    /// the place. O(1).
     #[inline]
     pub fn holds(&self, place: Place) -> bool
         requires covered { IsCovered (L.table (links_of self.now)) place }
@@ -77,10 +76,11 @@ impl<'c, L: PlainLinkOps, A: Allocator> AtomicLinkOps<'c, L, A> {
         self.links.is_linked(place)
     }
 
-    /// Whether any holder holds `place`: this one or another, living or dropped. It is a look of the holder.
+    /// Returns whether any holder holds `place`: the holder of this table or another, living or dropped. The call is a look, which is a step of this table's
+    /// holder.
     ///
-    /// It requires that the place is covered. The result may be out of date when the call returns, unless this holder holds
-    /// the place. One load, O(1), which waits for nobody.
+    /// The call requires that the table covers the place. The result may be out of date when the call returns, unless this table's holder holds the place. One
+    /// load, O(1), which waits for no other thread.
     #[inline]
     pub fn is_linked(&mut self, place: Place) -> bool
         requires covered { IsCovered (L.table (links_of self.old)) place }
@@ -96,9 +96,9 @@ impl<'c, L: PlainLinkOps, A: Allocator> AtomicLinkOps<'c, L, A> {
         claims.look(holder, place)
     }
 
-    /// Unlinks `place`, which this holder holds, and releases it.
+    /// Unlinks `place`, which the holder of this table holds, and releases the place.
     ///
-    /// It requires that the holder holds the place. Every other entry stays, so each collection without this member keeps its
+    /// The call requires that the holder of this table holds the place. The other entries stay as they are, so each collection without this member keeps its
     /// sequence. O(1).
     #[inline]
     pub fn force_unlink(&mut self, place: Place)
@@ -109,7 +109,7 @@ impl<'c, L: PlainLinkOps, A: Allocator> AtomicLinkOps<'c, L, A> {
         self.release_link(place);
     }
 
-    /// Returns the holder, with its record, and the table. The table still links the places that the holder holds. O(1).
+    /// Returns the holder, with its record, and the table of links. The table still links the places that the holder holds. O(1).
     pub fn into_parts(self) -> (Holder, L)
         ensures made { IsOf (claims_of self.entry) result.0 }
         ensures holder { result.0 ≡ holder_of self.entry }

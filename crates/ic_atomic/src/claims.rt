@@ -4,7 +4,7 @@ ghost use Rattle.std.specs.Prelude.{◌≡◌, true, ◌<◌, ◌≤◌, ◌+◌
 ghost use Rattle.std.specs.Bool.{OnTrue, OnFalse};
 ghost use Rattle.ic_unsafe_ref.specs.Places.{index_of};
 
-use crate::hand::{HeldRecords, Size};
+use crate::held::{HeldRecords, Size};
 use crate::rule::{After, Claimed, Compared, FirstOff, Looked, OneList, Released, Seated};
 use atomic_table::{Seat, Table};
 use ic_unsafe_ref::Place;
@@ -13,10 +13,9 @@ use thiserror::Error;
 
 /// Claims on places: a word for each place, which is 1 if some holder holds the place and 0 if none does.
 ///
-/// Threads share it by reference. A word changes only in single atomic steps, and each step is a call of a holder.
-/// Between any two steps the records of all holders can be merged into one list of steps, and each step has the result
-/// that it would have if one thread made them all in this order. The claims are made with a fixed number of holders,
-/// each with one record; no call adds one.
+/// Threads share the claims by reference. A word changes only in single atomic steps, and each step is a call of a holder. Between any two steps the records of
+/// all holders can be merged into one list of steps. Each step has the result that it would have if one thread made all steps in the order of this list. The
+/// claims are made with a fixed number of holders, each with one record, and no call adds a holder.
 #[derive(Drop)]
 pub struct Claims<A: Allocator = Global> {
     table: Table<(), HeldRecords, Size, OneList, A>,
@@ -25,9 +24,9 @@ pub struct Claims<A: Allocator = Global> {
     ghost room: { places < table.shared.table_id.words },
 }
 
-/// A token of no bytes, with which a party claims places. It has the record of its steps, which only contracts see.
+/// A token of no bytes, with which a party claims places. The holder has the record of its own steps, which only contracts see.
 ///
-/// If a holder is dropped, its places stay held.
+/// If a holder is dropped, the places that it holds stay held.
 #[derive(Drop)]
 pub struct Holder {
     seat: Seat<(), HeldRecords>,
@@ -39,7 +38,7 @@ pub enum ClaimsError {
     /// The caller requested more than 4,294,967,296 places.
     #[error("TooManyPlaces")]
     TooManyPlaces = 1,
-    /// There was no memory for them.
+    /// There was no memory for the claims.
     #[error("OutOfMemory")]
     OutOfMemory = 2,
 }
@@ -50,11 +49,10 @@ impl<A: Allocator + Copy> Claims<A> {
     /// Makes claims on the places with an index below `places`, all of them free, and `holders` holders, whose records
     /// are empty.
     ///
-    /// No other holder of these claims is ever made: each thread that claims has to get one of these.
+    /// No other holder of these claims is ever made, so each thread that claims places has to get one of these holders.
     ///
-    /// It is refused if `places` is above 4,294,967,296, or if there is no memory; then nothing is made. At most four
-    /// requests for memory, for one word for each place and for the holders; no other call makes any. O(places +
-    /// holders).
+    /// The call is refused if `places` is above 4,294,967,296, or if there is no memory, and then nothing is made. The call makes at most four requests for
+    /// memory, for one word for each place and for the holders. No other call requests memory. O(places + holders).
     pub fn new(
         alloc: A,
         places: usize,
@@ -84,8 +82,7 @@ impl<A: Allocator + Copy> Claims<A> {
         Ok((claims, made))
     }
 
-    // Makes claims, and a seat that has every record in hand. There is one word more than there are places, so there
-    // always is one to load.
+    // Makes claims, and a seat that has every record in hand. There is one word more than there are places, so that there is always a word to load.
     fn free(
         alloc: A,
         places: usize,
@@ -110,7 +107,7 @@ impl<A: Allocator + Copy> Claims<A> {
 impl<A: Allocator> Claims<A> {
     ghost use Rattle.ic_atomic.specs.declared.step.Step.TheVariants.{Claim, Release, Look};
     ghost use Rattle.ic_atomic.specs.Records.{event, holds, HoldsAlso, GivesUp, HoldsTheSame};
-    ghost use Rattle.ic_atomic.specs.Hands.{without_first, only_first, both_hands};
+    ghost use Rattle.ic_atomic.specs.Held.{without_first, only_first, both_hands};
     ghost use Rattle.ic_atomic.specs.Holders.{places_of, holders_of, IsSeatOf, hand_of, HasNoSlot, record_of, IsOf, AreOneList, AreWholeList, NoneTwice};
 
     // Moves the first record that a seat has in hand to a new seat.
@@ -124,7 +121,7 @@ impl<A: Allocator> Claims<A> {
         self.table.shared.split_seat::<FirstOff>(seat)
     }
 
-    // Appends the records of another seat to those of this one, and consumes that seat.
+    // Appends the records of the seat `other` to the records of the seat `seat`, and consumes `other`.
     fn put_after(&self, seat: &mut Seat<(), HeldRecords>, other: Seat<(), HeldRecords>)
         requires seat { IsSeatOf self.now seat.old }
         requires other { IsSeatOf self.now other × HasNoSlot other }
@@ -134,8 +131,7 @@ impl<A: Allocator> Claims<A> {
         self.table.shared.join_seat::<After>(seat, other);
     }
 
-    /// The number of places that there are claims on. These are the places whose index is smaller than this number.
-    /// O(1).
+    /// Returns the number of places that can be claimed. A place can be claimed if its index is smaller than this number. O(1).
     #[inline]
     pub fn places(&self) -> usize
         ensures { result ≡ places_of self.now }
@@ -145,9 +141,9 @@ impl<A: Allocator> Claims<A> {
 
     /// Claims `place` and returns true, or returns false if some holder holds it.
     ///
-    /// It requires that the place is one of these claims' places, and that the holder was made with them. It returns
-    /// false exactly if some holder, living or dropped, held the place at that step; this includes the holder itself.
-    /// Then only the record is changed. One compare-exchange, O(1), which waits for nobody.
+    /// The call requires that the place is one of these claims' places, and that the holder was made with these claims. The result is false exactly if some
+    /// holder, living or dropped, held the place at this step. The calling holder itself may be this holder. If the result is false, only the record of the
+    /// holder is changed. One compare-exchange, O(1), which waits for no other thread.
     #[inline]
     pub fn claim(&self, holder: &mut Holder, place: Place) -> bool
         requires place { index_of place < places_of self.now }
@@ -163,10 +159,9 @@ impl<A: Allocator> Claims<A> {
         found == 0
     }
 
-    /// Releases `place`. Any holder may claim it then.
+    /// Releases `place`, so that any holder may claim the place afterwards.
     ///
-    /// It requires that this holder holds the place, and that it was made with these claims. One store, O(1), which waits
-    /// for nobody.
+    /// The call requires that `holder` holds the place, and that `holder` was made with these claims. One store, O(1), which waits for no other thread.
     #[inline]
     pub fn release(&self, holder: &mut Holder, place: Place)
         requires place { index_of place < places_of self.now }
@@ -181,10 +176,10 @@ impl<A: Allocator> Claims<A> {
         words.store::<Released>(&mut holder.seat, place.index(), 0);
     }
 
-    /// Whether any holder holds `place`: this one or another, living or dropped.
+    /// Returns whether any holder holds `place`: the calling holder or another, living or dropped.
     ///
-    /// It requires that the place is one of these claims' places, and that the holder was made with them. The result may
-    /// be out of date when the call returns, unless this holder holds the place. One load, O(1), which waits for nobody.
+    /// The call requires that the place is one of these claims' places, and that the holder was made with these claims. The result may be out of date when the
+    /// call returns, unless the calling holder holds the place. One load, O(1), which waits for no other thread.
     #[inline]
     pub fn look(&self, holder: &mut Holder, place: Place) -> bool
         requires place { index_of place < places_of self.now }
@@ -199,12 +194,12 @@ impl<A: Allocator> Claims<A> {
         found == 1
     }
 
-    /// Proves to its caller that the records of these holders are parts of one list of steps.
+    /// Proves to its caller that the records of the given holders are parts of one list of steps.
     ///
-    /// The list is that of all holders of the claims. If the caller passes all holders, it consists of just their records. No place
-    /// is held by two of them. Use it if you have the holders of several threads together, for example after a join. It requires that
-    /// each holder was made with these claims; you may pass any of them, in any order. It changes neither a word nor a record, and is
-    /// never refused. Four loads for each holder and two more, O(holders). It waits for nobody, and it takes no memory.
+    /// The list has the steps of all holders of the claims. If the caller passes all holders, the list consists of just their records. No place is held by two
+    /// of the given holders. Use this call if you have the holders of several threads together, for example after a join. The call requires that each holder
+    /// was made with these claims. You may pass any of these holders, in any order. The call changes neither a word nor a record, and is never refused. Four
+    /// loads for each holder and two more, O(holders). The call waits for no other thread, and takes no memory.
     pub fn audit<B: Allocator>(&self, holders: &mut Vec<Holder, B>)
         requires made { All (λ h. IsOf self.now h) holders.old.items }
         ensures made { All (λ h. IsOf self.now h) holders.new.items }
@@ -215,7 +210,7 @@ impl<A: Allocator> Claims<A> {
         ensures apart { NoneTwice (map record_of holders.new.items) }
     {
         let words = &self.table.shared;
-        // The contract of a load is about one seat, so all records are first moved to one.
+        // The contract of a load is about one seat, so all records are first moved to one seat.
         let mut all = words.load_new_seat::<Seated>(0).1;
         for i in 0..holders.len() {
             let record = self.first_of(&mut holders[i].seat);

@@ -18,25 +18,24 @@ use ic_linked_list::LinkedList;
 use ic_unsafe_ref::UnsafeRef;
 use std::alloc::Allocator;
 
-/// A gate. A worker calls it with its progress, and it may delay the worker there.
+/// A gate that each worker calls to report its progress. The gate may delay the worker in this call.
 pub trait Gate {
-    // The gate was called for the worker with this number after this many results. Only `passed` establishes this.
+    // The statement that the gate was called for the worker with a number, after a number of results. Only `passed` makes this statement true.
     ghost Reported: { Self → ℕ → ℕ → Type 0 };
 
-    /// Records that the worker with this number has had this many results.
+    /// Records that the worker with the number `worker` has had `answered` results.
     ///
-    /// It requires that the count is 0, or one more than in the last call for this worker.
+    /// The call requires that `answered` is 0, or one more than in the last call for this worker.
     fn passed(&self, worker: usize, answered: usize)
         requires in_order { IsNext (Reported self.now worker) answered }
         ensures reported { Reported self.now worker answered };
 }
 
-/// Inserts each offered object whose place nobody holds at the back of this party's list, and returns how many it
-/// inserted.
+/// Inserts each offered object whose place nobody holds at the back of the party's list, and returns how many objects were inserted.
 ///
-/// It requires that the offered places are covered, and that the table represents a sequence for the list. It claims each place once,
-/// in the order in which they are offered. An object that some party holds already, also this one, stays where it is. It calls the
-/// gate with 0 before the first claim, and with i after the i-th. O(offered), no memory, and it waits for nobody except the gate.
+/// The call requires that the table covers the offered places and represents a sequence for the list. The call claims each place once, in the order in which
+/// the places are offered. An object that some party already holds stays where it is, also if the calling party holds it. The call reports 0 to the gate before
+/// the first claim, and i after claim number i. O(offered). The call takes no memory, and waits for nothing except the gate.
 pub fn gather<T, L: PlainLinkOps + LinkedListOps, A: Allocator, G: Gate>(
     worker: usize,
     offered: &[UnsafeRef<T>],

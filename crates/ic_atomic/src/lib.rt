@@ -1,7 +1,7 @@
 //! Claims on places: one word for each place, and one history of all threads that share them.
 //!
-//! Without a lock, each object that threads share is in the collections of at most one holder. A holder claims a place
-//! by one compare-exchange on the place's word, releases it by one store, and looks whether it is held by one load.
+//! Without a lock, each object that threads share is in the collections of at most one holder. A holder claims a place by one compare-exchange on the place's
+//! word, and releases the place by one store. By one load, a holder looks whether any holder holds a place.
 //!
 //! ```text
 //! let (claims, holders) = Claims::new(rt.alloc(), 1000, 2)?;
@@ -14,13 +14,13 @@
 //! claims.audit(&mut holders);
 //! ```
 //!
-//! [`Core`] does the same as a plain value of one thread: its results are those of the claims for the same steps.
+//! [`Core`] makes the same steps on a plain value of one thread, and its results are those that the claims give for these steps.
 #![tactic(auto)]
 
 mod atomic_link_ops;
 mod claims;
 mod gathering;
-mod hand;
+mod held;
 mod link_values;
 pub mod linked_list;
 mod machine;

@@ -1,4 +1,4 @@
-//! Tables that refuse a link only if they link the place themselves.
+//! Tables that refuse to link a place only if they already link this place.
 //!
 //! ```text
 //! links.acquire_link(place) // false exactly if the place is linked in this table
@@ -11,15 +11,15 @@ use ic_link_ops::{AcceptsUnlinked, LentTable, LinkValue, PlainTable, Words};
 use ic_unsafe_ref::Place;
 use std::alloc::Allocator;
 
-/// A table that refuses a link only if it links the place already.
+/// A table that refuses to link a place only if it already links this place.
 ///
-/// Plain tables are such tables, and so are lent views of their links.
+/// Plain tables have this property, and lent views of their links have it.
 pub trait PlainLinkOps: AcceptsUnlinked {
-    /// The number of places that are covered. A place is covered if its index is smaller than this number.
+    /// Returns the number of places that the table covers. A place is covered if its index is smaller than this number.
     fn covers(&self) -> usize
         ensures { result ≡ (Self.table self.now).extent.places };
 
-    /// Whether `place` is linked. It requires that the place is covered. O(1).
+    /// Returns whether `place` is linked. The call requires that the table covers the place. O(1).
     fn is_linked(&self, place: Place) -> bool
         requires covered { IsCovered (Self.table self.now) place }
         ensures { result ≡ Self.linked ((Self.table self.now).entry place) };

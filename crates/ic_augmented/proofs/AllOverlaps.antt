@@ -1,10 +1,11 @@
--- For callers: the first that passes a test, and the first after each, are all that pass, in order.
+-- A caller finds the first member that passes a test, and then the next one after each. These lemmas say that the caller gets all members that pass, in
+-- order.
 use Rattle.std.proofs.Common.{◌≡◌, Bool, true, false, cond, Some, None, List, [], ◌∷◌, ◌++◌, refl, sym, ap, ◌∙◌}
 use Rattle.std.specs.List.{filter}
 use Rattle.ic_link_ops.specs.Prelude.{Place, first}
 use Rattle.ic_link_ops.proofs.SequenceLemmas.{none_not, some_same}
 
--- p stands in s, and those of s that pass are it and those after it that do
+-- p is a member of s and passes the test. The members of s that pass are p and the members after p that pass
 pub record FirstFound (test : Place → Bool) (s : List Place) (p : Place) : Type 0 where
   pub front : List Place
   pub back : List Place
@@ -12,7 +13,7 @@ pub record FirstFound (test : Place → Bool) (s : List Place) (p : Place) : Typ
   pub passing : filter test s ≡ p ∷ filter test back
 
 module _ (test : Place → Bool) where
-  -- THE FIRST THAT PASSES, and the rest
+  -- THE FIRST MEMBER THAT PASSES begins the sequence of all members that pass, and the rest of this sequence comes after it in s
   pub first_found : (s : List Place) (p : Place) → first (filter test s) ≡ Some p → FirstFound test s p
   first_found [] p e = absurd (none_not p e)
   first_found (x ∷ s) p e = by (first_found s p) (test x) refl where
@@ -27,7 +28,7 @@ module _ (test : Place → Bool) where
         let r = on (sym (ap first (passes false k)) ∙ e) in
         record { front = x ∷ r.front; back = r.back; same = ap (λ (t : List Place). x ∷ t) r.same; passing = passes false k ∙ r.passing }
 
-  -- where none is the first none passes
+  -- if there is no first member that passes, no member passes
   pub none_passes : (s : List Place) → first (filter test s) ≡ None → filter test s ≡ []
   none_passes s e = by (filter test s) refl where
     by : (w : List Place) → filter test s ≡ w → filter test s ≡ []

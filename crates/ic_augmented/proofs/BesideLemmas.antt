@@ -1,4 +1,4 @@
--- What was written within a tree: that of one that is summed, and with a place whose summary is stale.
+-- The summaries of a summed tree were written within the tree, and they still count as written within it after a place with a stale summary is added.
 use Rattle.std.proofs.Common.{◌≡◌, ◌≤◌, ◌+◌, ℕ, Bool, true, false, cond, ◌||◌, Option, Some, None, List, [], ◌∷◌, ◌++◌, refl, sym, ap, ◌∙◌, subst, arith, inl, inr}
 use Rattle.std.proofs.lemmas.Bool.{false_from_ne_true}
 use Rattle.ic_link_ops.specs.Prelude.{Place, Cut, join, insert, IsAbsent, Table}
@@ -11,7 +11,7 @@ use Rattle.ic_link_ops.proofs.Times.{absent_times, one_at_self, one_at_other, ti
 use Rattle.ic_rbtree.specs.Closed.{IsIn}
 use Rattle.ic_rbtree.proofs.RepresentedClosed.{is_it, among}
 use Rattle.ic_augmented.specs.Summaries.{Summaries, is_fresh, IsSummed}
-use Rattle.ic_augmented.specs.Consistent.{RepresentsSummed}
+use Rattle.ic_augmented.specs.Consistent.{RepresentsAugmented}
 use Rattle.ic_augmented.specs.Beside.{IsWrittenWithin, IsWrittenIn, IsEdgeOf}
 use Rattle.ic_augmented.proofs.ConsistencyLemmas.{where_is}
 
@@ -23,7 +23,7 @@ or_more : (b a : Bool) (k : ℕ) → (1 ≤ k → a ≡ true) → 1 ≤ cond b 1
 or_more true a k f m = refl
 or_more false a k f m = f (omega (arith, m))
 
--- a member, in both words
+-- a place is a member of a sequence by the test `among` if and only if the count `times_in` is at least 1
 pub among_times : (q : Place) (s : List Place) → among q s ≡ true → 1 ≤ times_in q s
 among_times q [] e = cc
 among_times q (x ∷ s) e = more_or (is_it q x) (among q s) (times_in q s) (among_times q s) e
@@ -35,13 +35,13 @@ times_among q (x ∷ s) m = or_more (is_it q x) (among q s) (times_in q s) (time
 pub absent_out : (q : Place) (s : List Place) → IsAbsent q s → among q s ≡ false
 absent_out q s out = false_from_ne_true (among q s) (λ e. let none = absent_times q s out in omega (arith, none, among_times q s e))
 
--- a place that stands neither in a sequence nor is the one put in
+-- if a place is no member of a sequence, and is not the inserted place, it is no member after the insert
 pub absent_insert : (q p : Place) (gap : Cut) (s : List Place) → s ≡ join gap → IsAbsent q (p ∷ s) → IsAbsent q (insert gap p)
 absent_insert q p gap s e out =
     let k : IsAbsent q (join gap) = subst (IsAbsent q) e out.1 in
     absent_both q gap.front (p ∷ gap.back) (absent_left q gap.front gap.back k) (out.0, absent_right q gap.front gap.back k)
 
--- an edge among the members is the one at p, or one of the others
+-- if the edge is a member of a sequence with p in it, the edge is p or one of the other members
 pub edge_of : (edge : Option Place) (front : List Place) (p : Place) (back : List Place) → IsIn (λ q. among q (front ++ p ∷ back)) edge → IsEdgeOf edge p (front ++ back)
 edge_of None front p back i q e other out = absurd (none_not q e)
 edge_of (Some x) front p back i q e other out =
@@ -50,11 +50,11 @@ edge_of (Some x) front p back i q e other out =
     cc
 
 module _ {S : Type 0} where
-  -- WRITTEN WITHIN, in both words
+  -- IF THE SUMMARIES ARE WRITTEN WITHIN a sequence, they are also written within the set of its members
   pub written_among : (z : Summaries S) (s : List Place) → IsWrittenWithin z s → IsWrittenIn z (λ q. among q s)
   written_among z s h q p m e up = times_among p s (h q p (among_times q s m) e up)
 
-  -- THE SUMMARIES OF A SUMMED TREE were written within it
+  -- THE SUMMARIES OF A SUMMED TREE were written within the tree, because each stored parent is a member
   upper_within : (z : Summaries S) (up : Option Place) (t : Tree) (s : List Place) → IsSummed z up t → ((q : Place) → 1 ≤ times q t → 1 ≤ times_in q s)
       → ((p : Place) → up ≡ Some p → 1 ≤ times_in p s) → (q p : Place) → 1 ≤ times q t → z.upper q ≡ Some p → 1 ≤ times_in p s
   upper_within z up leaf s h all above q p m e = absurd (omega (arith, m))
@@ -68,7 +68,7 @@ module _ {S : Type 0} where
         ]
       ]
 
-  -- and so were those of a tree with a place whose summary is stale
+  -- if summaries were written within s, they were also written within s and a place with a stale summary
   pub stale_within : (z : Summaries S) (s : List Place) (p : Place) → z.fresh p ≡ None → IsWrittenWithin z s → IsWrittenWithin z (p ∷ s)
   stale_within z s p stale h q r m fresh up = elim (same_or_not q p) [
     | inl e ↦ let k : is_fresh (z.fresh q) ≡ false = rw e (rw stale refl) in let x : true ≡ false = sym fresh ∙ k in cc
@@ -76,7 +76,7 @@ module _ {S : Type 0} where
   ]
 
 module _ {E S : Type 0} (n : E → Node) where
-  pub summed_within : {z : Summaries S} {v : Table E} {root : Option Place} {s : List Place} → RepresentsSummed n z v root s → IsWrittenWithin z s
+  pub summed_within : {z : Summaries S} {v : Table E} {root : Option Place} {s : List Place} → RepresentsAugmented n z v root s → IsWrittenWithin z s
   summed_within {z} {v} {root} {s} h q p m fresh up =
       let times_are : (x : Place) → times x h.shows.tree ≡ times_in x s = λ x. sym (times_order x h.shows.tree) ∙ ap (times_in x) h.shows.held.order in
       upper_within z None h.shows.tree s h.summed (λ x k. omega (arith, k, times_are x)) (λ x e. absurd (none_not x e)) q p (omega (arith, m, times_are q)) up

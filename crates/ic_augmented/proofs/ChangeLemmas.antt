@@ -1,4 +1,4 @@
--- A summary that has changed, passed on to those above it.
+-- If a summary has changed, the change is passed on to the summaries above it.
 use Rattle.std.proofs.Common.{◌≡◌, ◌≢◌, ◌≤◌, ◌+◌, true, false, Option, Some, None, List, [], ◌∷◌, ◌++◌, refl, sym, ap, ◌∙◌, subst, arith, inl, inr}
 use Rattle.ic_link_ops.specs.Prelude.{Place, IsAbsent, IsDisjoint, IsMember, Table}
 use Rattle.ic_link_ops.specs.declared.color.Color.{Color}
@@ -31,7 +31,7 @@ among_times p (frame d c q b ∷ fs) h = elim h [
   | inr r ↦ omega (arith, among_times p fs r)
 ]
 
--- a member of t is none of s if these share none
+-- if s and t share no member, a member of t is no member of s
 pub member_out : (q : Place) (s t : List Place) → IsDisjoint s t → 1 ≤ times_in q t → IsAbsent q s
 member_out q [] t apart m = tt
 member_out q (x ∷ s) t apart m = (
@@ -44,7 +44,7 @@ module _ {S : Type 0} where
   under_of z p None f u = tt
   under_of z p (Some c) f u = (f, u)
 
-  -- what stands above depends on what is kept there alone
+  -- a summary that was computed from a child on the path is still right, if nothing stored in the tree beside the path has changed
   joined_on_same : (z w : Summaries S) (d : Side) (p : Place) (x : Option S) (up : Option Place) (b : Tree) (y : S) → w.join ≡ z.join → ((q : Place) → 1 ≤ times q b → IsSameAt z w q)
       → IsJoinedOn z d p x up (top b) y → IsJoinedOn w d p x up (top b) y
   joined_on_same z w d p x up b y ej k j = record {
@@ -86,7 +86,7 @@ module _ {S : Type 0} where
     | inr x ↦ inr (edge_among z edge fs x)
   ]
 
-  -- THE WAY UP IS RIGHT if it was so for the summary that its lowest place has
+  -- THE WHOLE TREE IS CONSISTENT, if the fresh summaries above the subtree are right for the summary that the subtree's root has
   pub closes : (z : Summaries S) (x : Option S) (up : Option Place) (fs : List Frame) (t : Tree) → (is_fresh x ≡ true → seen z (top t) ≡ x) → (is_fresh x ≡ true → seen_upper z (top t) ≡ up)
       → IsConsistentTree z t → IsConsistentAbove z x up fs → IsConsistentTree z (plug fs t)
   closes z x up [] t s u h a = h
@@ -109,7 +109,7 @@ module _ {S : Type 0} where
     h,
   ) a.2
 
-  -- the lowest place has its parent now
+  -- the place at the lower end of a path also stores the parent that it has now
   under_now : (z : Summaries S) (x : Option S) (up : Option Place) (fs : List Frame) → IsConsistentAbove z x up fs → IsConsistentAbove z x (above fs) fs
   under_now z x up [] h = tt
   under_now z x up (frame d c p b ∷ fs) h = (
@@ -118,7 +118,7 @@ module _ {S : Type 0} where
     h.2,
   )
 
-  -- A SUMMARY REJOINED: the subtree is right
+  -- A SUMMARY IS COMPUTED AGAIN from the changed summary of a child, and then the fresh summaries of the subtree are right
   pub rejoined : (z w : Summaries S) (d : Side) (c : Color) (p : Place) (b t : Tree) (from to was is : S) (up parent : Option Place)
       → ((q : Place) → times q (put_in (frame d c p b) t) ≤ 1) → IsConsistentTree z t → IsConsistentTree z b → seen z (top t) ≡ Some to → seen_upper z (top t) ≡ Some p
       → IsJoinedOn z d p (Some from) up (top b) was → Rejoins (z.join p) from to was is → Writes z w p (Some is) parent → IsConsistentTree w (put_in (frame d c p b) t)
@@ -141,7 +141,7 @@ module _ {S : Type 0} where
     consistent_kept z w t k.join (λ q m. writes_same z w p _ parent q k (apart_right q p c b t once m)) ht,
   )
 
-  -- a stale one: nothing is to be recomputed
+  -- if the summary of a place is stale, the subtree at the place is consistent, because both subtrees below the place are
   stale_put : (z : Summaries S) (d : Side) (c : Color) (p : Place) (b t : Tree) → z.fresh p ≡ None → IsConsistentTree z t → IsConsistentTree z b → IsConsistentTree z (put_in (frame d c p b) t)
   stale_put z Left c p b t none ht hb = ((λ y e. absurd (none_not y (sym none ∙ e))), ht, hb)
   stale_put z Right c p b t none ht hb = ((λ y e. absurd (none_not y (sym none ∙ e))), hb, ht)
@@ -163,12 +163,12 @@ module _ {E : Type 0} (n : E → Node) (v : Table E) where
   once_below fs t h q = omega (arith, h.once q, times_plug q fs t)
 
 module _ {E S : Type 0} (n : E → Node) (v : Table E) where
-  -- RENEWED AT A PLACE, by a write of what was rejoined
+  -- THE SUMMARY OF A PLACE IS RECOMPUTED by a write of the summary that was computed from the change of one child
   pub rejoined_at : (z y : Summaries S) (p : Place) (from to was is : S) (parent : Option Place) → z.fresh p ≡ Some was → Writes z y p (Some is) parent → Rejoins (z.join p) from to was is → RecomputesAt n v z y p from to parent
   rejoined_at z y p from to was is parent e k r d c b fs t up h ht s u a =
       (rejoined z y d c p b t from to was is up parent (once_below n v fs (put_in (frame d c p b) t) (subtree_put n v d c p b fs t h)) ht a.1 s u (a.0 was e) r k, k.upper)
 
-  -- or by a recomputation of all below
+  -- the summary of a place is recomputed if all stale summaries below the place are written, and then its own summary
   pub recomputed_at : (z y : Summaries S) (p : Place) (from to : S) (upper : Option Place) → ((u : Option Place) (t : Tree) → IsTree n v.entry u t → Some p ≡ top t → Refreshes IsConsistentBelow z y upper t 67) → RecomputesAt n v z y p from to upper
   recomputed_at z y p from to upper here d c b fs t up h ht s u a =
       let w : Tree = put_in (frame d c p b) t in
@@ -177,7 +177,7 @@ module _ {E S : Type 0} (n : E → Node) (v : Table E) where
       let summed = r.summed (once_below n v fs w i) (below_put z d c p b t ht a.1) (omega (arith, i.low, lower fs w)) in
       (summed_consistent_tree y upper w summed, summed_upper y upper p w (top_put d c p b t) summed)
 
-  -- what stands outside the tree stays
+  -- if the step at p and the steps above p change nothing outside the tree, nothing outside the tree changes
   pub others_up : (z y w : Summaries S) (p next : Place) → ((fs : List Frame) (t : Tree) → IsSubtree n v fs t → top t ≡ Some p → (q : Place) → times q t ≡ 0 → IsSameAt z y q)
       → (n (v.entry p)).parent ≡ Some next → OthersStay n v y w next → OthersStay n v z w p
   others_up z y w p next kept is on [] t h e q out = absurd (none_not next (sym (subtree_parent n v [] t p h e) ∙ is))
@@ -185,7 +185,7 @@ module _ {E S : Type 0} (n : E → Node) (v : Table E) where
       same_on z y w q (kept (frame d c a b ∷ fs) t h e q (omega (arith, out, times_plug q (frame d c a b ∷ fs) t)))
       (on fs (put_in (frame d c a b) t) (subtree_put n v d c a b fs t h) (top_put d c a b t ∙ (sym (subtree_parent n v (frame d c a b ∷ fs) t p h e) ∙ is)) q out)
 
-  -- PASSED ON from a place that was recomputed
+  -- THE CHANGE IS PASSED ON from a place whose summary was recomputed
   module _ (z y : Summaries S) (p : Place) (from to was is : S) (parent : Option Place)
       (parent_is : (n (v.entry p)).parent ≡ parent) (ej : y.join ≡ z.join) (at : RecomputesAt n v z y p from to parent) (was_at : z.fresh p ≡ Some was) (is_there : y.fresh p ≡ Some is)
       (kept : (fs : List Frame) (t : Tree) → IsSubtree n v fs t → top t ≡ Some p → (q : Place) → times q t ≡ 0 → IsSameAt z y q) where
@@ -204,18 +204,18 @@ module _ {E S : Type 0} (n : E → Node) (v : Table E) where
     upper_now d c b fs t h upper_at =
         ap (seen_upper y) (top_put d c p b t) ∙ (upper_at ∙ (sym parent_is ∙ subtree_parent n v fs (put_in (frame d c p b) t) p (subtree_put n v d c p b fs t h) (top_put d c p b t)))
 
-    -- it is as it was
+    -- the recomputed summary is equal to the old one, so no summary above must be recomputed
     pub passed_same : was ≡ is → PassesOn n v z y p from to
     passed_same same d c b fs t up h ht s u a =
         closes y (Some was) (above fs) fs (put_in (frame d c p b) t) (λ f. seen_now d c b t ∙ ap Some (sym same)) (λ f. upper_now d c b fs t h (at d c b fs t up h ht s u a).1) (at d c b fs t up h ht s u a).0 (above_now d c b fs t up h a)
 
-    -- it is the root
+    -- the recomputed place is the root, so there is no summary above it
     pub passed_ends : parent ≡ None → PassesOn n v z y p from to
     passed_ends none d c b [] t up h ht s u a = (at d c b [] t up h ht s u a).0
     passed_ends none d c b (frame e g q m ∷ fs) t up h ht s u a =
         absurd (none_not q (sym none ∙ (sym parent_is ∙ subtree_parent n v (frame e g q m ∷ fs) (put_in (frame d c p b) t) p (subtree_put n v d c p b (frame e g q m ∷ fs) t h) (top_put d c p b t))))
 
-    -- it has a parent, from which the change is passed on
+    -- the recomputed place has a parent, and the change is passed on to the summary of this parent
     pub passed_on : (w : Summaries S) (next : Place) → parent ≡ Some next → PassesOn n v y w next was is → PassesOn n v z w p from to
     passed_on w next on passes d c b [] t up h ht s u a =
         absurd (none_not next (sym (subtree_parent n v [] (put_in (frame d c p b) t) p (subtree_put n v d c p b [] t h) (top_put d c p b t)) ∙ (parent_is ∙ on)))
@@ -228,12 +228,12 @@ module _ {E S : Type 0} (n : E → Node) (v : Table E) where
         passes_q e g m fs x (Some q) i done.0 (seen_now d c b t) (upper_now d c b (frame e g q m ∷ fs) t h done.1)
         (above_now d c b (frame e g q m ∷ fs) t up h a)
 
-  -- a stale one ends it
+  -- the summary of the place is stale, so the change is not passed on
   pub passed_stale : (z : Summaries S) (p : Place) (from to : S) → z.fresh p ≡ None → PassesOn n v z z p from to
   passed_stale z p from to none d c b fs t up h ht s u a =
       closes z (z.fresh p) (z.upper p) fs (put_in (frame d c p b) t) (λ f. ap (seen z) (top_put d c p b t)) (λ f. ap (seen_upper z) (top_put d c p b t)) (stale_put z d c p b t none ht a.1) a.2
 
-  -- THE CLIMB, from a place that was recomputed
+  -- THE CLIMB goes on from a place whose summary was recomputed
   module _ (z y : Summaries S) (p edge : Place) (is : S) (parent : Option Place) (parent_is : (n (v.entry p)).parent ≡ parent) (is_there : Some is ≡ y.fresh p)
       (here : (u : Option Place) (t : Tree) → IsTree n v.entry u t → Some p ≡ top t → Refreshes IsConsistentBelow z y parent t 67) where
     climbed_tree : (fs : List Frame) (t : Tree) → IsSubtree n v fs t → top t ≡ Some p → IsConsistentBelow z t → IsSummed y parent t
@@ -248,7 +248,7 @@ module _ {E S : Type 0} (n : E → Node) (v : Table E) where
     join_here : (fs : List Frame) (t : Tree) → IsSubtree n v fs t → top t ≡ Some p → y.join ≡ z.join
     join_here fs t h e = (here (above fs) t h.tree (sym e)).join
 
-    -- the edge is not above itself
+    -- if the place is the edge, the edge is not above it, so all fresh summaries above the place are right
     at_edge : (fs : List Frame) (t : Tree) → p ≡ edge → IsSubtree n v fs t → top t ≡ Some p → IsEdgeAt z edge p fs → IsConsistentAbove z (z.fresh p) (z.upper p) fs
     at_edge fs t i h e (inl x) = x.1
     at_edge fs t i h e (inr x) =
@@ -262,7 +262,7 @@ module _ {E S : Type 0} (n : E → Node) (v : Table E) where
     climbed_ends none [] t h e below at = summed_consistent_tree y parent t (climbed_tree [] t h e below)
     climbed_ends none (frame d c q b ∷ fs) t h e below at = absurd (none_not q (sym none ∙ parent_above (frame d c q b ∷ fs) t h e))
 
-    -- not yet at the edge
+    -- the climb has not reached the edge yet, and goes on at the parent
     pub climbed_on : (w : Summaries S) (next : Place) → parent ≡ Some next → p ≢ edge → ClimbsTo n v y w next edge → ClimbsTo n v z w p edge
     climbed_on w next on other climbs [] t h e below at = absurd (none_not next (sym (parent_above [] t h e) ∙ on))
     climbed_on w next on other climbs (frame d c q b ∷ fs) t h e below (inl x) = absurd (other x.0)
@@ -273,13 +273,13 @@ module _ {E S : Type 0} (n : E → Node) (v : Table E) where
         climbs_q fs (put_in (frame d c q b) t) (subtree_put n v d c q b fs t h) (top_put d c q b t)
         (below_put y d c q b t (summed_consistent_tree y parent t (climbed_tree (frame d c q b ∷ fs) t h e below)) k.0) k.1
 
-    -- at the edge, which was stale
+    -- the climb has reached the edge, whose summary was stale, and ends
     pub climbed_stale : p ≡ edge → z.fresh p ≡ None → ClimbsTo n v z y p edge
     climbed_stale i none fs t h e below at =
         closes y None (z.upper p) fs t (λ f. let k : false ≡ true = f in cc) (λ f. let k : false ≡ true = f in cc) (summed_consistent_tree y parent t (climbed_tree fs t h e below))
         (subst (λ (o : Option S). IsConsistentAbove y o (z.upper p) fs) none (above_there fs t h e (at_edge fs t i h e at)))
 
-    -- at the edge, whose summary is as it was
+    -- the climb has reached the edge, whose summary has not changed, and ends
     pub climbed_same : (was : S) → p ≡ edge → z.fresh p ≡ Some was → was ≡ is → ClimbsTo n v z y p edge
     climbed_same was i fresh same fs t h e below at =
         let tree = climbed_tree fs t h e below in
@@ -287,7 +287,7 @@ module _ {E S : Type 0} (n : E → Node) (v : Table E) where
         (λ f. ap (seen_upper y) e ∙ (summed_upper y parent p t e tree ∙ parent_above fs t h e)) (summed_consistent_tree y parent t tree)
         (under_now y (Some was) (z.upper p) fs (subst (λ (o : Option S). IsConsistentAbove y o (z.upper p) fs) fresh (above_there fs t h e (at_edge fs t i h e at))))
 
-    -- at the edge, from which the change is passed on
+    -- the climb has reached the edge, whose summary has changed, and the change is passed on to the parent
     pub climbed_edge : (w : Summaries S) (next : Place) (was : S) → p ≡ edge → z.fresh p ≡ Some was → parent ≡ Some next → PassesOn n v y w next was is → ClimbsTo n v z w p edge
     climbed_edge w next was i fresh on passes [] t h e below at = absurd (none_not next (sym (parent_above [] t h e) ∙ on))
     climbed_edge w next was i fresh on passes (frame d c q b ∷ fs) t h e below at =
@@ -298,12 +298,12 @@ module _ {E S : Type 0} (n : E → Node) (v : Table E) where
         (ap (seen_upper y) e ∙ (summed_upper y parent p t e tree ∙ parent_above (frame d c q b ∷ fs) t h e))
         (subst (λ (o : Option S). IsConsistentAbove y o (z.upper p) (frame d c q b ∷ fs)) fresh (above_there (frame d c q b ∷ fs) t h e (at_edge (frame d c q b ∷ fs) t i h e at)))
 
-  -- the place is the edge itself
+  -- if the place p is the edge, a climb from p to p is a climb to the edge
   pub climbed_there : (z y : Summaries S) (p edge : Place) → p ≡ edge → ClimbsTo n v z y p p → ClimbsTo n v z y p edge
   climbed_there z y p edge i climbs fs t h e below at =
       climbs fs t h e below (subst (λ (q : Place). IsEdgeAt z q p fs) (sym i) at)
 
--- FROM THE SEQUENCE, in which each fresh summary is right but maybe at the edge
+-- FROM A SEQUENCE, in which each fresh summary is right, except maybe at the edge, these lemmas lead to its tree
 module _ {E S : Type 0} (n : E → Node) (v : Table E) (z : Summaries S) (s : List Place) (edge : Place) (h : IsConsistentBut n v z s (Some edge)) where
   right_at : (q : Place) → 1 ≤ times_in q s → q ≢ edge → (x : S) → z.fresh q ≡ Some x → IsJoined z q (n (v.entry q)).left (n (v.entry q)).right x
   right_at q m other x e = h q m (λ i. other (sym (some_same i))) x e
@@ -353,7 +353,7 @@ module _ {E S : Type 0} (n : E → Node) (v : Table E) (z : Summaries S) (s : Li
         )
   ]
 
-  -- what the climb requires of a place below the edge
+  -- a climb can begin at a place below the edge: the fresh summaries below it are right, and so are those above the edge
   pub below_edge : (fs : List Frame) (c : Color) (a : Tree) (p : Place) (b : Tree) → IsSubtree n v fs (fork c a p b) → ((q : Place) → times q (plug fs (fork c a p b)) ≤ times_in q s) → IsAmong edge fs
       → IsConsistentBelow z (fork c a p b) × IsEdgeAt z edge p fs
   below_edge fs c a p b k m among =
@@ -366,7 +366,7 @@ module _ {E S : Type 0} (n : E → Node) (v : Table E) (z : Summaries S) (s : Li
         inr (edge_above fs p k.around (λ q. omega (arith, m q, times_plug q fs (fork c a p b))) (omega (arith, once)) among),
       )
 
-  -- or of the edge itself
+  -- a climb can begin at the edge itself: the fresh summaries below it are right, and so are those above it
   pub here_at_edge : (fs : List Frame) (c : Color) (a b : Tree) → IsSubtree n v fs (fork c a edge b) → ((q : Place) → times q (plug fs (fork c a edge b)) ≤ times_in q s)
       → IsConsistentBelow z (fork c a edge b) × IsEdgeAt z edge edge fs
   here_at_edge fs c a b k m =
@@ -380,7 +380,7 @@ module _ {E S : Type 0} (n : E → Node) (v : Table E) (z : Summaries S) (s : Li
       )
 
 module _ {E : Type 0} (n : E → Node) (v : Table E) where
-  -- the edge is among the frames above a place below it
+  -- if the edge is the parent of a place, the edge is on the path above this place
   pub among_here : (fs : List Frame) (t : Tree) (p up edge : Place) → IsSubtree n v fs t → top t ≡ Some p → (n (v.entry p)).parent ≡ Some up → up ≡ edge → IsAmong edge fs
   among_here [] t p up edge h e is same = absurd (none_not up (sym (subtree_parent n v [] t p h e) ∙ is))
   among_here (frame d c a b ∷ fs) t p up edge h e is same = inl (some_same (sym (subtree_parent n v (frame d c a b ∷ fs) t p h e) ∙ is) ∙ same)
@@ -392,7 +392,7 @@ module _ {E : Type 0} (n : E → Node) (v : Table E) where
       inr (on fs (put_in (frame d c a b) t) (subtree_put n v d c a b fs t h) (top_put d c a b t ∙ (sym (subtree_parent n v (frame d c a b ∷ fs) t p h e) ∙ is)))
 
 module _ {E S : Type 0} (n : E → Node) (v : Table E) where
-  -- THE EDGE SETTLED: each fresh summary of the represented tree is right
+  -- THE EDGE IS SETTLED: after the climb each fresh summary of the represented tree is right
   pub settled : (z y : Summaries S) (root : Option Place) (front : List Place) (p edge : Place) (back : List Place) → ClimbsTo n v z y p edge
       → ((fs : List Frame) (t : Tree) → IsSubtree n v fs t → top t ≡ Some p → IsAmong edge fs) → (h : Represents n v root (front ++ p ∷ back))
       → IsConsistentBut n v z (front ++ p ∷ back) (Some edge) → IsConsistentTree y h.tree
@@ -404,7 +404,7 @@ module _ {E S : Type 0} (n : E → Node) (v : Table E) where
       let r = below_edge n v z (front ++ p ∷ back) edge k x.fs x.c x.a p x.b x.subtree members (among x.fs t x.subtree refl) in
       subst (λ (u : Tree). IsConsistentTree y u) x.same (climbs x.fs t x.subtree refl r.0 r.1)
 
-  -- and each of another tree
+  -- after the climb each fresh summary of another tree is right, if this tree shares no member with the first one
   pub others_settled : (z y : Summaries S) (root other : Option Place) (front : List Place) (p edge : Place) (back t : List Place) → y.join ≡ z.join → OthersStay n v z y p
       → ((fs : List Frame) (t : Tree) → IsSubtree n v fs t → top t ≡ Some p → IsAmong edge fs) → Represents n v root (front ++ p ∷ back) → Represents n v other t → IsDisjoint (front ++ p ∷ back) t
       → IsConsistentBut n v z t (Some edge) → IsConsistent n v y t
@@ -417,7 +417,7 @@ module _ {E S : Type 0} (n : E → Node) (v : Table E) where
       λ q m i. let here : 1 ≤ times q (plug x.fs u) = subst (λ (r : Place). 1 ≤ times r (plug x.fs u)) (some_same i) there in absurd (omega (arith, here, out q m)) in
       (others_consistent n v z y other t ej (λ q m. stays x.fs u x.subtree refl q (out q m)) (k, λ q m none. but q m (other_than q m))).1
 
--- THE EDGE SETTLED from itself on, where it is a member
+-- THE EDGE IS SETTLED by a climb that begins at the edge, if the edge is a member
 module _ {E S : Type 0} (n : E → Node) (v : Table E) (z y : Summaries S) (root : Option Place) (s : List Place) (edge : Place) (h : Represents n v root s) (member : IsMember edge s) where
   pub settled_here : ClimbsTo n v z y edge edge → IsConsistentBut n v z s (Some edge) → IsConsistent n v y s
   settled_here climbs k q m but x e =
@@ -426,11 +426,11 @@ module _ {E S : Type 0} (n : E → Node) (v : Table E) (z y : Summaries S) (root
       let tree = climbs at.fs (fork at.c at.a edge at.b) at.subtree refl r.0 r.1 in
       tree_consistent n v y None (plug at.fs (fork at.c at.a edge at.b)) tree at.entries q (omega (arith, m, at.whole q)) x e
 
-  -- what is kept at no member stays
+  -- after a climb that begins at the edge, each place that is no member keeps its summary and its stored parent
   pub kept_beside : OthersStay n v z y edge → (q : Place) → IsAbsent q s → IsSameAt z y q
   kept_beside stays q out = let at = member_at n v root s edge h member in stays at.fs (fork at.c at.a edge at.b) at.subtree refl q (at.whole q ∙ absent_times q s out)
 
-  -- and each fresh summary of another tree is right
+  -- after a climb that begins at the edge, each fresh summary of another tree is right
   pub others_settled_here : (other : Option Place) (t : List Place) → y.join ≡ z.join → OthersStay n v z y edge → Represents n v other t → IsDisjoint s t → IsConsistentBut n v z t (Some edge) → IsConsistent n v y t
   others_settled_here other t ej stays k apart but =
       (others_consistent n v z y other t ej (λ q m. kept_beside stays q (member_out q s t apart m))

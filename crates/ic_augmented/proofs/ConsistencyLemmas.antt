@@ -1,4 +1,4 @@
--- Summaries that are right where they are fresh, kept by each write; and stale ones written anew.
+-- Each write keeps fresh summaries right, and stale summaries are written again.
 use Rattle.std.proofs.Common.{◌≡◌, ◌≢◌, ◌≤◌, ◌+◌, ℕ, suc, zero, ◌-◌, true, false, Option, Some, None, List, refl, sym, ap, ◌∙◌, subst, arith, inl, inr, ◌⊎◌}
 use Rattle.std.proofs.Math.Nat.{le-max_left, le-max_right}
 use Rattle.ic_link_ops.specs.Prelude.{Place, Table, ChangesOnly}
@@ -17,7 +17,7 @@ pub times_top : (p : Place) (t : Tree) → top t ≡ Some p → 1 ≤ times p t
 times_top p leaf e = absurd (none_not p e)
 times_top p (fork c a q b) e = let h : one_at p q ≡ 1 = rw (some_same e) (one_at_self p) in omega arith
 
--- p stands at the root alone
+-- if a tree has no place twice, a place below its root is not the root
 pub apart_left : (q p : Place) (c : Color) (a b : Tree) → ((x : Place) → times x (fork c a p b) ≤ 1) → 1 ≤ times q a → q ≢ p
 apart_left q p c a b once m e = let k : one_at q p ≡ 1 = rw e (one_at_self p) in omega (arith, k, m, once q)
 
@@ -33,7 +33,7 @@ module _ {S : Type 0} where
   fresh_some None e = let k : false ≡ true = e in cc
   fresh_some (Some x) e = (x, refl)
 
-  -- what is fresh is not where a stale one is
+  -- a place with a fresh summary is another place than one with a stale summary
   pub not_stale : (z : Summaries S) (p q : Place) (x : S) → z.fresh p ≡ None → z.fresh q ≡ Some x → q ≢ p
   not_stale z p q x none some e = none_not x (sym none ∙ (ap z.fresh (sym e) ∙ some))
 
@@ -66,7 +66,7 @@ module _ {S : Type 0} where
       → ((c : Place) → l ≡ Some c → IsSameAt z w c) → ((c : Place) → r ≡ Some c → IsSameAt z w c) → IsJoined w q l r x
   joined_same z w q l r x h ej kl kr = joined_at z w q l r x h (ap (λ (f : Place → Option S → Option S → S). f q) ej) kl kr
 
-  -- A TREE depends on what is kept at its members alone
+  -- A TREE STAYS CONSISTENT if its members keep their summaries and their stored parents
   pub consistent_kept : (z w : Summaries S) (t : Tree) → w.join ≡ z.join → ((q : Place) → 1 ≤ times q t → IsSameAt z w q) → IsConsistentTree z t → IsConsistentTree w t
   consistent_kept z w leaf ej k h = tt
   consistent_kept z w (fork c a p b) ej k h = (
@@ -92,7 +92,7 @@ module _ {S : Type 0} where
         summed_kept z w (Some p) b ej (λ q m. k q (omega (arith, m))) h.3,
       )
 
-  -- what stands at the root of a summed tree is its summary
+  -- the root of a summed tree stores the summary of the whole tree
   pub summed_seen : (z : Summaries S) (up : Option Place) (t : Tree) → IsSummed z up t → seen z (top t) ≡ total z t
   summed_seen z up leaf h = refl
   summed_seen z up (fork c a p b) h = h.0
@@ -113,7 +113,7 @@ module _ {S : Type 0} where
     summed_consistent_tree z (Some p) b h.3,
   )
 
-  -- A FRESH ROOT of a consistent tree: all below is fresh, and right
+  -- IF THE ROOT of a consistent tree has a fresh summary, each summary in the tree is fresh and right
   pub under_summed : (z : Summaries S) (p : Place) (t : Tree) → IsUnder z p (top t) → IsConsistentTree z t → IsSummed z (Some p) t
   under_summed z p leaf u h = tt
   under_summed z p (fork c a q b) u h =
@@ -123,7 +123,7 @@ module _ {S : Type 0} where
       let right = under_summed z q b j.right_is h.2 in
       (f.1 ∙ ap Some (j.joined ∙ join_seen z q (Some q) a b left right), u.1, left, right)
 
-  -- the same of a root whose parent is this one, or none
+  -- a consistent tree is summed, if its root has a fresh summary and stores the given parent
   pub fresh_summed : (z : Summaries S) (up : Option Place) (t : Tree) → ((p : Place) → top t ≡ Some p → (is_fresh (z.fresh p) ≡ true) × (z.upper p ≡ up)) → IsConsistentTree z t → IsSummed z up t
   fresh_summed z up leaf f h = tt
   fresh_summed z up (fork c a p b) f h =
@@ -139,7 +139,7 @@ module _ {S : Type 0} where
   summed_top z up (fork c a x b) p h e =
       subst (λ (y : Place). (is_fresh (z.fresh y) ≡ true) × (z.upper y ≡ up)) (some_same e) (ap is_fresh h.0, h.1)
 
-  -- A REFRESH, by cases
+  -- A REFRESH writes the stale summaries of a tree, and these lemmas prove its cases
   same_still : (z : Summaries S) (q : Place) → IsSameAt z z q
   same_still z q = record { fresh = refl; upper = refl }
 
@@ -186,7 +186,7 @@ module _ {S : Type 0} where
         summed = λ once h low. fresh_at z w up p c a b g l once h;
       }
 
-  -- both subtrees are summed, and then the place is written
+  -- if both subtrees are summed, and then the summary of the root is written, the whole tree is summed
   pub summed_written : (z w : Summaries S) (up : Option Place) (p : Place) (c : Color) (a b : Tree) → IsSummed z (Some p) a → IsSummed z (Some p) b
       → Writes z w p (total z (fork c a p b)) up → ((q : Place) → times q (fork c a p b) ≤ 1) → IsSummed w up (fork c a p b)
   summed_written z w up p c a b ha hb k once = (
@@ -196,12 +196,12 @@ module _ {S : Type 0} where
     summed_kept z w (Some p) b k.join (λ q m. writes_same z w p _ up q k (apart_right q p c a b once m)) hb,
   )
 
-  -- what was recomputed below its root was so if the root was right too
+  -- if a refresh needs only that the subtrees of the root are consistent, it also works on a tree that is consistent as a whole
   pub refreshes_below : (z w : Summaries S) (up : Option Place) (t : Tree) (fuel : ℕ) → Refreshes IsConsistentBelow z w up t fuel → Refreshes IsConsistentTree z w up t fuel
   refreshes_below z w up leaf fuel r = record { frame = r.frame; join = r.join; summed = λ once h low. r.summed once tt low }
   refreshes_below z w up (fork c a p b) fuel r = record { frame = r.frame; join = r.join; summed = λ once h low. r.summed once (h.1, h.2) low }
 
-  -- with a turn that was there
+  -- a refresh with `fuel` - 1 turns and one turn more is a refresh with `fuel` turns, if `fuel` is at least 1
   pub refreshes_more : (z w : Summaries S) (up : Option Place) (t : Tree) (fuel : ℕ) → 1 ≤ fuel → Refreshes IsConsistentBelow z w up t (suc (fuel - 1)) → Refreshes IsConsistentBelow z w up t fuel
   refreshes_more z w up t fuel more r = record { frame = r.frame; join = r.join; summed = λ once h low. r.summed once h (omega (arith, low, more)) }
 
@@ -220,7 +220,7 @@ module _ {S : Type 0} where
       let joined : z2.join p x y ≡ z2.join p (total z2 a) (total z2 b) = ap (λ (o : Option S). z2.join p o y) tx ∙ ap (λ (o : Option S). z2.join p (total z2 a) o) ty in
       summed_written z2 z3 up p c a b a2 b2 (subst (λ (o : S). Writes z2 z3 p (Some o) up) joined k) once
 
-  -- the first place is stale from the first turn on
+  -- the first place has a stale summary after the first turn, and in each turn after that
   pub stale_on : (z w : Summaries S) (p q : Place) (o : Option Place) → Invalidates z w q → o ≡ Some q → (o ≡ Some p) ⊎ (z.fresh p ≡ None) → w.fresh p ≡ None
   stale_on z w p q o k is h = elim h [
     | inl e ↦ ap w.fresh (some_same (sym e ∙ is)) ∙ k.stale
@@ -230,7 +230,7 @@ module _ {S : Type 0} where
     ]
   ]
 
-  -- one more summary is made stale
+  -- if no summary was written before, none is written when one more summary is made stale
   pub marks_next : (old z w : Summaries S) (p : Place) → Invalidates z w p → WritesNoSummary old z → WritesNoSummary old w
   marks_next old z w p k h = record { fresh = still; upper = λ q. k.upper q ∙ h.upper q } where
     still : (q : Place) (x : S) → w.fresh q ≡ Some x → old.fresh q ≡ Some x
@@ -253,7 +253,7 @@ module _ {S : Type 0} where
   ]
 
 module _ {E S : Type 0} (n : E → Node) where
-  -- THE CLIMB: a summary made stale, and that of the place above may be wrong now
+  -- THE CLIMB makes the summary of a place stale, and then only the summary of the place above may be wrong
   pub invalidated_on : (v : Table E) (z w : Summaries S) (s : List Place) (p : Place) → Invalidates z w p → IsConsistentBut n v z s (Some p) → IsConsistentBut n v w s (w.upper p)
   invalidated_on v z w s p k h q m but x e =
       let other : q ≢ p = not_stale w p q x k.stale e in
@@ -268,7 +268,7 @@ module _ {E S : Type 0} (n : E → Node) where
   pub invalidated_up : (v : Table E) (z w : Summaries S) (s : List Place) (p q : Place) → Invalidates z w p → z.upper p ≡ Some q → IsConsistentBut n v z s (Some p) → IsConsistentBut n v w s (Some q)
   invalidated_up v z w s p q k up h = subst (λ (o : Option Place). IsConsistentBut n v w s o) (k.upper p ∙ up) (invalidated_on v z w s p k h)
 
-  -- one made stale of which no fresh one was made, and what may be wrong stays
+  -- a summary is made stale from which no fresh summary was computed, so the set of summaries that may be wrong does not change
   pub invalidated_alone : (v : Table E) (z w : Summaries S) (s : List Place) (p : Place) (o : Option Place) → Invalidates z w p → IsBelowStale z p → IsConsistentBut n v z s o → IsConsistentBut n v w s o
   invalidated_alone v z w s p o k below h q m but x e =
       let other : q ≢ p = not_stale w p q x k.stale e in
@@ -281,7 +281,7 @@ module _ {E S : Type 0} (n : E → Node) where
       joined_same z w q _ _ x j k.join
       (λ c i. same c (under_upper z q _ c j.left_is i)) (λ c i. same c (under_upper z q _ c j.right_is i))
 
-  -- it ends at a stale one, or above the root
+  -- the climb ends at a place with a stale summary, or above the root, and then each fresh summary is right
   pub invalidated_stale : (v : Table E) (z : Summaries S) (s : List Place) (p : Place) (o : Option Place) → o ≡ Some p → is_fresh (z.fresh p) ≡ false → IsConsistentBut n v z s o → IsConsistent n v z s
   invalidated_stale v z s p o is f h q m but x e =
       h q m (λ i. let k : is_fresh (z.fresh p) ≡ true = ap (λ (y : Place). is_fresh (z.fresh y)) (some_same (sym is ∙ i)) ∙ ap is_fresh e in let l : true ≡ false = sym k ∙ f in cc) x e
@@ -292,16 +292,16 @@ module _ {E S : Type 0} (n : E → Node) where
   pub invalidated_starts : (v : Table E) (z : Summaries S) (s : List Place) (o : Option Place) → IsConsistent n v z s → IsConsistentBut n v z s o
   invalidated_starts v z s o h q m but x e = h q m (none_not q) x e
 
-  -- the same place by another name
+  -- if the place p is the edge, and q is the place p, then q is the edge
   pub edge_there : (v : Table E) (z : Summaries S) (s : List Place) (p q : Place) (o : Option Place) → o ≡ Some p → p ≡ q → IsConsistentBut n v z s o → IsConsistentBut n v z s (Some q)
   edge_there v z s p q o is e h = subst (λ (y : Option Place). IsConsistentBut n v z s y) (is ∙ ap Some e) h
 
-  -- A WRITE at a place whose summary is stale, and one that keeps the children, where one place is left out
+  -- AN ENTRY IS WRITTEN at a place with a stale summary, or its children stay. Fresh summaries that were right still are, except maybe at the edge
   pub edge_written : (v w : Table E) (z : Summaries S) (s : List Place) (p : Place) (o : Option Place) → z.fresh p ≡ None → ChangesOnly v w p → IsConsistentBut n v z s o → IsConsistentBut n w z s o
   edge_written v w z s p o none only h q m but x e =
       subst (λ (k : E). IsJoined z q (n k).left (n k).right x) (sym (only.others q (not_stale z p q x none e))) (h q m but x e)
 
-  -- or is the one left out
+  -- an entry is written at a place with a stale summary or at the edge, and fresh summaries that were right still are, except maybe at the edge
   pub edge_rewritten : (v w : Table E) (z : Summaries S) (s : List Place) (p : Place) (o : Option Place) → (z.fresh p ≡ None) ⊎ (o ≡ Some p) → ChangesOnly v w p → IsConsistentBut n v z s o → IsConsistentBut n w z s o
   edge_rewritten v w z s p o k only h q m but x e =
       let other : q ≢ p = elim k [
@@ -320,7 +320,7 @@ module _ {E S : Type 0} (n : E → Node) where
     | inr other ↦ subst (λ (k : E). IsJoined z q (n k).left (n k).right x) (sym (only.others q other)) (h q m but x e)
   ]
 
-  -- with no place left out
+  -- an entry is written at a place with a stale summary, and each fresh summary that was right still is
   pub written_stale : (v w : Table E) (z : Summaries S) (s : List Place) (p : Place) → z.fresh p ≡ None → ChangesOnly v w p → IsConsistent n v z s → IsConsistent n w z s
   written_stale v w z s p none only h = edge_written v w z s p None none only h
 
@@ -328,7 +328,7 @@ module _ {E S : Type 0} (n : E → Node) where
       → ChangesOnly v w p → IsConsistent n v z s → IsConsistent n w z s
   written_beside v w z s p el er only h = edge_beside v w z s p None el er only h
 
-  -- a tree that the table holds
+  -- if each fresh summary of a sequence is right, each tree in the table whose members are in the sequence is consistent
   pub consistent_tree : (v : Table E) (z : Summaries S) (s : List Place) (up : Option Place) (t : Tree) → IsConsistent n v z s → IsTree n v.entry up t → ((q : Place) → times q t ≤ times_in q s) → IsConsistentTree z t
   consistent_tree v z s up leaf h t m = tt
   consistent_tree v z s up (fork c a p b) h t m = (
@@ -338,7 +338,7 @@ module _ {E S : Type 0} (n : E → Node) where
     consistent_tree v z s (Some p) b h t.2 (λ q. omega (arith, m q)),
   )
 
-  -- and at each of its members, where its children are those of the tree
+  -- if a tree in the table is consistent, each fresh summary of its members is right for the children that the table stores
   pub tree_consistent : (v : Table E) (z : Summaries S) (up : Option Place) (t : Tree) → IsConsistentTree z t → IsTree n v.entry up t → (q : Place) → 1 ≤ times q t → (x : S) → z.fresh q ≡ Some x
       → IsJoined z q (n (v.entry q)).left (n (v.entry q)).right x
   tree_consistent v z up leaf h t q m x e = absurd (omega (arith, m))
@@ -354,7 +354,7 @@ module _ {E S : Type 0} (n : E → Node) where
     ]
   ]
 
-  -- both subtrees are refreshed, and then the root is written
+  -- both subtrees are refreshed, and then the summary of the root is written
   joined_here : (v : Table E) (z0 z1 z2 z3 : Summaries S) (up u : Option Place) (p : Place) (c : Color) (a b : Tree) (l r : Option Place) (x y : Option S) (fuel : ℕ)
       → IsTree n v.entry u (fork c a p b) → l ≡ top a → r ≡ top b
       → Refreshes IsConsistentTree z0 z1 (Some p) a fuel → Refreshes IsConsistentTree z1 z2 (Some p) b fuel
@@ -380,7 +380,7 @@ module _ {E S : Type 0} (n : E → Node) where
       (joined_here v z0 z1 z2 z3 up u p c a b l r x y fuel here la rb (fa (Some p) a here.1 la) (fb (Some p) b here.2 rb) ex ey k)
 
 module _ {E : Type 0} (n : E → Node) where
-  -- the tree below the right child
+  -- the right child of a tree's root is the root of a tree, or there is no right child
   pub tree_right : (v : Table E) (u : Option Place) (p : Place) (t : Tree) (r : Option Place) → IsTree n v.entry u t → Some p ≡ top t → r ≡ (n (v.entry p)).right
       → (x : Option Place) × (y : Tree) × IsTree n v.entry x y × (r ≡ top y)
   tree_right v u p leaf r tree e er = absurd (none_not p (sym e))

@@ -1,4 +1,4 @@
--- What counts tell of positions.
+-- The counts of subtrees give the positions of members.
 use Rattle.std.proofs.Common.{◌≡◌, ◌≢◌, ◌≤◌, ◌<◌, ◌+◌, ◌-◌, ◌^◌, ℕ, suc, zero, Option, Some, None, List, [], ◌∷◌, ◌++◌, length, min, refl, sym, ap, ◌∙◌, subst, arith, length-append}
 use Rattle.std.specs.Bool.{⊤}
 use Rattle.std.proofs.Math.Nat.{min-eq_left, le-max_left, le-max_right}
@@ -11,14 +11,14 @@ use Rattle.ic_link_ops.proofs.SequenceLemmas.{none_not, some_same}
 use Rattle.ic_link_ops.proofs.Walks.{few_places}
 use Rattle.ic_rbtree.specs.Height.{height}
 use Rattle.ic_rbtree.proofs.Climbed.{path_few}
-use Rattle.ic_augmented.specs.declared.sum_table.Cell.{Cell}
+use Rattle.ic_augmented.specs.declared.augmented_table.Cell.{Cell}
 use Rattle.ic_augmented.specs.Summaries.{seen, total, IsSummed}
-use Rattle.ic_augmented.specs.SumTables.{or_zero}
+use Rattle.ic_augmented.specs.AugmentedTables.{or_zero}
 use Rattle.ic_augmented.specs.Counts.{counts_in}
-use Rattle.ic_augmented.specs.Consistent.{RepresentsSummed}
+use Rattle.ic_augmented.specs.Consistent.{RepresentsAugmented}
 use Rattle.ic_augmented.proofs.ConsistencyLemmas.{summed_seen}
 
--- THE COUNT OF A TREE is how many members it has
+-- THE COUNT OF A TREE is the number of its members
 pub total_count : (es : List (Cell ⊤ ℕ)) (t : Tree) → length (in_order t) ≤ 8589934591 → or_zero (total (counts_in es) t) ≡ length (in_order t)
 total_count es leaf few = refl
 total_count es (fork c a p b) few =
@@ -34,7 +34,7 @@ total_count es (fork c a p b) few =
 pub seen_count : (es : List (Cell ⊤ ℕ)) (up : Option Place) (t : Tree) → IsSummed (counts_in es) up t → length (in_order t) ≤ 8589934591 → or_zero (seen (counts_in es) (top t)) ≡ length (in_order t)
 seen_count es up t h few = ap or_zero (summed_seen (counts_in es) up t h) ∙ total_count es t few
 
--- POSITIONS in what stands around a member
+-- THE POSITIONS IN A SEQUENCE are those before the member p, the position of p, and those after p
 get_left : (a b : List Place) (p : Place) (i : ℕ) → i < length a → slice_get (a ++ p ∷ b) i ≡ slice_get a i
 get_left [] b p i h = absurd (omega (arith, h))
 get_left (x ∷ a) b p zero h = refl
@@ -49,7 +49,7 @@ get_right [] b p k = let e : 0 + suc k ≡ suc k = omega arith in ap (slice_get 
 get_right (x ∷ a) b p k = let e : length (x ∷ a) + suc k ≡ suc (length a + suc k) = omega arith in ap (slice_get (x ∷ (a ++ p ∷ b))) e ∙ get_right a b p k
 
 module _ {E : Type 0} (n : E → Node) (v : Table E) (es : List (Cell ⊤ ℕ)) (u : Option Place) where
-  -- what a place's count on the left says of it
+  -- the count of the left subtree of a place is the number of members before the place in its subtree
   record Split (t : Tree) (p : Place) (l : Option Place) (before turns : ℕ) : Type 0 where
     c : Color
     a : Tree
@@ -91,7 +91,7 @@ module _ {E : Type 0} (n : E → Node) (v : Table E) (es : List (Cell ⊤ ℕ)) 
         low_right = omega (arith, low, le-max_right (height a) (height b));
       }
 
-  -- what a search below answers
+  -- the result of a search in a subtree is the member at the position
   abbrev pub Answers : Option Place → ℕ → ℕ → Option Place → Type 0
   Answers place position turns result = (x : Option Place) (t : Tree) → IsTree n v.entry x t → place ≡ top t → IsSummed (counts_in es) x t
       → length (in_order t) ≤ 8589934591 → height t ≤ turns → result ≡ slice_get (in_order t) position
@@ -117,11 +117,11 @@ module _ {E : Type 0} (n : E → Node) (v : Table E) (es : List (Cell ⊤ ℕ)) 
         f (Some p) k.b k.tree.2 (er ∙ k.tree.0.right) k.summed_right k.few_right k.low_right
         ∙ (sym (get_right (in_order k.a) (in_order k.b) p (position - before - 1)) ∙ (ap (slice_get (in_order (fork k.c k.a p k.b))) there ∙ ap (λ (y : Tree). slice_get (in_order y) position) (sym k.is)))
 
-module _ {E : Type 0} (n : E → Node) (v : Table E) (es : List (Cell ⊤ ℕ)) (root : Option Place) (s : List Place) (h : RepresentsSummed n (counts_in es) v root s) where
+module _ {E : Type 0} (n : E → Node) (v : Table E) (es : List (Cell ⊤ ℕ)) (root : Option Place) (s : List Place) (h : RepresentsAugmented n (counts_in es) v root s) where
   few_members : length (in_order h.shows.tree) ≤ 8589934591
   few_members = subst (λ (y : List Place). length y ≤ 8589934591) (sym h.shows.held.order) (few_places s h.shows.held.distinct)
 
-  -- THE LENGTH
+  -- THE COUNT OF THE ROOT is the length of the sequence
   pub length_is : (o : Option Place) → o ≡ root → or_zero (seen (counts_in es) o) ≡ length s
   length_is o e =
       ap (λ (y : Option Place). or_zero (seen (counts_in es) y)) (e ∙ h.shows.starts) ∙ (seen_count es None h.shows.tree h.summed few_members ∙ ap length h.shows.held.order)

@@ -1,4 +1,4 @@
--- What an edit does after a fence it does in the table: a place is put in, or taken out.
+-- An edit of a table with a fence makes the same edit in the table without the fence: a place is inserted or removed.
 use Rattle.std.proofs.Common.{◌≡◌, ◌≤◌, ◌+◌, ℕ, zero, suc, Bool, true, false, ◌&&◌, Option, Some, None, List, [], ◌∷◌, ◌++◌, refl, sym, ap, ◌∙◌, subst, arith, inl, inr}
 use Rattle.std.proofs.lemmas.Bool.{and_from}
 use Rattle.std.proofs.Math.Nat.{le-max_left, le-max_right}
@@ -23,7 +23,7 @@ use Rattle.ic_rbtree.proofs.RepresentedClosed.{among, with_place}
 use Rattle.ic_augmented.specs.Fences.{fenced, fenced_node}
 use Rattle.ic_augmented.proofs.ConsistencyLemmas.{where_is}
 
--- what is seen as linked is inside, and is linked
+-- a place that counts as linked with the fence is inside the fence, and it is linked
 pub and_left : (a b : Bool) → a && b ≡ true → a ≡ true
 and_left true b e = refl
 and_left false b e = e
@@ -40,13 +40,13 @@ times_on : (q : Place) (xs ps : List Piece) → times_all q (xs ++ ps) ≡ times
 times_on q [] ps = omega arith
 times_on q (x ∷ xs) ps = omega (arith, times_on q xs ps)
 
--- a tree with one member more
+-- a tree with one member more than another has the place p once more, and each other place as often
 counted : (q : Place) (front : List Place) (p : Place) (back : List Place) (t : Tree) → in_order t ≡ front ++ back → (u : Tree) → in_order u ≡ front ++ p ∷ back
     → times q u + 0 ≡ times q t + (one_at q p + 0)
 counted q front p back t e u f = omega (arith, times_order q u, ap (times_in q) f, times_append q front (p ∷ back), times_order q t, ap (times_in q) e, times_append q front back)
 
 module _ {E : Type 0} (n : E → Node) where
-  -- the members at this end and below, as the entries lead, no more than so many steps down
+  -- the members of the subtree at an end, which are read from the entries, at most the given number of steps down
   abbrev listed : (Place → E) → ℕ → Option Place → List Place
   listed entry zero o = []
   listed entry (suc k) None = []
@@ -65,13 +65,13 @@ module _ {E : Type 0} (n : E → Node) where
       ap (λ (x : Option Place). listed entry (suc k) x) e
       ∙ (ap (λ (z : List Place). z ++ p ∷ listed entry k (n (entry p)).right) left ∙ ap (λ (z : List Place). in_order a ++ p ∷ z) right)
 
-  -- A SHOWN TREE lists its members
+  -- A REPRESENTED TREE has the members that are read from the entries below its root
   listed_represented : {v : Table E} {root : Option Place} {s : List Place} → Represents n v root s → listed v.entry 67 root ≡ s
   listed_represented {v} {root} {s} h =
       let low : height h.tree ≤ 66 = path_few n h [] h.tree (height h.tree) refl (omega arith) in
       listed_tree v.entry None h.tree 67 root h.held.entries h.starts (omega (arith, low)) ∙ h.held.order
 
-  -- THE FENCE of a removal: what stands at the root and below
+  -- THE FENCE OF A REMOVAL has the members that are read from the entries at the root and below
   pub members_of : (v : Table E) (root : Option Place) → Place → Bool
   members_of v root q = among q (listed v.entry 67 root)
 
@@ -79,7 +79,7 @@ module _ {E : Type 0} (n : E → Node) where
   unfolding members_of
   members_are {v} {root} {s} h = ap {B = Place → Bool} (λ (z : List Place). λ (q : Place). among q z) (listed_represented h)
 
-  -- THE FENCE of an insert: the place too
+  -- THE FENCE OF AN INSERT has the members and the inserted place
   pub fence_of : (v : Table E) (root : Option Place) (p : Place) → Place → Bool
   fence_of v root p = with_place p (listed v.entry 67 root)
 
@@ -87,7 +87,7 @@ module _ {E : Type 0} (n : E → Node) where
   unfolding fence_of
   fence_is p h = ap (λ (z : List Place). with_place p z) (listed_represented h)
 
-  -- pieces depend on the entries of their members alone
+  -- parts of a tree depend only on the entries of their own members
   piece_same : (old new : Place → E) (x : Piece) → ((q : Place) → (times_piece q x ≡ 0 → ⊥) → new q ≡ old q) → IsPiece n old x → IsPiece n new x
   piece_same old new (cell d p c near far up) same h = side_same n old new d p c near far up (same p (λ e. absurd (omega (arith, e, one_at_self p)))) h
   piece_same old new (loose p) same h = ap (λ (x : E). (n x).linked) (same p (λ e. absurd (omega (arith, e, one_at_self p)))) ∙ h
@@ -99,7 +99,7 @@ module _ {E : Type 0} (n : E → Node) where
   pieces_same old new (x ∷ ps) same h =
       (piece_same old new x (λ q m. same q (λ e. m (omega (arith, e)))) h.0, pieces_same old new ps (λ q m. same q (λ e. m (omega (arith, e)))) h.1)
 
-  -- and those of two lists are pieces together
+  -- if two lists of parts are right in a table, the joined list is right
   pieces_on : (entry : Place → E) (xs ps : List Piece) → ArePieces n entry xs → ArePieces n entry ps → ArePieces n entry (xs ++ ps)
   pieces_on entry [] ps h k = k
   pieces_on entry (x ∷ xs) ps h k = (h.0, pieces_on entry xs ps h.1 k)
@@ -109,7 +109,7 @@ module _ {E : Type 0} (n : E → Node) where
   pieces_after entry (x ∷ xs) ps h = pieces_after entry xs ps h.1
 
   module _ (inside : Place → Bool) where
-    -- INTO THE FENCE, where all members stand inside, and out of it
+    -- A TREE WHOSE MEMBERS ARE ALL INSIDE THE FENCE is a tree with the fence, and a tree with the fence is a tree without it
     tree_in : (entry : Place → E) (up : Option Place) (t : Tree) → ((q : Place) → 1 ≤ times q t → inside q ≡ true) → IsTree n entry up t → IsTree (fenced_node n) (λ q. (inside q, entry q)) up t
     tree_in entry up leaf all h = tt
     tree_in entry up (fork c a p b) all h = (
@@ -126,17 +126,17 @@ module _ {E : Type 0} (n : E → Node) where
       tree_out entry (Some p) b h.2,
     )
 
-    hole_after : (v : Table E) (parent : Option Place) (d : Side) (gap : Cut) → IsInsertPos n v parent d gap → IsInsertPos (fenced_node n) (fenced inside v) parent d gap
-    hole_after v None d gap h = h
-    hole_after v (Some q) Left gap h = h
-    hole_after v (Some q) Right gap h = h
+    insert_pos_after : (v : Table E) (parent : Option Place) (d : Side) (gap : Cut) → IsInsertPos n v parent d gap → IsInsertPos (fenced_node n) (fenced inside v) parent d gap
+    insert_pos_after v None d gap h = h
+    insert_pos_after v (Some q) Left gap h = h
+    insert_pos_after v (Some q) Right gap h = h
 
     module _ {v : Table E} {root but : Option Place} (closed : IsClosedBut n v root but inside) where
-      -- closed here, and so after the fence
+      -- if the fence is closed in the table, it is also closed in the table with the fence
       closed_after : IsClosedBut (fenced_node n) (fenced inside v) root but inside
       closed_after = record { linked = λ q m. and_from _ _ m (closed.linked q m); left = closed.left; right = closed.right; parent = closed.parent; starts = closed.starts }
 
-      -- what is closed has the whole tree
+      -- a closed set with the root of a tree has all members of the tree
       members_inside : (up : Option Place) (t : Tree) → IsTree n v.entry up t → IsIn inside (top t) → ((x : Place) → 1 ≤ times x t → but ≡ Some x → ⊥) → (q : Place) → 1 ≤ times q t → inside q ≡ true
       members_inside up leaf h i out q m = absurd (omega (arith, m))
       members_inside up (fork c a x b) h i out q m =
@@ -149,7 +149,7 @@ module _ {E : Type 0} (n : E → Node) where
             ]
           ]
 
-      -- A SHOWN TREE BEHIND THE FENCE, with the first of the pieces beside it
+      -- A REPRESENTED TREE is also represented with the fence, together with the first of the parts beside it
       module _ {base : Table E} {s : List Place} (xs ps : List Piece) (h : Represented n base v root s (xs ++ ps)) (out : (x : Place) → 1 ≤ times x h.tree → but ≡ Some x → ⊥) where
         represented_after : ArePieces (fenced_node n) (λ q. (inside q, v.entry q)) xs → Represented (fenced_node n) (fenced inside v) (fenced inside v) root s xs
         represented_after here = record {
@@ -165,7 +165,7 @@ module _ {E : Type 0} (n : E → Node) where
           shape = h.shape;
         }
 
-        -- and what an edit makes of it is so in the table, beside the other pieces
+        -- an edit's result with the fence is also its result in the table without the fence, with all other parts beside the tree
         module _ {w : Table E} {new_root : Option Place} {u : List Place} (ys : List Piece) (linked : KeepsNodes n v w) (r : Represented (fenced_node n) (fenced inside v) (fenced inside w) new_root u ys)
             (count : (q : Place) → times q r.tree + times_all q ys ≡ times q h.tree + times_all q xs) (are : ArePieces n w.entry ys) where
           kept : (q : Place) → times q r.tree + times_all q ys ≡ 0 → w.entry q ≡ v.entry q
@@ -191,21 +191,21 @@ module _ {E : Type 0} (n : E → Node) where
             shape = r.shape;
           }
 
-    -- A PLACE THAT COMES IN
+    -- A PLACE IS INSERTED, and the fence is closed except at this place
     module _ {v : Table E} {root : Option Place} {p : Place} (closed : IsClosedBut n v root (Some p) inside) (here : inside p ≡ true) where
       pub safe_after : (parent : Option Place) → IsIn inside parent → IsSafeBut (fenced_node n) (fenced inside v) root p (Some p ∷ parent ∷ [])
       safe_after parent i = (inside, closed_after closed, (here, (i, tt)))
 
-      -- PUT IN after the fence, and so in the table
+      -- IF A PLACE WAS INSERTED in the table with the fence, it was inserted in the table without the fence
       pub attached_before : {w : Table E} {new_root : Option Place} (parent : Option Place) (d : Side) → KeepsNodes n v w
           → Attaches (fenced_node n) (fenced inside v) (fenced inside w) root new_root parent d p → Attaches n v w root new_root parent d p
       attached_before {w} {new_root} parent d linked done base gap ps h hole =
           let out : (x : Place) → 1 ≤ times x h.tree → Some p ≡ Some x → ⊥ =
           λ x m e. let k : times x h.tree + one_at x p ≤ 1 = omega (arith, h.stands.once x) in let one : one_at x p ≡ 1 = subst (λ (y : Place). one_at y p ≡ 1) (some_same e) (one_at_self p) in omega (arith, m, k, one) in
-          let r = done (fenced inside v) gap [] (represented_after closed (loose p ∷ []) ps h out (and_from _ _ here h.stands.are.1.1.0, tt)) (hole_after v parent d gap hole) in
+          let r = done (fenced inside v) gap [] (represented_after closed (loose p ∷ []) ps h out (and_from _ _ here h.stands.are.1.1.0, tt)) (insert_pos_after v parent d gap hole) in
           represented_before closed (loose p ∷ []) ps h out [] linked r (λ q. counted q gap.front p gap.back h.tree h.order r.tree r.order) tt
 
-    -- A MEMBER THAT GOES
+    -- A MEMBER IS REMOVED, and the fence is closed
     module _ {v : Table E} {root : Option Place} (closed : IsClosed n v root inside) where
       pub safe_within : {p : Place} → inside p ≡ true → IsSafe (fenced_node n) (fenced inside v) root (Some p ∷ [])
       safe_within here = (inside, closed_after closed, (here, tt))
@@ -213,7 +213,7 @@ module _ {E : Type 0} (n : E → Node) where
       pub represents_after : {s : List Place} → Represents n v root s → Represents (fenced_node n) (fenced inside v) root s
       represents_after h = represents_of (fenced_node n) (represented_after closed [] [] (represented_of n h) (λ x m e. none_not x e) tt)
 
-      -- TAKEN OUT after the fence, and so in the table
+      -- IF A MEMBER WAS REMOVED in the table with the fence, it was removed in the table without the fence
       pub taken_before : {p : Place} {w : Table E} {new_root : Option Place} → KeepsNodes n v w → TakesAway (fenced_node n) (fenced inside v) (fenced inside w) root new_root p → TakesAway n v w root new_root p
       taken_before {p} {w} {new_root} linked done base front back ps h =
           let out : (x : Place) → 1 ≤ times x h.tree → None ≡ Some x → ⊥ = λ x m e. none_not x e in

@@ -8,7 +8,7 @@ mod SubtreeLemmas
 mod RankLemmas
 mod PathLemmas
 mod ChangeLemmas
-mod SumTableLemmas
+mod AugmentedTableLemmas
 mod OverlapLemmas
 pub mod AllOverlaps
 pub mod PooledTrees

@@ -1,4 +1,4 @@
--- The first interval that overlaps: below a place, and after it.
+-- A search finds the first interval that overlaps, below a place or after it.
 use Rattle.std.proofs.Common.{◌≡◌, ◌≢◌, ◌≤◌, ◌<◌, ◌-◌, ◌&&◌, nat_lt, ◌⊎◌, ℕ, Bool, true, false, cond, Option, Some, None, List, [], ◌∷◌, ◌++◌, length, map, max, refl, sym, ap, ◌∙◌, subst, arith, inl, inr, append_assoc}
 use Rattle.std.proofs.Math.Nat.{le-max_left, le-max_right, max-le}
 use Rattle.std.proofs.lemmas.Bool.{ltb-true, ltb-false, lt-ltb, le-ltb}
@@ -18,11 +18,11 @@ use Rattle.ic_link_ops.proofs.SequenceLemmas.{none_not, some_same}
 use Rattle.ic_rbtree.specs.Borders.{IsSorted}
 use Rattle.ic_rbtree.specs.Height.{height}
 use Rattle.ic_rbtree.proofs.Climbed.{path_few}
-use Rattle.ic_augmented.specs.declared.sum_table.Cell.{Cell}
-use Rattle.ic_augmented.specs.Consistent.{RepresentsSummed}
+use Rattle.ic_augmented.specs.declared.augmented_table.Cell.{Cell}
+use Rattle.ic_augmented.specs.Consistent.{RepresentsAugmented}
 use Rattle.ic_augmented.specs.Greatest.{number_in, greatest_in}
 use Rattle.ic_augmented.specs.Intervals.{overlaps}
-use Rattle.ic_augmented.specs.SumTables.{or_zero}
+use Rattle.ic_augmented.specs.AugmentedTables.{or_zero}
 use Rattle.ic_augmented.specs.Summaries.{seen, total, IsSummed}
 use Rattle.ic_augmented.proofs.ConsistencyLemmas.{summed_seen, times_top}
 use Rattle.ic_augmented.specs.Subtrees.{IsSubtree}
@@ -44,7 +44,7 @@ nothing_after : (s t : List Place) → s ++ t ≡ [] → t ≡ []
 nothing_after [] t e = e
 nothing_after (x ∷ s) t e = cc
 
--- ORDER by starts
+-- THE MEMBERS ARE IN THE ORDER of the starts of their intervals
 module _ (start : Place → ℕ) where
   not_later : (q r : Place) → nat_cmp (start q) (start r) ≢ Greater → start q ≤ start r
   not_later q r h = elim (below_or_not (start r) (start q)) [
@@ -65,13 +65,13 @@ module _ (start : Place → ℕ) where
   sorted_front (x ∷ []) g h = tt
   sorted_front (x ∷ y ∷ f) g h = (h.0, sorted_front (y ∷ f) g h.1)
 
--- with no starts every order is one
+-- if all starts are 0, every sequence is in the order of the starts
 pub none_unsorted : (s : List Place) → IsSorted nat_cmp (map (λ (q : Place). 0) s)
 none_unsorted [] = tt
 none_unsorted (x ∷ []) = tt
 none_unsorted (x ∷ y ∷ s) = (λ e. let k : Equal ≡ Greater = e in cc, none_unsorted (y ∷ s))
 
--- OVERLAPS
+-- AN INTERVAL OVERLAPS [from, to) if it starts before `to` and ends after `from`
 module _ (start : Place → ℕ) (es : List (Cell ℕ ℕ)) (from to : ℕ) where
   abbrev pub end : Place → ℕ
   end q = number_in es q
@@ -106,12 +106,12 @@ module _ (start : Place → ℕ) (es : List (Cell ℕ ℕ)) (from to : ℕ) wher
     pick true k = let l : q ∷ filter test s ≡ [] = sym (takes q s k) ∙ e in cc
     pick false k = k
 
-  -- after one that starts too late all do
+  -- if a member starts at `to` or later, no later member overlaps
   late : (q : Place) (s : List Place) → to ≤ start q → IsSorted nat_cmp (map start (q ∷ s)) → filter test (q ∷ s) ≡ []
   late q [] h sorted = drops q [] (starts_after q h)
   late q (r ∷ s) h sorted = drops q (r ∷ s) (starts_after q h) ∙ late r s (omega (arith, h, not_later start q r sorted.0)) sorted.1
 
-  -- a tree whose greatest end is not after `from` has none
+  -- if the greatest end in a tree is not after `from`, no member of the tree overlaps
   none_below : (t : Tree) → or_zero (total (greatest_in es) t) ≤ from → filter test (in_order t) ≡ []
   none_below leaf h = refl
   none_below (fork c a p b) h =
@@ -123,7 +123,7 @@ module _ (start : Place → ℕ) (es : List (Cell ℕ ℕ)) (from to : ℕ) wher
       ∙ (ap (λ (s : List Place). s ++ filter test (p ∷ in_order b)) (none_below a (omega (arith, h, m2, le-max_left x y)))
       ∙ (drops p (in_order b) (ends_before p (omega (arith, h, m1))) ∙ none_below b (omega (arith, h, m2, le-max_right x y))))
 
-  -- and one whose greatest end is has a member that ends there
+  -- if the greatest end in a tree is after `from`, some member of the tree ends there
   record Reaches (s : List Place) : Type 0 where
     front : List Place
     back : List Place
@@ -150,7 +150,7 @@ module _ (start : Place → ℕ) (es : List (Cell ℕ ℕ)) (from to : ℕ) wher
       | inr less ↦ absurd (omega (arith, h, max-le low (max-le lower less)))
     ]
 
-  -- where a member of the front ends after `from`, the first that overlaps stands in the front, or none does
+  -- if some member of the front part ends after `from`, the first member that overlaps is in the front part, or no member overlaps
   first_left : (s rest : List Place) → Reaches s → IsSorted nat_cmp (map start (s ++ rest)) → first (filter test s) ≡ first (filter test (s ++ rest))
   first_left s rest r sorted = pick (filter test s) refl where
     pick : (w : List Place) → filter test s ≡ w → first (filter test s) ≡ first (filter test (s ++ rest))
@@ -164,12 +164,12 @@ module _ (start : Place → ℕ) (es : List (Cell ℕ ℕ)) (from to : ℕ) wher
         let rest_none : filter test rest ≡ [] = nothing_after (filter test (r.q ∷ r.back)) (filter test rest) none in
         ap first (e ∙ sym (filter-append test s rest ∙ (ap (λ (y : List Place). y ++ filter test rest) e ∙ rest_none)))
 
-  -- the left subtree has none
+  -- if the greatest end in the left subtree is not after `from`, the search skips the left subtree
   skipped : (a : Tree) (rest : List Place) → or_zero (total (greatest_in es) a) ≤ from → filter test (in_order a ++ rest) ≡ filter test rest
   skipped a rest low = filter-append test (in_order a) rest ∙ ap (λ (y : List Place). y ++ filter test rest) (none_below a low)
 
   module _ {E : Type 0} (n : E → Node) (v : Table E) (u : Option Place) (turns : ℕ) where
-    -- what a search finds below
+    -- the result of a search in a subtree is the first member that overlaps
     abbrev pub FindsFirst : Option Place → ℕ → Option Place → Type 0
     FindsFirst o fuel result = (x : Option Place) (t : Tree) → IsTree n v.entry x t → o ≡ top t → IsSummed (greatest_in es) x t → IsSorted nat_cmp (map start (in_order t)) → height t ≤ fuel
         → result ≡ first (filter test (in_order t))
@@ -204,15 +204,15 @@ module _ (start : Place → ℕ) (es : List (Cell ℕ ℕ)) (from to : ℕ) wher
           ∙ sym (ap first (skipped a (p ∷ in_order b) (omega (arith, less, left_greatest c a b h s)) ∙ drops p (in_order b) (ends_before p ends))))
 
   module _ {E : Type 0} (n : E → Node) (v : Table E) where
-    -- FROM THE ROOT
-    pub first_is : {root : Option Place} (s : List Place) (h : RepresentsSummed n (greatest_in es) v root s) → IsSorted nat_cmp (map start s) → (o result : Option Place) → o ≡ root → FindsFirst n v None 67 o 67 result
+    -- A SEARCH FROM THE ROOT finds the first member that overlaps
+    pub first_is : {root : Option Place} (s : List Place) (h : RepresentsAugmented n (greatest_in es) v root s) → IsSorted nat_cmp (map start s) → (o result : Option Place) → o ≡ root → FindsFirst n v None 67 o 67 result
         → result ≡ first (filter test s)
     first_is s h sorted o result e found =
         let low : height h.shows.tree ≤ 66 = path_few n h.shows [] h.shows.tree (height h.shows.tree) refl (omega arith) in
         found None h.shows.tree h.shows.held.entries (e ∙ h.shows.starts) h.summed (subst (λ (y : List Place). IsSorted nat_cmp (map start y)) (sym h.shows.held.order) sorted) (omega (arith, low))
         ∙ ap (λ (y : List Place). first (filter test y)) h.shows.held.order
 
--- what stands at the members of a subtree on either side
+-- if each member of a sequence has an object, so has each member of its front part and of its back part
 pub placed_left : {T : Type 0} (objects : Objects T) (f g : List Place) → ArePlaced objects (f ++ g) → ArePlaced objects f
 placed_left objects [] g h = tt
 placed_left objects (x ∷ f) g h = (h.0, placed_left objects f g h.1)
@@ -222,7 +222,7 @@ placed_right objects [] g h = h
 placed_right objects (x ∷ f) g h = placed_right objects f g h.1
 
 module _ {E T : Type 0} (n : E → Node) (v : Table E) (objects : Objects T) (u : Option Place) (p : Place) where
-  -- the tree on the left, whose members have objects, and that on the right
+  -- the place is the root of a tree whose members all have objects, or it is none
   abbrev pub HasTree : Option Place → Type 0
   HasTree o = (x : Option Place) × (t : Tree) × IsTree n v.entry x t × (o ≡ top t) × ArePlaced objects (in_order t)
 
@@ -242,7 +242,7 @@ module _ {E T : Type 0} (n : E → Node) (v : Table E) (objects : Objects T) (u 
 
 module _ {E : Type 0} (n : E → Node) (v : Table E) where
   module _ {T : Type 0} (objects : Objects T) where
-    -- the parent's subtree, and what stands after it
+    -- the subtree of the parent: if the members after a subtree have objects, the members after its parent's subtree have objects
     pub after_up : (fs : List Frame) (t : Tree) (up : Place) → IsSubtree n v fs t → ArePlaced objects (after fs) → above fs ≡ Some up
         → (gs : List Frame) × (u : Tree) × IsSubtree n v gs u × (top u ≡ Some up) × ArePlaced objects (after gs)
     after_up [] t up h placed e = absurd (none_not up e)
@@ -250,7 +250,8 @@ module _ {E : Type 0} (n : E → Node) (v : Table E) where
     after_up (frame Right c q b ∷ fs) t up h placed e = (fs, fork c b q t, subtree_right n v c q b fs t h, e, placed)
 
     module _ (p up : Place) (right : Option Place) (right_is : right ≡ (n (v.entry up)).right) (other : is_end right p ≡ false) where
-      -- a right child has the parent after it
+      -- if p is not the right child of its parent, the parent and the members of the parent's right subtree come after the subtree of p, and they have
+      -- objects
       absurd_right : (fs : List Frame) (t : Tree) (c : Color) (q : Place) (b : Tree) → IsSubtree n v (frame Right c q b ∷ fs) t → top t ≡ Some p → Some q ≡ Some up → ⊥
       absurd_right fs t c q b h e eu = not_end right p other (right_is ∙ (ap (λ (y : Place). (n (v.entry y)).right) (sym (some_same eu)) ∙ (h.around.0.right ∙ e)))
 
@@ -266,13 +267,13 @@ module _ {E : Type 0} (n : E → Node) (v : Table E) where
       after_tree (frame Right c q b ∷ fs) t h e placed eu = absurd (absurd_right fs t c q b h e eu)
 
   module _ (start : Place → ℕ) (es : List (Cell ℕ ℕ)) (from to : ℕ) where
-    -- what is found after the subtree at a place
+    -- the result of a search after the subtree at p is the first later member that overlaps
     abbrev pub FindsAfter : Place → ℕ → Option Place → Type 0
     FindsAfter p turns result = (fs : List Frame) (t : Tree) → IsSubtree n v fs t → IsSummed (greatest_in es) None (plug fs t) → top t ≡ Some p → IsSorted nat_cmp (map start (after fs)) → length fs ≤ turns
         → result ≡ first (filter (test start es from to) (after fs))
 
     module _ (p up : Place) (turns : ℕ) (right : Option Place) (right_is : right ≡ (n (v.entry up)).right) (result : Option Place) where
-      -- after a right child stands what stands after the parent's subtree
+      -- after the subtree of a right child, a search finds what it finds after the subtree of the parent
       pub after_right : FindsAfter up (turns - 1) result → is_end right p ≡ true → (fs : List Frame) (t : Tree) → above fs ≡ Some up → IsSubtree n v fs t → IsSummed (greatest_in es) None (plug fs t) → top t ≡ Some p
           → IsSorted nat_cmp (map start (after fs)) → length fs ≤ turns → result ≡ first (filter (test start es from to) (after fs))
       after_right on same [] t eu h s e sorted low = absurd (none_not up eu)
@@ -281,7 +282,7 @@ module _ {E : Type 0} (n : E → Node) (v : Table E) where
           absurd (omega (arith, h.once p, times_plug p fs (fork c t q b), times_top p t e, times_top p b twice))
       after_right on same (frame Right c q b ∷ fs) t eu h s e sorted low = on fs (fork c b q t) (subtree_right n v c q b fs t h) s eu sorted (omega (arith, low))
 
-      -- after a left one stand the parent, its right subtree and then that
+      -- after the subtree of a left child come the parent, the parent's right subtree, and the members after the parent's subtree
       module _ (found : (b : Tree) (fs : List Frame) (c : Color) (t : Tree) → IsSubtree n v fs (fork c t up b) → IsSummed (greatest_in es) None (plug fs (fork c t up b)) → IsSummed (greatest_in es) (Some up) b → right ≡ top b
           → IsTree n v.entry (Some up) b → IsSorted nat_cmp (map start (up ∷ (in_order b ++ after fs))) → length fs ≤ turns - 1 → result ≡ first (filter (test start es from to) (up ∷ (in_order b ++ after fs)))) where
         pub after_left : is_end right p ≡ false → (fs : List Frame) (t : Tree) → above fs ≡ Some up → IsSubtree n v fs t → IsSummed (greatest_in es) None (plug fs t) → top t ≡ Some p
@@ -331,9 +332,9 @@ module _ {E : Type 0} (n : E → Node) (v : Table E) where
     after_spent (f ∷ fs) e = absurd (omega (arith, e))
 
     module _ (root : Option Place) (front : List Place) (p : Place) (back : List Place) (right : Option Place) (g : ℕ) (result : Option Place) (right_is : right ≡ (n (v.entry p)).right) (g_is : g ≡ or_zero (seen (greatest_in es) right)) where
-      -- what is found after a member
+      -- the result of a search after the member p is the first later member that overlaps
       abbrev FindsNext : Type 0
-      FindsNext = RepresentsSummed n (greatest_in es) v root (front ++ p ∷ back) → IsSorted nat_cmp (map start (front ++ p ∷ back)) → result ≡ first (filter (test start es from to) back)
+      FindsNext = RepresentsAugmented n (greatest_in es) v root (front ++ p ∷ back) → IsSorted nat_cmp (map start (front ++ p ∷ back)) → result ≡ first (filter (test start es from to) back)
 
       after_sorted : (s : List Place) → s ≡ back → IsSorted nat_cmp (map start (front ++ p ∷ back)) → IsSorted nat_cmp (map start s)
       after_sorted s e sorted = subst (λ (y : List Place). IsSorted nat_cmp (map start y)) (sym e) (sorted_tail start p back (sorted_after start front (p ∷ back) sorted))

@@ -1,4 +1,4 @@
--- How many members stand before a subtree of a tree with counts.
+-- These lemmas count the members before a subtree of a tree with counts.
 use Rattle.std.proofs.Common.{◌≡◌, ◌≢◌, ◌≤◌, ◌+◌, ◌-◌, ◌^◌, ℕ, suc, true, false, Option, Some, None, List, [], ◌∷◌, ◌++◌, length, min, refl, sym, ap, ◌∙◌, subst, arith, length-append, eqb-true, eq-eqb}
 use Rattle.std.specs.Bool.{⊤}
 use Rattle.std.proofs.Math.Nat.{min-eq_left}
@@ -12,11 +12,11 @@ use Rattle.ic_link_ops.specs.Walk.{is_end}
 use Rattle.ic_link_ops.proofs.Frames.{in_order_parts}
 use Rattle.ic_link_ops.proofs.SequenceLemmas.{none_not, some_same}
 use Rattle.ic_link_ops.proofs.Times.{times_plug}
-use Rattle.ic_augmented.specs.declared.sum_table.Cell.{Cell}
+use Rattle.ic_augmented.specs.declared.augmented_table.Cell.{Cell}
 use Rattle.ic_augmented.specs.Counts.{counts_in}
-use Rattle.ic_augmented.specs.SumTables.{or_zero}
+use Rattle.ic_augmented.specs.AugmentedTables.{or_zero}
 use Rattle.ic_augmented.specs.Summaries.{Summaries, seen, IsSummed}
-use Rattle.ic_augmented.specs.Consistent.{RepresentsSummed}
+use Rattle.ic_augmented.specs.Consistent.{RepresentsAugmented}
 use Rattle.ic_augmented.specs.Subtrees.{IsSubtree}
 use Rattle.ic_augmented.proofs.ConsistencyLemmas.{times_top}
 use Rattle.ic_augmented.proofs.CountLemmas.{seen_count}
@@ -30,13 +30,13 @@ pub not_end : (o : Option Place) (p : Place) → is_end o p ≡ false → o ≢ 
 not_end o p e is = let k : is_end o p ≡ true = ap (λ (y : Option Place). is_end y p) is ∙ eq-eqb (index_of p) (index_of p) refl in let l : true ≡ false = sym k ∙ e in cc
 
 module _ {S : Type 0} where
-  -- a subtree is summed below its parent
+  -- if a tree is summed, each of its subtrees is summed below the subtree's parent
   pub summed_below : (z : Summaries S) (fs : List Frame) (t : Tree) → IsSummed z None (plug fs t) → IsSummed z (above fs) t
   summed_below z [] t h = h
   summed_below z (frame Left c p b ∷ fs) t h = (summed_below z fs (fork c t p b) h).2
   summed_below z (frame Right c p b ∷ fs) t h = (summed_below z fs (fork c b p t) h).3
 
--- a subtree has no more members than all
+-- a subtree and the members before it are together at most all members of the tree
 fewer_members : (fs : List Frame) (t : Tree) (few : ℕ) → length (in_order (plug fs t)) ≤ few → length (in_order t) + length (before fs) ≤ few
 fewer_members fs t few h =
     let parts : length (in_order (plug fs t)) ≡ length (before fs) + length (in_order t ++ after fs) = ap length (in_order_parts fs t) ∙ length-append (before fs) (in_order t ++ after fs) in
@@ -51,19 +51,19 @@ before_spent [] e = refl
 before_spent (f ∷ fs) e = absurd (omega (arith, e))
 
 module _ {E : Type 0} (n : E → Node) (v : Table E) (es : List (Cell ⊤ ℕ)) where
-  -- what is counted before the subtree at a place
+  -- the number of members before the subtree at the place p
   abbrev pub CountsBefore : Place → ℕ → ℕ → Type 0
   CountsBefore p turns r = (fs : List Frame) (t : Tree) → IsSubtree n v fs t → IsSummed (counts_in es) None (plug fs t) → top t ≡ Some p → length fs ≤ turns → r ≡ length (before fs)
 
   module _ (up : Place) (turns r : ℕ) (above_it : CountsBefore up (turns - 1) r) (right : Option Place) (right_is : right ≡ (n (v.entry up)).right) where
-    -- THE STEP from a left child, before which stands what stands before the parent's subtree
+    -- THE STEP UP FROM A LEFT CHILD: before its subtree come the members that come before the parent's subtree
     pub before_left : (p : Place) (fs : List Frame) (t : Tree) → above fs ≡ Some up → is_end right p ≡ false → IsSubtree n v fs t → IsSummed (counts_in es) None (plug fs t) → top t ≡ Some p → length fs ≤ turns → r ≡ length (before fs)
     before_left p [] t eu other h s e low = absurd (none_not up eu)
     before_left p (frame Left c q b ∷ fs) t eu other h s e low = above_it fs (fork c t q b) (subtree_left n v c q b fs t h) s eu (omega (arith, low))
     before_left p (frame Right c q b ∷ fs) t eu other h s e low =
         absurd (not_end right p other (right_is ∙ (ap (λ (y : Place). (n (v.entry y)).right) (sym (some_same eu)) ∙ (h.around.0.right ∙ e))))
 
-    -- and from a right one, before which stand the left subtree and the parent too
+    -- a step up from a right child: before its subtree come the members before the parent's subtree, the left subtree, and the parent
     pub before_right : (p : Place) (left : Option Place) (k m : ℕ) (fs : List Frame) (t : Tree) → above fs ≡ Some up → is_end right p ≡ true → left ≡ (n (v.entry up)).left → k ≡ or_zero (seen (counts_in es) left)
         → m ≡ min (min (r + k) (2 ^ 64 - 1) + 1) (2 ^ 64 - 1) → IsSubtree n v fs t → IsSummed (counts_in es) None (plug fs t) → top t ≡ Some p → length fs ≤ turns → m ≡ length (before fs)
     before_right p left k m [] t eu same el ek em h s e low = absurd (none_not up eu)
@@ -84,9 +84,9 @@ module _ {E : Type 0} (n : E → Node) (v : Table E) (es : List (Cell ⊤ ℕ)) 
         let two : min (r + k + 1) (2 ^ 64 - 1) ≡ r + k + 1 = min-eq_left (omega (arith, front, count, all, long)) in
         em ∙ (ap (λ (y : ℕ). min (y + 1) (2 ^ 64 - 1)) one ∙ (two ∙ omega (arith, front, count, length-append (before fs) (in_order b ++ q ∷ []), length-append (in_order b) (q ∷ []))))
 
-  -- THE INDEX of a member
+  -- THE INDEX of a member is the number of members before it
   pub index_is : (root : Option Place) (front : List Place) (p : Place) (back : List Place) (left : Option Place) (r k m : ℕ) → CountsBefore p 67 r → left ≡ (n (v.entry p)).left
-      → k ≡ or_zero (seen (counts_in es) left) → m ≡ min (r + k) (2 ^ 64 - 1) → RepresentsSummed n (counts_in es) v root (front ++ p ∷ back) → m ≡ length front
+      → k ≡ or_zero (seen (counts_in es) left) → m ≡ min (r + k) (2 ^ 64 - 1) → RepresentsAugmented n (counts_in es) v root (front ++ p ∷ back) → m ≡ length front
   index_is root front p back left r k m counted el ek em h =
       let x = member_subtree n v root front p back h.shows in
       let summed = subst (λ (y : Tree). IsSummed (counts_in es) None y) (sym x.same) h.summed in

@@ -1,4 +1,4 @@
--- What a write of links or a step keeps of the summary at one place; and what steps keep of a sequence.
+-- These lemmas say what a write of a link keeps of the summary at one place, and what link steps keep of the summaries of a sequence.
 use Rattle.std.specs.declared.cmp.Ordering.{Ordering}
 use Rattle.std.proofs.Common.{◌≡◌, ◌≢◌, ◌≤◌, ◌⊎◌, Option, Some, None, Result, Ok, Err, OnErr, List, [], ◌∷◌, ◌++◌, ap, sym, ◌∙◌, subst, arith, inl, inr}
 use Rattle.ic_link_ops.specs.Prelude.{Place, join, insert, Table, ChangesOnly, LinkStep, acquires, releases}
@@ -10,12 +10,12 @@ use Rattle.ic_link_ops.proofs.Times.{one_at_self, one_at_other, times_append}
 use Rattle.ic_rbtree.specs.Ordered.{InsertsInOrder}
 use Rattle.ic_augmented.specs.Consistent.{IsJoined, IsConsistent, IsConsistentBut, RepresentsConsistent, KeepsConsistent}
 use Rattle.ic_augmented.specs.Summaries.{Summaries}
-use Rattle.ic_augmented.specs.SummedSteps.{IsAcquired, IsRightAt, TraceSummed}
-use Rattle.ic_augmented.specs.declared.summed.Summed.{Summed}
+use Rattle.ic_augmented.specs.AugmentedSteps.{IsAcquired, IsRightAt, TraceAugmented}
+use Rattle.ic_augmented.specs.declared.augmented.Augmented.{Augmented}
 use Rattle.ic_augmented.proofs.ConsistencyLemmas.{written_stale, written_beside}
 
 module _ {E S : Type 0} (n : E → Node) where
-  -- a place alone
+  -- if a fresh summary at q is right, each fresh summary of the sequence with only q is right
   at_one : (v : Table E) (z : Summaries S) (q : Place) → IsRightAt n v z q → IsConsistent n v z (q ∷ [])
   at_one v z q h p m but x e = elim (same_or_not p q) [
     | inl i ↦ subst (IsRightAt n v z) (sym i) h x e
@@ -25,14 +25,14 @@ module _ {E S : Type 0} (n : E → Node) where
   right_in : (v : Table E) (z : Summaries S) (q : Place) → IsConsistent n v z (q ∷ []) → IsRightAt n v z q
   right_in v z q h = h q (omega (arith, one_at_self q)) (none_not q)
 
-  -- a child is written where the summary is stale
+  -- a child is written at a place with a stale summary, and each fresh summary that was right still is
   pub set_stale : (v w : Table E) {z y : Summaries S} {p : Place} → y.fresh p ≡ None → KeepsConsistent n v v z y → ChangesOnly v w p → (q : Place) → ⊥ ⊎ IsRightAt n v z q → IsRightAt n w y q
   set_stale v w {z} {y} {p} none keeps only q h = elim h [
     | inl a ↦ absurd a
     | inr r ↦ right_in w y q (written_stale n v w y (q ∷ []) p none only (keeps.consistent (q ∷ []) (at_one v z q r)))
   ]
 
-  -- what is no child
+  -- a write that changes no child keeps each fresh summary right
   pub set_beside : (v w : Table E) (z : Summaries S) {p : Place} → (n (w.entry p)).left ≡ (n (v.entry p)).left → (n (w.entry p)).right ≡ (n (v.entry p)).right → ChangesOnly v w p
       → (q : Place) → ⊥ ⊎ IsRightAt n v z q → IsRightAt n w z q
   set_beside v w z {p} el er only q h = elim h [
@@ -40,7 +40,7 @@ module _ {E S : Type 0} (n : E → Node) where
     | inr r ↦ right_in w z q (written_beside n v w z (q ∷ []) p el er only (at_one v z q r))
   ]
 
-  -- A LINK IS WRITTEN, and then the summary there is made stale: so it is right, whatever it was
+  -- A LINK IS WRITTEN, and then the summary of its place is made stale, so that the place has no wrong summary
   written_then_stale : (v w : Table E) {z y : Summaries S} {p : Place} → ((q : Place) → q ≢ p → w.entry q ≡ v.entry q) → ((s : List Place) → IsConsistentBut n w z s (Some p) → IsConsistent n w y s)
       → (q : Place) → (p ≡ q) ⊎ IsRightAt n v z q → IsRightAt n w y q
   written_then_stale v w {z} {y} {p} others closed q h = right_in w y q (closed (q ∷ []) but_p) where
@@ -55,7 +55,7 @@ module _ {E S : Type 0} (n : E → Node) where
       ]
     ]
 
-  -- with the steps that were taken: it was linked, or it was not
+  -- a place is linked by the step, or its summary was right before, and in both cases its fresh summary is right
   pub acquired_right : (v w : Table E) {z y : Summaries S} {p : Place} → ((q : Place) → q ≢ p → w.entry q ≡ v.entry q) → ((s : List Place) → IsConsistentBut n w z s (Some p) → IsConsistent n w y s)
       → (q : Place) → IsAcquired q (acquires p ∷ []) ⊎ IsRightAt n v z q → IsRightAt n w y q
   acquired_right v w {z} {y} {p} others closed q h = elim h [
@@ -73,22 +73,22 @@ module _ {E S : Type 0} (n : E → Node) where
     | inr r ↦ written_then_stale v w others closed q (inr r)
   ]
 
--- WHAT STEPS KEEP of a sequence: each of its places was right, or has been linked
-module _ {N M E S : Type 0} {Trace : N → N → List LinkStep → Type 0} {n : E → Node} {table : N → Table E} {summaries : M → Summaries S} {Covers : M → Place → Type 0} {old new : Summed N M} {steps : List LinkStep} where
-  pub kept_right : TraceSummed Trace n table summaries Covers old new steps → (s t : List Place) → ((q : Place) → 1 ≤ times_in q t → IsAcquired q steps ⊎ (1 ≤ times_in q s))
+-- WHAT STEPS KEEP of a sequence: if each of its places had a right summary or was linked by a step, each fresh summary is right
+module _ {N M E S : Type 0} {Trace : N → N → List LinkStep → Type 0} {n : E → Node} {table : N → Table E} {summaries : M → Summaries S} {Covers : M → Place → Type 0} {old new : Augmented N M} {steps : List LinkStep} where
+  pub kept_right : TraceAugmented Trace n table summaries Covers old new steps → (s t : List Place) → ((q : Place) → 1 ≤ times_in q t → IsAcquired q steps ⊎ (1 ≤ times_in q s))
       → IsConsistent n (table old.links) (summaries old.summaries) s → IsConsistent n (table new.links) (summaries new.summaries) t
   kept_right d s t among h q m but x e = elim (among q m) [
     | inl a ↦ d.right q (inl a) x e
     | inr k ↦ d.right q (inr (λ y f. h q k (none_not q) y f)) x e
   ]
 
-  -- in the same one
-  pub still_right : TraceSummed Trace n table summaries Covers old new steps → (s : List Place) → IsConsistent n (table old.links) (summaries old.summaries) s → IsConsistent n (table new.links) (summaries new.summaries) s
+  -- link steps keep each fresh summary of a sequence right
+  pub still_right : TraceAugmented Trace n table summaries Covers old new steps → (s : List Place) → IsConsistent n (table old.links) (summaries old.summaries) s → IsConsistent n (table new.links) (summaries new.summaries) s
   still_right d s h = kept_right d s s (λ q m. inr m) h
 
-module _ {N M E S : Type 0} {Trace : N → N → List LinkStep → Type 0} {n : E → Node} {table : N → Table E} {summaries : M → Summaries S} {Covers : M → Place → Type 0} {old new : Summed N M} {p : Place} where
+module _ {N M E S : Type 0} {Trace : N → N → List LinkStep → Type 0} {n : E → Node} {table : N → Table E} {summaries : M → Summaries S} {Covers : M → Place → Type 0} {old new : Augmented N M} {p : Place} where
   -- AN INSERT IN ORDER keeps each fresh summary right
-  pub inserted_right : {at : Place → Ordering} {root : Option Place} {s : List Place} → TraceSummed Trace n table summaries Covers old new (acquires p ∷ []) → IsConsistent n (table old.links) (summaries old.summaries) s
+  pub inserted_right : {at : Place → Ordering} {root : Option Place} {s : List Place} → TraceAugmented Trace n table summaries Covers old new (acquires p ∷ []) → IsConsistent n (table old.links) (summaries old.summaries) s
       → InsertsInOrder (Represents n) at (table old.links) (table new.links) root s p → InsertsInOrder (RepresentsConsistent n (summaries new.summaries)) at (table old.links) (table new.links) root s p
   inserted_right {s = s} d h i = record {
     gap = i.gap;
@@ -104,12 +104,12 @@ module _ {N M E S : Type 0} {Trace : N → N → List LinkStep → Type 0} {n : 
           inr (omega (arith, m, k, one_at_other q p other, times_append q i.gap.front i.gap.back, times_append q i.gap.front (p ∷ i.gap.back)))
     ]
 
-  -- A REMOVAL too
-  pub removed_right : (front back : List Place) → TraceSummed Trace n table summaries Covers old new (releases p ∷ []) → IsConsistent n (table old.links) (summaries old.summaries) (front ++ p ∷ back)
+  -- A REMOVAL keeps each fresh summary right
+  pub removed_right : (front back : List Place) → TraceAugmented Trace n table summaries Covers old new (releases p ∷ []) → IsConsistent n (table old.links) (summaries old.summaries) (front ++ p ∷ back)
       → IsConsistent n (table new.links) (summaries new.summaries) (front ++ back)
   removed_right front back d h = kept_right d (front ++ p ∷ back) (front ++ back) (λ q m. inr (omega (arith, m, times_append q front back, times_append q front (p ∷ back)))) h
 
--- WHERE A CALL WAS REFUSED, so were the links
+-- IF A CALL WAS REFUSED, its step on the links was refused
 pub links_refused : {X Y : Type 0} (R Same : Type 0) (r : Result X Y) → OnErr r (R × Same) → OnErr r R
 links_refused R Same (Ok x) refused = tt
 links_refused R Same (Err y) refused = refused.0

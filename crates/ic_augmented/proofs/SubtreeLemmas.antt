@@ -1,4 +1,4 @@
--- A subtree of a represented tree: found by the sequence, read at its root, and left upward.
+-- A subtree of a represented tree is found by a member of the sequence, is read at its root, and is left upwards.
 use Rattle.std.proofs.Common.{◌≡◌, ◌≤◌, ◌<◌, ◌+◌, ℕ, suc, zero, true, Option, Some, None, List, [], ◌∷◌, ◌++◌, length, refl, sym, ap, ◌∙◌, subst, arith, append-nil}
 use Rattle.std.proofs.Math.Nat.{le-max_left, le-max_right}
 use Rattle.ic_link_ops.specs.Prelude.{Place, IsMember, Table}
@@ -18,8 +18,7 @@ use Rattle.ic_rbtree.specs.Height.{height}
 use Rattle.ic_rbtree.proofs.Climbed.{path_few}
 use Rattle.ic_augmented.specs.Subtrees.{IsSubtree}
 
--- a subtree is no higher than all
--- how many places stand at an end and above it, if these are no more than k
+-- how many places come from an end up to the root, if they are at most k
 abbrev pub above_end : {E : Type 0} (n : E → Node) (v : Table E) → ℕ → Option Place → ℕ
 above_end n v zero o = 0
 above_end n v (suc k) None = 0
@@ -28,7 +27,7 @@ above_end n v (suc k) (Some p) = suc (above_end n v k (n (v.entry p)).parent)
 pred_same : {a b : ℕ} → suc a ≡ suc b → a ≡ b
 pred_same e = omega (arith, e)
 
--- and so is a way down
+-- the length of a path and the height of the subtree below it are together at most the height of the whole tree
 pub no_longer : (fs : List Frame) (t : Tree) → length fs + height t ≤ height (plug fs t)
 no_longer [] t = omega arith
 no_longer (frame Left c p b ∷ fs) t = omega (arith, no_longer fs (fork c t p b), le-max_left (height t) (height b))
@@ -40,13 +39,13 @@ lower (frame Left c p b ∷ fs) t = omega (arith, lower fs (fork c t p b), le-ma
 lower (frame Right c p b ∷ fs) t = omega (arith, lower fs (fork c b p t), le-max_right (height b) (height t))
 
 module _ {E : Type 0} (n : E → Node) where
-  -- the entries of a tree are those around a subtree and those of it
+  -- the entries of a whole tree are those along the path and beside it, and those of the subtree below the path
   entries_below : (e : Place → E) (fs : List Frame) (t : Tree) → IsTree n e None (plug fs t) → IsAround n e fs (top t) × IsTree n e (above fs) t
   entries_below e [] t h = (tt, h)
   entries_below e (frame Left c p b ∷ fs) t h = let r = entries_below e fs (fork c t p b) h in ((r.1.0, r.1.2, r.0), r.1.1)
   entries_below e (frame Right c p b ∷ fs) t h = let r = entries_below e fs (fork c b p t) h in ((r.1.0, r.1.1, r.0), r.1.2)
 
-  -- FROM THE SEQUENCE to the subtree at a member
+  -- A MEMBER OF THE SEQUENCE is the root of a subtree of the represented tree
   pub record MemberSubtree (v : Table E) (tree : Tree) (front : List Place) (p : Place) (back : List Place) : Type 0 where
     pub fs : List Frame
     pub c : Color
@@ -91,7 +90,7 @@ module _ {E : Type 0} (n : E → Node) where
           low = path_few n h f.0 t (length f.0) f.4 (omega arith);
         }
 
-    -- the subtree at a member, of the tree that stands around it
+    -- the subtree at a member, with the path from the root to it
     pub member_at : (root : Option Place) (s : List Place) (p : Place) → Represents n v root s → IsMember p s → MemberAt v s p
     member_at root s p h m =
         let cut = member_split p s m in
@@ -107,7 +106,7 @@ module _ {E : Type 0} (n : E → Node) where
           whole = λ q. ap (times q) x.same ∙ (sym (times_order q k.tree) ∙ (ap (times_in q) k.held.order ∙ ap (times_in q) (sym cut.2)));
         }
 
-    -- its root is linked, and has this parent
+    -- the root of a subtree is linked, and its entry names the place at the lower end of the path as its parent
     pub subtree_linked : (fs : List Frame) (t : Tree) (p : Place) → IsSubtree n v fs t → top t ≡ Some p → IsNode n v p
     subtree_linked fs leaf p h e = absurd (none_not p e)
     subtree_linked fs (fork c a q b) p h e = subst (λ (y : Place). (n (v.entry y)).linked ≡ true) (some_same e) h.tree.0.linked
@@ -116,7 +115,7 @@ module _ {E : Type 0} (n : E → Node) where
     subtree_parent fs leaf p h e = absurd (none_not p e)
     subtree_parent fs (fork c a q b) p h e = subst (λ (y : Place). (n (v.entry y)).parent ≡ above fs) (some_same e) h.tree.0.parent
 
-    -- UPWARD
+    -- ONE STEP UP from a subtree leads to the subtree of its parent
     pub subtree_left : (c : Color) (p : Place) (b : Tree) (fs : List Frame) (t : Tree) → IsSubtree n v (frame Left c p b ∷ fs) t → IsSubtree n v fs (fork c t p b)
     subtree_left c p b fs t h = record { around = h.around.2; tree = (h.around.0, h.tree, h.around.1); once = h.once; low = h.low; few = h.few }
 
@@ -132,7 +131,7 @@ module _ {E : Type 0} (n : E → Node) where
     none_above zero = refl
     none_above (suc k) = refl
 
-    -- how many stand above it
+    -- the number of places from the root of a subtree up to the root of the tree is one more than the length of the path
     above_length : (fs : List Frame) (t : Tree) (p : Place) (k : ℕ) → IsSubtree n v fs t → top t ≡ Some p → length fs < k → above_end n v k (Some p) ≡ suc (length fs)
     above_length fs t p zero h e less = absurd (omega (arith, less))
     above_length [] t p (suc k) h e less = ap suc (ap (above_end n v k) (subtree_parent [] t p h e) ∙ none_above k)
@@ -141,7 +140,7 @@ module _ {E : Type 0} (n : E → Node) where
     above_length (frame Right c q b ∷ fs) t p (suc k) h e less =
         ap suc (ap (above_end n v k) (subtree_parent (frame Right c q b ∷ fs) t p h e) ∙ above_length fs (fork c b q t) q k (subtree_right c q b fs t h) refl (omega (arith, less)))
 
-    -- and above its parent there are fewer
+    -- fewer places come from the parent up to the root than from its child
     pub fewer_above : (fs : List Frame) (t : Tree) (p up : Place) → IsSubtree n v fs t → top t ≡ Some p → above fs ≡ Some up → above_end n v 68 (Some up) < above_end n v 68 (Some p)
     fewer_above fs t p up h e is =
         let u = subtree_up fs t up h is in

@@ -1,4 +1,4 @@
--- The summaries beside a tree, which no climb from the tree reaches.
+-- A climb from a tree follows stored parents upwards, and these definitions say which summaries it cannot reach.
 use Rattle.std.specs.Prelude.{◌≡◌, ◌≢◌, ◌≤◌, Bool, true, false, Option, Some, List}
 use Rattle.ic_link_ops.specs.Prelude.{Place, IsMember}
 use Rattle.ic_link_ops.specs.Times.{times_in}
@@ -7,23 +7,23 @@ use Rattle.ic_augmented.specs.Summaries.{Summaries, is_fresh}
 use Rattle.ic_augmented.specs.Consistent.{IsSameAt}
 
 module _ {S : Type 0} where
-  -- WRITTEN WITHIN s: each fresh summary of s was written while its place's parent was a member of s or none
+  -- THE SUMMARIES ARE WRITTEN WITHIN s: if a member of s has a fresh summary, the parent that is stored with the summary is in s or none
   abbrev pub IsWrittenWithin : Summaries S → List Place → Type 0
   IsWrittenWithin z s = (q p : Place) → 1 ≤ times_in q s → is_fresh (z.fresh q) ≡ true → z.upper q ≡ Some p → 1 ≤ times_in p s
 
-  -- the same for a set of places
+  -- if a place inside the set has a fresh summary, the parent that is stored with the summary is inside the set or none
   abbrev pub IsWrittenIn : Summaries S → (Place → Bool) → Type 0
   IsWrittenIn z inside = (q p : Place) → inside q ≡ true → is_fresh (z.fresh q) ≡ true → z.upper q ≡ Some p → inside p ≡ true
 
-  -- everything outside the set is the same
+  -- each place outside the set has in both states the same summary and the same stored parent
   abbrev pub IsSameBeside : Summaries S → Summaries S → (Place → Bool) → Type 0
   IsSameBeside z w inside = (q : Place) → inside q ≡ false → IsSameAt z w q
 
-  -- an edge in the set moves to another one in it. If the summaries of the set were written within it, everything outside is the
-  -- same
+  -- the edge (the place whose summary may be wrong) is inside the set after an edit if it was before. If also the summaries of the set were written within
+  -- it, nothing outside the set has changed
   abbrev pub StaysInside : Summaries S → Summaries S → Option Place → Option Place → (Place → Bool) → Type 0
   StaysInside z w was is inside = IsIn inside was → IsIn inside is × (IsWrittenIn z inside → IsSameBeside z w inside)
 
--- an edge is p, or a member of s, or none
+-- the edge (the place whose summary may be wrong) is p, or a member of s, or none
 abbrev pub IsEdgeOf : Option Place → Place → List Place → Type 0
 IsEdgeOf edge p s = (q : Place) → edge ≡ Some q → q ≢ p → IsMember q s

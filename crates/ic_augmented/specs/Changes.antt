@@ -1,4 +1,4 @@
--- A summary that has changed, and those above it that depend on it.
+-- If a summary changes, the summaries above it that were computed from it must change. These definitions say how they are recomputed.
 use Rattle.std.specs.Prelude.{◌≡◌, ◌⊎◌, true, Option, Some, None, List, [], ◌∷◌}
 use Rattle.ic_link_ops.specs.Prelude.{Place, Table}
 use Rattle.ic_link_ops.specs.declared.color.Color.{Color}
@@ -11,65 +11,69 @@ use Rattle.ic_augmented.specs.Summaries.{Summaries, is_fresh, seen}
 use Rattle.ic_augmented.specs.Consistent.{IsUnder, IsConsistentTree, IsConsistentBelow}
 use Rattle.ic_augmented.specs.Subtrees.{IsSubtree}
 
--- p is the place of one of these frames
+-- the place p is on a path, which is a list of frames with one place each
 abbrev pub IsAmong : Place → List Frame → Type 0
 IsAmong p [] = ⊥
 IsAmong p (frame d c q b ∷ fs) = (q ≡ p) ⊎ IsAmong p fs
 
 module _ {S : Type 0} where
-  -- if x is the summary with `from` on one side, then y is the summary with `to` there, whatever the other side has
+  -- if joining `from` on one side with a summary o on the other gives x, then joining `to` with o gives y, whatever o is
   pub record Rejoins (join : Option S → Option S → S) (from to x y : S) : Type 0 where
     pub left : (o : Option S) → x ≡ join (Some from) o → y ≡ join (Some to) o
     pub right : (o : Option S) → x ≡ join o (Some from) → y ≡ join o (Some to)
 
-  -- the stored parent of an end, none if there is no place
+  -- the parent that is stored with the summary of a place, or none if there is no place
   abbrev pub seen_upper : Summaries S → Option Place → Option Place
   seen_upper z None = None
   seen_upper z (Some p) = z.upper p
 
-  -- the summary from the one on side d and the one on the other side
+  -- the join of the summary x on side d and of the summary y on the other side
   abbrev pub join_on : Side → (Option S → Option S → S) → Option S → Option S → S
   join_on Left join x y = join x y
   join_on Right join x y = join y x
 
-  -- the summary y at q was computed from x, which belonged to a child on side d with this parent, and from the summary
-  -- at its other child
+  -- the summary y of the place q was computed from x and from the summary of the child `other`. The fresh summary x is that of the child on side d, and
+  -- its stored parent `up` is q
   pub record IsJoinedOn (z : Summaries S) (d : Side) (q : Place) (x : Option S) (up other : Option Place) (y : S) : Type 0 where
     pub fresh : is_fresh x ≡ true
     pub under : up ≡ Some q
     pub joined : y ≡ join_on d (z.join q) x (seen z other)
     pub other_is : IsUnder z q other
 
-  -- each fresh summary above a subtree was right, given that the subtree's root had the summary x and this parent
+  -- each fresh summary above and beside a subtree is right, if the root of the subtree has the summary x and the stored parent `up`
   abbrev pub IsConsistentAbove : Summaries S → Option S → Option Place → List Frame → Type 0
   IsConsistentAbove z x up [] = Unit {0}
   IsConsistentAbove z x up (frame d c p b ∷ fs) =
       ((y : S) → z.fresh p ≡ Some y → IsJoinedOn z d p x up (top b) y) × IsConsistentTree z b × IsConsistentAbove z (z.fresh p) (z.upper p) fs
 
-  -- the edge is among these frames, and each other fresh summary there was right
+  -- the place `edge` is on the path. Each fresh summary above `edge` is right, and so is each fresh summary in the trees beside the path
   abbrev pub IsEdgeAbove : Summaries S → Place → List Frame → Type 0
   IsEdgeAbove z edge [] = ⊥
   IsEdgeAbove z edge (frame d c p b ∷ fs) =
       IsConsistentTree z b × (((p ≡ edge) × IsConsistentAbove z (z.fresh p) (z.upper p) fs) ⊎ IsEdgeAbove z edge fs)
 
-  -- the same, or the edge is p, below these frames
+  -- the place `edge` is p, which is below the path, or is on the path. Each fresh summary above `edge` is right, and so is each fresh summary in the trees
+  -- beside the path from there
   abbrev pub IsEdgeAt : Summaries S → Place → Place → List Frame → Type 0
   IsEdgeAt z edge p fs = ((p ≡ edge) × IsConsistentAbove z (z.fresh p) (z.upper p) fs) ⊎ IsEdgeAbove z edge fs
 
 module _ {E S : Type 0} (n : E → Node) (v : Table E) where
-  -- from z to y the summary at p was recomputed, with this parent, after that of one child changed from `from` to `to`
+  -- from state z to state y the summary of the place p was recomputed, because that of one child had changed from `from` to `to`. The place p now stores
+  -- the given parent
   abbrev pub RecomputesAt : Summaries S → Summaries S → Place → S → S → Option Place → Type 0
   RecomputesAt z y p from to parent = (d : Side) (c : Color) (b : Tree) (fs : List Frame) (t : Tree) (up : Option Place)
       → IsSubtree n v (frame d c p b ∷ fs) t → IsConsistentTree z t → seen z (top t) ≡ Some to → seen_upper z (top t) ≡ Some p
       → IsConsistentAbove z (Some from) up (frame d c p b ∷ fs) → IsConsistentTree y (put_in (frame d c p b) t) × (y.upper p ≡ parent)
 
-  -- from z to y the summary at p was recomputed in the same way, and those above it, so each fresh summary is right
+  -- from state z to state y the summary of the place p was recomputed, because that of one child had changed, and then the summaries above p. Each fresh
+  -- summary is right afterwards
   abbrev pub PassesOn : Summaries S → Summaries S → Place → S → S → Type 0
   PassesOn z y p from to = (d : Side) (c : Color) (b : Tree) (fs : List Frame) (t : Tree) (up : Option Place)
       → IsSubtree n v (frame d c p b ∷ fs) t → IsConsistentTree z t → seen z (top t) ≡ Some to → seen_upper z (top t) ≡ Some p
       → IsConsistentAbove z (Some from) up (frame d c p b ∷ fs) → IsConsistentTree y (plug (frame d c p b ∷ fs) t)
 
-  -- from z to y the summaries from p up to the edge were recomputed, and those above, so each fresh one is right
+  -- from state z to state y the summaries from the place p up to the place `edge` were recomputed, and then those above `edge`. Each fresh summary is
+  -- right afterwards
   abbrev pub ClimbsTo : Summaries S → Summaries S → Place → Place → Type 0
   ClimbsTo z y p edge = (fs : List Frame) (t : Tree)
       → IsSubtree n v fs t → top t ≡ Some p → IsConsistentBelow z t → IsEdgeAt z edge p fs → IsConsistentTree y (plug fs t)

@@ -1,10 +1,10 @@
--- Summaries of numbers: the greatest in each subtree.
+-- Each place has a number, and the summary of a subtree is the greatest number in it.
 use Rattle.std.specs.Prelude.{ℕ, Bool, nat_lt, max, Option, List}
 use Rattle.ic_unsafe_ref.specs.declared.place.Place.{Place}
 use Rattle.ic_augmented.specs.Summaries.{Summaries}
-use Rattle.ic_augmented.specs.SumTables.{or_zero, cell_in, joined_in}
-use Rattle.ic_augmented.specs.declared.sum_table.Cell.{Cell}
-use Rattle.ic_augmented.specs.declared.sum_table.SumTable.{SumTable}
+use Rattle.ic_augmented.specs.AugmentedTables.{or_zero, cell_in, joined_in}
+use Rattle.ic_augmented.specs.declared.augmented_table.Cell.{Cell}
+use Rattle.ic_augmented.specs.declared.augmented_table.AugmentedTable.{AugmentedTable}
 
 -- the greatest of a number and of the summaries of two subtrees
 abbrev pub greatest_of : ℕ → Option ℕ → Option ℕ → ℕ
@@ -17,13 +17,13 @@ abbrev pub greatest_in : List (Cell ℕ ℕ) → Summaries ℕ
 greatest_in cells = joined_in greatest_of 0 cells
 
 module _ {A : Type 0} where
-  -- numbers as contracts see them: their summaries, and the number at each place
-  abbrev pub greatest : SumTable ℕ ℕ A → Summaries ℕ
+  -- `greatest` gives the summaries that a table of numbers stores, and `number_at` gives the number of the place p
+  abbrev pub greatest : AugmentedTable ℕ ℕ A → Summaries ℕ
   greatest t = greatest_in t.cells.items
 
-  abbrev pub number_at : SumTable ℕ ℕ A → Place → ℕ
+  abbrev pub number_at : AugmentedTable ℕ ℕ A → Place → ℕ
   number_at t p = number_in t.cells.items p
 
--- THE NUMBER at p IS GREATER than the bound
+-- THE NUMBER of the place p IS GREATER than the bound
 abbrev pub is_greater : (number : Place → ℕ) → ℕ → Place → Bool
 is_greater number bound p = nat_lt bound (number p)

@@ -1,4 +1,4 @@
--- Two edits that only mark summaries are together such an edit.
+-- If two edits write no summary and only make some stale, both edits together write no summary.
 use Rattle.std.specs.Prelude.{◌≡◌, true, Bool, Option, None, Some, refl}
 use Rattle.std.proofs.Common.{◌∙◌, sym}
 use Rattle.ic_unsafe_ref.specs.declared.place.Place.{Place}
@@ -12,18 +12,18 @@ module _ {S : Type 0} where
   pub marks_on : {x y z : Summaries S} → WritesNoSummary x y → WritesNoSummary y z → WritesNoSummary x z
   marks_on h k = record { fresh = λ q a e. h.fresh q a (k.fresh q a e); upper = λ q. k.upper q ∙ h.upper q }
 
-  -- a summary that is fresh now was fresh before
+  -- if an edit wrote no summary, each summary that is fresh after it was fresh before it
   fresh_before : (x y : Summaries S) → WritesNoSummary x y → (q : Place) → is_fresh (y.fresh q) ≡ true → is_fresh (x.fresh q) ≡ true
   fresh_before x y h q e = printed (y.fresh q) refl e where
     printed : (o : Option S) → y.fresh q ≡ o → is_fresh o ≡ true → is_fresh (x.fresh q) ≡ true
     printed None is k = cc
     printed (Some a) is k = rw (h.fresh q a is) refl
 
-  -- summaries that were written within a set still are
+  -- if the summaries of a set were written within the set, this still holds after an edit that writes no summary
   pub written_still : (x y : Summaries S) → WritesNoSummary x y → (inside : Place → Bool) → IsWrittenIn x inside → IsWrittenIn y inside
   written_still x y h inside k q p m e up = k q p m (fresh_before x y h q e) (sym (h.upper q) ∙ up)
 
-  -- two such edits inside a set are together such an edit
+  -- an edit that changes nothing stays inside a set, and two edits that stay inside the set do so together
   pub inside_still : (z : Summaries S) (o : Option Place) (inside : Place → Bool) → StaysInside z z o o inside
   inside_still z o inside i = (i, λ k q out. record { fresh = refl; upper = refl })
 

@@ -1,10 +1,10 @@
--- Two lists of steps that keep fresh summaries right are together such a list.
+-- If each of two lists of link steps keeps fresh summaries right, both lists together keep them right.
 use Rattle.std.specs.Prelude.{◌⊎◌, List, [], ◌∷◌, ◌++◌}
 use Rattle.std.proofs.Common.{inl, inr}
 use Rattle.ic_link_ops.specs.Prelude.{Place, Table, LinkStep, acquires, releases}
 use Rattle.ic_link_ops.specs.RedBlackTree.{Node}
 use Rattle.ic_augmented.specs.Summaries.{Summaries}
-use Rattle.ic_augmented.specs.SummedSteps.{IsAcquired, IsRightAt}
+use Rattle.ic_augmented.specs.AugmentedSteps.{IsAcquired, IsRightAt}
 
 pub acquired_in : (s t : List LinkStep) (p : Place) → IsAcquired p (s ++ t) → IsAcquired p s ⊎ IsAcquired p t
 acquired_in [] t p a = inr a

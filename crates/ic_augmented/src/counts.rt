@@ -1,17 +1,17 @@
-//! The number of members in each subtree.
+//! Each place stores the number of members in the subtree there.
 //!
 //! ```text
-//! let mut summed = Summed { links, summaries: Counts::new(alloc) };
+//! let mut summed = Augmented { links, summaries: Counts::new(alloc) };
 //! summed.summaries.cover(1000)?;
 //! ```
 
 ghost use Rattle.std.specs.Prelude.{◌≡◌, IfSome};
 
-use crate::sum_table::{SumTable, Summarize};
+use crate::augmented_table::{AugmentedTable, Summarize};
 use std::alloc::Global;
 
-/// A count beside each place: the number of members in the subtree there.
-pub type Counts<A = Global> = SumTable<(), u64, A>;
+/// A table that stores for each place how many members the subtree there has.
+pub type Counts<A = Global> = AugmentedTable<(), u64, A>;
 
 /// Places have no value of their own, and each member counts as one. A count that would exceed `u64::MAX` is
 /// `u64::MAX`.
@@ -38,14 +38,14 @@ impl Summarize<u64> for () {
     fn rejoin(self, was: u64, from: u64, to: u64) -> Option<u64>
         ensures { IfSome result (Rejoins (counted self) from to was) }
     {
-        // At the most there may be more members than it tells.
+        // A count of `u64::MAX` may be too low, so the new count cannot be computed from it.
         if was == u64::MAX {
             return None;
         }
         was.checked_sub(from)?.checked_add(to)
     }
 
-    // An inserted member changes each count above it, so a test whether they differ would only cost time.
+    // An inserted member changes each count above it, so a test whether two counts differ would only cost time.
     #[inline]
     fn is_same(a: &u64, b: &u64) -> bool {
         let _ = a;

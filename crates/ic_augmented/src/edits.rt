@@ -1,4 +1,4 @@
-//! Calls that recompute summaries after edits of a tree, and edits that recompute them.
+//! These calls recompute the summaries that edits of a tree have made stale, and some of them make the edit, too.
 //!
 //! ```text
 //! tree.insert_keyed(&mut summed, object)?;
@@ -16,29 +16,30 @@ ghost use Rattle.ic_rbtree.specs.Insertion.{IsInsertPos, Attaches};
 ghost use Rattle.ic_rbtree.specs.Kept.{TellsEnds, IsBelow};
 ghost use Rattle.ic_rbtree.specs.Transplants.{TakesAway};
 ghost use Rattle.ic_rbtree.specs.Tree.{head_of, root_in};
-ghost use Rattle.ic_augmented.specs.Summed.{links_of, summaries_of};
-ghost use Rattle.ic_augmented.specs.Consistent.{IsSameAt, RepresentsConsistent, RepresentsSummed};
+ghost use Rattle.ic_augmented.specs.Augmented.{links_of, summaries_of};
+ghost use Rattle.ic_augmented.specs.Consistent.{IsSameAt, RepresentsConsistent, RepresentsAugmented};
 ghost use Rattle.ic_augmented.specs.Fresh.{ChangesOnlyInTree, RepresentsFresh};
 
+use crate::augmented::Augmented;
 use crate::climb::{settle, settle_without};
 use crate::marking::{attach_marking, unlink_marking};
 use crate::stale::{invalidate_up, refresh_below, refresh_path};
 use crate::summaries::RecomputeSummaries;
-use crate::summed::Summed;
 use ic_link_ops::Side;
 use ic_rbtree::{NodeStore, RBTree, TreeHead};
 use ic_unsafe_ref::Place;
 use std::marker::Brand;
 
-/// Inserts `place`, as [`RBTree::attach`] does, and recomputes the stale summaries of the tree. The tree is summed then.
+/// Inserts `place`, as [`RBTree::attach`] does, and recomputes the stale summaries of the tree. Afterwards each member has the summary of its subtree.
 ///
-/// It does what `RBTree::attach` and [`refresh`] do, and is faster: it recomputes the summaries above the place as far as they change, each from the
-/// changed one below. Each fresh summary of another tree in the table stays right. It also stays fresh if the summaries of this tree were written
-/// below its own members, as in a tree that is summed. It requires what `RBTree::attach` requires, that the links represent a tree with this hole,
-/// and that there is room for a summary at each linked place. O(log n + v) for v summaries that were stale before.
+/// The call does what `RBTree::attach` and [`refresh`] do, but is faster. It recomputes the summaries above the place only as far as they change, each
+/// from the changed summary below. Each fresh summary of another tree in the table stays right. If the summaries of this tree were written below its own
+/// members, as in a summed tree, summaries of other trees also stay fresh. It requires what `RBTree::attach` requires, and that there is room for a
+/// summary at each linked place. The links must represent a tree in which the place can be inserted at this side of the parent. O(log n + v) for v
+/// summaries that were stale before.
 pub fn attach_fresh<A, E: TreeHead, N: NodeStore, M: RecomputeSummaries>(
     tree: &mut RBTree<A, E>,
-    summed: &mut Summed<N, M>,
+    summed: &mut Augmented<N, M>,
     parent: Option<Place>,
     side: Side,
     place: Place,
@@ -65,16 +66,16 @@ pub fn attach_fresh<A, E: TreeHead, N: NodeStore, M: RecomputeSummaries>(
     let _ = refresh_below(&summed.links, &mut summed.summaries, top, None, 67);
 }
 
-/// Removes the member at `place`, as [`RBTree::unlink`] does, and recomputes the stale summaries of the tree. The tree is summed then. The place
-/// stays linked, and its own summary is stale.
+/// Removes the member at `place`, as [`RBTree::unlink`] does, and recomputes the stale summaries of the tree. Afterwards each member has the summary of
+/// its subtree. The place stays linked, and its own summary is stale.
 ///
-/// It does what `RBTree::unlink` and [`refresh`] do, and recomputes the summaries above as far as they change, each from the changed one below. Each
-/// fresh summary of another tree in the table stays right. It also stays fresh if the summaries of this tree were written below its own members, as
-/// in a tree that is summed. It requires that the place is that of a member, and that there is room for a summary at each linked place. O(log n +
-/// v) for v summaries that were stale before.
+/// The call does what `RBTree::unlink` and [`refresh`] do. It recomputes the summaries above the place only as far as they change, each from the changed
+/// summary below. Each fresh summary of another tree in the table stays right. If the summaries of this tree were written below its own members, as in a
+/// summed tree, summaries of other trees also stay fresh. It requires that the place is that of a member, and that there is room for a summary at each
+/// linked place. O(log n + v) for v summaries that were stale before.
 pub fn unlink_fresh<A, E: TreeHead, N: NodeStore, M: RecomputeSummaries>(
     tree: &mut RBTree<A, E>,
-    summed: &mut Summed<N, M>,
+    summed: &mut Augmented<N, M>,
     place: Place,
 )
     requires member { HasMember (Represents N.node (N.table (links_of summed.old)) (root_in E.kept tree.old)) place }
@@ -96,19 +97,19 @@ pub fn unlink_fresh<A, E: TreeHead, N: NodeStore, M: RecomputeSummaries>(
     summed.summaries.invalidate(place);
 }
 
-/// Recomputes the stale summaries of the tree. The tree is summed then. The links stay, and so does all that is stored at places outside
-/// the tree.
+/// Recomputes the stale summaries of the tree. Afterwards each member has the summary of its subtree. The links do not change, and no summary at a place
+/// outside the tree changes.
 ///
 /// It requires that the links represent a tree, and that there is room for a summary at each linked place. O(v) for v stale summaries.
 pub fn refresh<A, E: TreeHead, N: NodeStore, M: RecomputeSummaries>(
     tree: &RBTree<A, E>,
-    summed: &mut Summed<N, M>,
+    summed: &mut Augmented<N, M>,
 )
     requires shown { (s : List Place) × Represents N.node (N.table (links_of summed.old)) (root_in E.kept tree.now) s }
     requires covered { (q : Place) → IsNode N.node (N.table (links_of summed.old)) q → M.Covers (summaries_of summed.old) q }
     ensures summed { (s : List Place)
         → RepresentsConsistent N.node (M.summaries (summaries_of summed.old)) (N.table (links_of summed.old)) (root_in E.kept tree.now) s
-        → RepresentsSummed N.node (M.summaries (summaries_of summed.new)) (N.table (links_of summed.new)) (root_in E.kept tree.now) s }
+        → RepresentsAugmented N.node (M.summaries (summaries_of summed.new)) (N.table (links_of summed.new)) (root_in E.kept tree.now) s }
     ensures consistent { (s : List Place)
         → RepresentsConsistent N.node (M.summaries (summaries_of summed.old)) (N.table (links_of summed.old)) (root_in E.kept tree.now) s
         → RepresentsConsistent N.node (M.summaries (summaries_of summed.new)) (N.table (links_of summed.new)) (root_in E.kept tree.now) s }
@@ -122,18 +123,18 @@ pub fn refresh<A, E: TreeHead, N: NodeStore, M: RecomputeSummaries>(
     let _ = refresh_below(&summed.links, &mut summed.summaries, root, None, 67);
 }
 
-/// Recomputes the stale summaries of a tree from the member at `place` upwards. The tree is summed then. The links stay, and so does all that
-/// is stored at places outside the tree.
+/// Recomputes the stale summaries of a tree from the member at `place` upwards. Afterwards each member has the summary of its subtree. The links do not
+/// change, and nothing stored at a place outside the tree changes.
 ///
-/// It does what [`refresh`] does. It is faster if the stale summaries are at `place`, on the path from there to the root, and beside that path,
-/// as after an insert of `place`. It requires that the place is that of a member, and that there is room for a summary at each linked place.
+/// The call does what [`refresh`] does. It is faster if the stale summaries are at `place`, on the path from `place` to the root, and beside this path,
+/// for example after an insert of `place`. It requires that the place is that of a member, and that there is room for a summary at each linked place.
 /// O(log n + v) for v stale summaries.
-pub fn propagate<N: NodeStore, M: RecomputeSummaries>(summed: &mut Summed<N, M>, place: Place)
+pub fn propagate<N: NodeStore, M: RecomputeSummaries>(summed: &mut Augmented<N, M>, place: Place)
     requires member { (root : Option Place) × HasMember (Represents N.node (N.table (links_of summed.old)) root) place }
     requires covered { (q : Place) → IsNode N.node (N.table (links_of summed.old)) q → M.Covers (summaries_of summed.old) q }
     ensures summed { (root : Option Place) (front back : List Place)
         → RepresentsConsistent N.node (M.summaries (summaries_of summed.old)) (N.table (links_of summed.old)) root (front ++ place ∷ back)
-        → RepresentsSummed N.node (M.summaries (summaries_of summed.new)) (N.table (links_of summed.new)) root (front ++ place ∷ back) }
+        → RepresentsAugmented N.node (M.summaries (summaries_of summed.new)) (N.table (links_of summed.new)) root (front ++ place ∷ back) }
     ensures consistent { (root : Option Place) (front back : List Place)
         → RepresentsConsistent N.node (M.summaries (summaries_of summed.old)) (N.table (links_of summed.old)) root (front ++ place ∷ back)
         → RepresentsConsistent N.node (M.summaries (summaries_of summed.new)) (N.table (links_of summed.new)) root (front ++ place ∷ back) }

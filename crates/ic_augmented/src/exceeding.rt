@@ -10,18 +10,18 @@ ghost use Rattle.ic_link_ops.specs.RedBlackTree.{IsTree, Represents};
 ghost use Rattle.ic_link_ops.specs.Trees.{Tree, top, in_order};
 ghost use Rattle.ic_rbtree.specs.Height.{height};
 ghost use Rattle.ic_rbtree.specs.Tree.{root_in};
-ghost use Rattle.ic_augmented.specs.Consistent.{RepresentsSummed};
+ghost use Rattle.ic_augmented.specs.Consistent.{RepresentsAugmented};
 ghost use Rattle.ic_augmented.specs.Greatest.{greatest, number_at, is_greater};
-ghost use Rattle.ic_augmented.specs.Summed.{links_of, summaries_of};
+ghost use Rattle.ic_augmented.specs.Augmented.{links_of, summaries_of};
 ghost use Rattle.ic_augmented.specs.Summaries.{IsSummed};
 
+use crate::augmented::Augmented;
 use crate::greatest::Greatest;
-use crate::summed::Summed;
 use ic_rbtree::{NodeStore, RBTree, TreeHead};
 use ic_unsafe_ref::Place;
 use std::alloc::Allocator;
 
-// The first member of the subtree at a place whose number is greater than `bound`.
+// The first member whose number is greater than `bound`, in the subtree at a place. Returns `None` if no member of the subtree has such a number.
 fn first_greater_below<N: NodeStore, A: Allocator>(
     links: &N,
     numbers: &Greatest<A>,
@@ -49,17 +49,18 @@ fn first_greater_below<N: NodeStore, A: Allocator>(
     first_greater_below(links, numbers, right, bound, turns - 1)
 }
 
-/// The first member whose number is greater than `bound`, whatever the order of the numbers is; `None` if no number is greater. O(log n).
+/// The first member whose number is greater than `bound`, or `None` if no number is greater. The members need not be in the order of their numbers. O(log
+/// n).
 ///
 /// It requires that the links represent a tree.
 pub fn first_greater<T, E: TreeHead, N: NodeStore, A: Allocator>(
     tree: &RBTree<T, E>,
-    summed: &Summed<N, Greatest<A>>,
+    summed: &Augmented<N, Greatest<A>>,
     bound: u64,
 ) -> Option<Place>
     requires { (s : List Place) × Represents N.node (N.table (links_of summed.now)) (root_in E.kept tree.now) s }
     ensures { (s : List Place)
-        → RepresentsSummed N.node (greatest (summaries_of summed.now)) (N.table (links_of summed.now)) (root_in E.kept tree.now) s
+        → RepresentsAugmented N.node (greatest (summaries_of summed.now)) (N.table (links_of summed.now)) (root_in E.kept tree.now) s
         → result ≡ first (filter (is_greater (number_at (summaries_of summed.now)) bound) s) }
 {
     first_greater_below(&summed.links, &summed.summaries, tree.root(), bound, 67)

@@ -1,4 +1,4 @@
-//! Inserts and removals of members that leave all summaries fresh.
+//! These calls insert and remove members, and leave all summaries fresh.
 //!
 //! ```text
 //! insert_fresh(&mut tree, &mut summed, object)?;
@@ -14,25 +14,25 @@ ghost use Rattle.ic_rbtree.specs.Comparing.{compared, own_order};
 ghost use Rattle.ic_rbtree.specs.Kept.{RepresentsKept};
 ghost use Rattle.ic_rbtree.specs.Ordered.{InsertsInOrder};
 ghost use Rattle.ic_rbtree.specs.Tree.{head_of, root_in, adapter_of};
-ghost use Rattle.ic_augmented.specs.Summed.{links_of, summaries_of};
+ghost use Rattle.ic_augmented.specs.Augmented.{links_of, summaries_of};
 ghost use Rattle.ic_augmented.specs.Consistent.{RepresentsConsistent};
 ghost use Rattle.ic_augmented.specs.Fresh.{ChangesOnlyInTree, RepresentsFresh};
 
+use crate::augmented::Augmented;
 use crate::edits::{attach_fresh, unlink_fresh};
 use crate::summaries::RecomputeSummaries;
-use crate::summed::Summed;
 use ic_link_ops::rbtree::RBTreeOps;
 use ic_link_ops::{AlreadyLinked, LinkOps, LinkValues, Side};
 use ic_rbtree::{KeyAdapter, KeyProbe, RBTree, TreeHead};
 use ic_unsafe_ref::{UnsafeRef, Values};
 
-/// Inserts the object as [`RBTree::insert_keyed`] does, and recomputes the stale summaries of the tree. The tree is summed
-/// then.
+/// Inserts the object as [`RBTree::insert_keyed`] does, and recomputes the stale summaries of the tree. Afterwards each member has the summary of its
+/// subtree.
 ///
-/// It does what `insert_keyed` and [`refresh`](crate::refresh) do, and is faster, but it always descends, even if the tree stores its last member.
-/// Each fresh summary of another tree in the table stays right. It requires that the object's place is covered, that the links represent a tree,
-/// and that there is room for a summary at each covered place. If the link is refused, the object is returned, and the tree, its links and its
-/// summaries are as they were. O(log n + v) for v summaries that were stale before.
+/// The call does what `insert_keyed` and [`refresh`](crate::refresh) do, and is faster. It always descends from the root, even if the tree stores its last
+/// member. Each fresh summary of another tree in the table stays right. It requires that the object's place is covered, that the links represent a tree,
+/// and that there is room for a summary at each covered place. If the link is refused, the call returns the object, and the tree, its links and its
+/// summaries are unchanged. O(log n + v) for v summaries that were stale before.
 pub fn insert_fresh<
     A: KeyAdapter,
     E: TreeHead,
@@ -40,7 +40,7 @@ pub fn insert_fresh<
     M: RecomputeSummaries,
 >(
     tree: &mut RBTree<A, E>,
-    summed: &mut Summed<L, M>,
+    summed: &mut Augmented<L, M>,
     object: UnsafeRef<A::Value>,
 ) -> Result<(), AlreadyLinked<A::Value>>
     requires covered { IsCovered (L.table (links_of summed.old)) object }
@@ -72,15 +72,15 @@ pub fn insert_fresh<
     Ok(())
 }
 
-/// Removes the object as [`RBTree::remove`] does, and recomputes the stale summaries of the tree. The tree is summed then.
+/// Removes the object as [`RBTree::remove`] does, and recomputes the stale summaries of the tree. Afterwards each member has the summary of its subtree.
 ///
-/// It does what `remove` and [`refresh`](crate::refresh) do, and recomputes the summaries above as far as they change. The summary of the object's
-/// place is stale then. Each fresh summary of another tree in the table stays right. It also stays fresh if the summaries of this tree were written
-/// below its own members, as in a tree that is summed. It requires that the object is a member, and that there is room for a summary at each
-/// covered place. O(log n + v) for v summaries that were stale before.
+/// The call does what `remove` and [`refresh`](crate::refresh) do. It recomputes the summaries above the object only as far as they change. The summary of
+/// the object's place is stale afterwards. Each fresh summary of another tree in the table stays right. If the summaries of this tree were written below
+/// its own members, as in a summed tree, summaries of other trees also stay fresh. It requires that the object is a member, and that there is room for a
+/// summary at each covered place. O(log n + v) for v summaries that were stale before.
 pub fn remove_fresh<A: KeyAdapter, E: TreeHead, L: RBTreeOps, M: RecomputeSummaries>(
     tree: &mut RBTree<A, E>,
-    summed: &mut Summed<L, M>,
+    summed: &mut Augmented<L, M>,
     object: &UnsafeRef<A::Value>,
 )
     requires member { HasMember (Represents L.node (L.table (links_of summed.old)) (root_in E.kept tree.old)) object.now }

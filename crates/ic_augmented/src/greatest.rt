@@ -1,4 +1,4 @@
-//! A number beside each place, and the greatest number in each subtree.
+//! Each place stores a number, and the greatest number in the subtree there.
 //!
 //! ```text
 //! set_value(&mut summed, place, 20); // the end of an interval, say, whose start is its key
@@ -8,12 +8,12 @@
 
 ghost use Rattle.std.specs.Prelude.{◌≡◌, max, IfSome};
 
-use crate::sum_table::{SumTable, Summarize};
+use crate::augmented_table::{AugmentedTable, Summarize};
 use std::alloc::Global;
 
-/// A number beside each place, 0 until one is set, and the greatest number in the subtree there: for example the ends of intervals, or the
-/// lengths of regions.
-pub type Greatest<A = Global> = SumTable<u64, u64, A>;
+/// A table with a number for each place, which is 0 until another one is set, and the greatest number in the subtree there. The numbers are for example
+/// the ends of intervals, or the lengths of regions.
+pub type Greatest<A = Global> = AugmentedTable<u64, u64, A>;
 
 // The greater of two numbers.
 #[inline]
@@ -23,7 +23,7 @@ fn greater(a: u64, b: u64) -> u64
     if a < b { b } else { a }
 }
 
-/// The summary of numbers is the greatest one.
+/// The summary of a subtree is the greatest of its numbers.
 impl Summarize<u64> for u64 {
     ghost use Rattle.ic_augmented.specs.Changes.{Rejoins};
     ghost use Rattle.ic_augmented.specs.Greatest.{greatest_of};

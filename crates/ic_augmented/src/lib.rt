@@ -1,7 +1,7 @@
-//! Red-black trees with a summary of each subtree, stored beside the links: how many members it has, the greatest of
-//! their numbers, or a summary of your own.
+//! Red-black trees with a summary of each subtree, stored beside the links: the number of its members, the greatest of their numbers, or a summary of your
+//! own.
 //!
-//! An edit marks each summary as stale that may have changed, and `refresh` recomputes the stale ones. So several edits can share one
+//! An edit marks each summary that may have changed as stale, and `refresh` recomputes the stale summaries. Therefore several edits can share one
 //! `refresh`.
 //!
 //! ```text
@@ -11,6 +11,8 @@
 //! ```
 #![tactic(auto)]
 
+mod augmented;
+mod augmented_table;
 mod climb;
 mod counts;
 mod edits;
@@ -23,10 +25,10 @@ mod overlaps;
 mod pooled;
 mod ranks;
 mod stale;
-mod sum_table;
 mod summaries;
-mod summed;
 
+pub use augmented::Augmented;
+pub use augmented_table::{AugmentedTable, Cell, Summarize, set_value};
 pub use counts::Counts;
 pub use edits::{attach_fresh, propagate, refresh, unlink_fresh};
 pub use exceeding::first_greater;
@@ -35,6 +37,4 @@ pub use greatest::Greatest;
 pub use no_summary::NoSummary;
 pub use overlaps::{first_overlap, next_overlap};
 pub use ranks::{index_of, len, nth};
-pub use sum_table::{Cell, SumTable, Summarize, set_value};
 pub use summaries::{RecomputeSummaries, Summaries};
-pub use summed::Summed;

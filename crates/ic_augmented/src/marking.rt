@@ -1,4 +1,4 @@
-//! Links and summaries during the insert or the removal of one place. A tree's edit writes to them, and they record the place above the stale
+//! A tree's edit inserts or removes one place, and writes to links and summaries that also record the edge. The edge is the place above the stale
 //! summaries.
 //!
 //! ```text
@@ -17,18 +17,18 @@ ghost use Rattle.ic_rbtree.specs.Tree.{head_of, root_in, adapter_of};
 ghost use Rattle.ic_augmented.specs.Beside.{IsWrittenIn, IsSameBeside, StaysInside};
 ghost use Rattle.ic_augmented.specs.Consistent.{IsConsistent, IsConsistentBut, KeepsEdge};
 ghost use Rattle.ic_augmented.specs.Marking.{links_in, MarksOnly};
-ghost use Rattle.ic_augmented.specs.Summed.{links_of, summaries_of};
+ghost use Rattle.ic_augmented.specs.Augmented.{links_of, summaries_of};
 ghost use Rattle.ic_augmented.specs.Summaries.{WritesNoSummary};
 
+use crate::augmented::Augmented;
 use crate::stale::invalidate_from;
 use crate::summaries::Summaries;
-use crate::summed::Summed;
 use ic_link_ops::Side;
 use ic_rbtree::{Color, NodeStore, RBTree, TreeHead};
 use ic_unsafe_ref::Place;
 use std::marker::{Brand, PhantomData};
 
-/// The places at which an edit may write. Its caller chooses them.
+/// A fence is the set of places at which an edit may write. The caller of the edit chooses it.
 pub(crate) trait Fence {
     ghost inside: { Place → Bool };
 }
@@ -37,12 +37,13 @@ impl Fence for Brand {
     ghost inside = { λ q. true };
 }
 
-/// Links and summaries, and the edge: the place, if any, whose child was written and whose summary was left as it was.
+/// Links and summaries during an edit, together with the edge. The edge is the place, if any, whose child was written and whose summary was left as it
+/// was.
 ///
 /// A place outside the fence counts as not linked. An edit requires that each place which it writes is linked, so it writes only inside the
 /// fence.
 pub(crate) struct Marking<'a, N, M, F> {
-    summed: &'a mut Summed<N, M>,
+    summed: &'a mut Augmented<N, M>,
     edge: Option<Place>,
     fence: PhantomData<F>,
 }
@@ -50,9 +51,9 @@ pub(crate) struct Marking<'a, N, M, F> {
 impl<'a, N, M, F> Marking<'a, N, M, F> {
     ghost use Rattle.ic_augmented.specs.Marking.{edge_in, Borrows};
 
-    // Links and summaries with this edge, whose summary is unchanged.
+    // Borrows links and summaries, together with a first edge.
     #[inline]
-    fn new(summed: &'a mut Summed<N, M>, edge: Option<Place>) -> Marking<'a, N, M, F>
+    fn new(summed: &'a mut Augmented<N, M>, edge: Option<Place>) -> Marking<'a, N, M, F>
         ensures borrows { Borrows summed.entry result }
         ensures edge { edge_in result ≡ edge }
     {
@@ -64,10 +65,10 @@ impl<'a, N, M, F> Marking<'a, N, M, F> {
     }
 }
 
-// `invalidate_from`, of links and summaries together.
+// Does what `invalidate_from` does, for a value that has both the links and the summaries.
 #[inline]
 fn invalidate_in<N: NodeStore, M: Summaries>(
-    summed: &mut Summed<N, M>,
+    summed: &mut Augmented<N, M>,
     edge: Option<Place>,
     place: Place,
 ) -> Option<Place>
@@ -81,8 +82,7 @@ fn invalidate_in<N: NodeStore, M: Summaries>(
     invalidate_from(&summed.links, &mut summed.summaries, edge, place)
 }
 
-/// A write of a child of a place with a fresh summary moves the edge to this place, and makes the summaries from the old edge up to it
-/// stale.
+/// If a child of a place with a fresh summary is written, this place becomes the edge. The summaries from the old edge up to this place become stale.
 impl<N: NodeStore, M: Summaries, F: Fence> NodeStore for Marking<'_, N, M, F> {
     ghost use Rattle.ic_augmented.specs.Fences.{fenced, fenced_node};
     ghost use Rattle.ic_augmented.specs.Marking.{summaries_in, edge_in};
@@ -151,7 +151,7 @@ impl<N: NodeStore, M: Summaries, F: Fence> NodeStore for Marking<'_, N, M, F> {
     ghost keeps_links_keeps = { λ old new x q. ap (λ is. F.inside q && is) (N.keeps_links_keeps (links_in old) (links_in new) x.keeps_links q) };
 }
 
-// Inserts the place, as `RBTree::attach` does. The tree and the place are inside the fence, and nothing outside it is written.
+// Inserts the place, as `RBTree::attach` does. The tree and the place are inside the fence, and the call writes nothing outside the fence.
 fn attach_inside<F: Fence, A, E: TreeHead, N: NodeStore, M: Summaries>(
     tree: &mut RBTree<A, E>,
     marking: &mut Marking<'_, N, M, F>,
@@ -170,12 +170,12 @@ fn attach_inside<F: Fence, A, E: TreeHead, N: NodeStore, M: Summaries>(
     tree.attach(marking, parent, side, place);
 }
 
-// Inserts the place, as `RBTree::attach` does, and returns the edge. It is above the stale summaries, and its own summary is unchanged and
-// may be wrong. Places to which no place inside the fence leads stay the same. At first the edge is the parent, whose child is written in
-// any case.
+// Inserts the place, as `RBTree::attach` does, and returns the edge, which is the place above the stale summaries. The edge's own summary is unchanged and
+// may be wrong. The edit changes no summary at a place to which no place inside the fence leads. At first the edge is the parent, because its child is
+// written in any case.
 pub(crate) fn attach_marking<F: Fence, A, E: TreeHead, N: NodeStore, M: Summaries>(
     tree: &mut RBTree<A, E>,
-    summed: &mut Summed<N, M>,
+    summed: &mut Augmented<N, M>,
     parent: Option<Place>,
     side: Side,
     place: Place,
@@ -206,7 +206,7 @@ pub(crate) fn attach_marking<F: Fence, A, E: TreeHead, N: NodeStore, M: Summarie
     edge
 }
 
-// Removes the member, as `RBTree::unlink` does. The tree is inside the fence, and nothing outside it is written.
+// Removes the member, as `RBTree::unlink` does. The tree is inside the fence, and the call writes nothing outside the fence.
 fn unlink_inside<F: Fence, A, E: TreeHead, N: NodeStore, M: Summaries>(
     tree: &mut RBTree<A, E>,
     marking: &mut Marking<'_, N, M, F>,
@@ -223,11 +223,11 @@ fn unlink_inside<F: Fence, A, E: TreeHead, N: NodeStore, M: Summaries>(
     tree.unlink(marking, place);
 }
 
-// Removes the member, as `RBTree::unlink` does, and returns the edge. It is above the stale summaries, and its own summary is unchanged and
-// may be wrong. Places to which no place inside the fence leads stay the same.
+// Removes the member, as `RBTree::unlink` does, and returns the edge, which is the place above the stale summaries. The edge's own summary is unchanged
+// and may be wrong. The edit changes no summary at a place to which no place inside the fence leads.
 pub(crate) fn unlink_marking<F: Fence, A, E: TreeHead, N: NodeStore, M: Summaries>(
     tree: &mut RBTree<A, E>,
-    summed: &mut Summed<N, M>,
+    summed: &mut Augmented<N, M>,
     place: Place,
 ) -> Option<Place>
     requires closed { IsClosed N.node (N.table (links_of summed.old)) (root_in E.kept tree.old) F.inside }

@@ -1,7 +1,7 @@
-//! The summaries of a plain tree, which has none.
+//! A plain tree has no summaries, and this type is used in their place.
 //!
 //! ```text
-//! let mut summed = Summed { links, summaries: NoSummary }; // costs what the links cost
+//! let mut summed = Augmented { links, summaries: NoSummary }; // costs what the links cost
 //! ```
 
 ghost use Rattle.std.specs.Prelude.{None};
@@ -9,7 +9,7 @@ ghost use Rattle.std.specs.Prelude.{None};
 use crate::summaries::Summaries;
 use ic_unsafe_ref::Place;
 
-/// It stores nothing for any place, so there is nothing to recompute.
+/// A store of summaries that stores nothing for any place, so there is nothing to recompute.
 #[derive(Clone, Copy)]
 pub struct NoSummary;
 

@@ -1,4 +1,4 @@
-//! Intervals that overlap another, found by the greatest ends of subtrees.
+//! These calls find the intervals that overlap a given interval, by the greatest end in each subtree.
 //!
 //! ```text
 //! let first = first_overlap(&tree, &summed, &summed.links, 5, 8)?; // the first that overlaps [5, 8)
@@ -14,21 +14,21 @@ ghost use Rattle.ic_link_ops.specs.Trees.{Tree, top, in_order};
 ghost use Rattle.ic_rbtree.specs.Borders.{IsSorted};
 ghost use Rattle.ic_rbtree.specs.Height.{height};
 ghost use Rattle.ic_rbtree.specs.Tree.{root_in};
-ghost use Rattle.ic_augmented.specs.Consistent.{RepresentsSummed};
+ghost use Rattle.ic_augmented.specs.Consistent.{RepresentsAugmented};
 ghost use Rattle.ic_augmented.specs.Greatest.{greatest, number_at};
 ghost use Rattle.ic_augmented.specs.Intervals.{start_in, overlaps};
 ghost use Rattle.ic_augmented.specs.Subtrees.{IsSubtree};
-ghost use Rattle.ic_augmented.specs.Summed.{links_of, summaries_of};
+ghost use Rattle.ic_augmented.specs.Augmented.{links_of, summaries_of};
 ghost use Rattle.ic_augmented.specs.Summaries.{IsSummed};
 
+use crate::augmented::Augmented;
 use crate::greatest::Greatest;
 use crate::ranks::is_at;
-use crate::summed::Summed;
 use ic_rbtree::{NodeStore, RBTree, TreeHead};
 use ic_unsafe_ref::{Place, Values};
 use std::alloc::Allocator;
 
-// The first interval of the subtree at a place that overlaps `[from, to)`.
+// The first interval of the subtree at a place that overlaps `[from, to)`, or `None` if none does.
 fn first_overlap_below<N: NodeStore, O: Values<u64>, A: Allocator>(
     links: &N,
     ends: &Greatest<A>,
@@ -61,21 +61,21 @@ fn first_overlap_below<N: NodeStore, O: Values<u64>, A: Allocator>(
     first_overlap_below(links, ends, starts, right, from, to, turns - 1)
 }
 
-/// The first member whose interval overlaps `[from, to)`: it starts before `to`, and ends after `from`.
+/// The first member whose interval overlaps `[from, to)`, which means that the interval starts before `to` and ends after `from`.
 ///
-/// The end of each interval is the number at its place in the summaries. Its start is the number that `starts` has for it, and the tree is in
-/// order of the starts. It requires that the links represent a tree with a start at each member. It returns `None` if no member overlaps. O(log
-/// n).
+/// The end of each interval is the number at its place in the summaries. The start of each interval is the number that `starts` has for the member, and
+/// the tree is in the order of the starts. It requires that the links represent a tree with a start at each member. It returns `None` if no member
+/// overlaps. O(log n).
 pub fn first_overlap<T, E: TreeHead, N: NodeStore, O: Values<u64>, A: Allocator>(
     tree: &RBTree<T, E>,
-    summed: &Summed<N, Greatest<A>>,
+    summed: &Augmented<N, Greatest<A>>,
     starts: &O,
     from: u64,
     to: u64,
 ) -> Option<Place>
     requires { (s : List Place) × Represents N.node (N.table (links_of summed.now)) (root_in E.kept tree.now) s × ArePlaced (O.values starts.now) s }
     ensures { (s : List Place)
-        → RepresentsSummed N.node (greatest (summaries_of summed.now)) (N.table (links_of summed.now)) (root_in E.kept tree.now) s
+        → RepresentsAugmented N.node (greatest (summaries_of summed.now)) (N.table (links_of summed.now)) (root_in E.kept tree.now) s
         → IsSorted nat_cmp (map (start_in (O.values starts.now)) s)
         → result ≡ first (filter (overlaps (start_in (O.values starts.now)) (number_at (summaries_of summed.now)) from to) s) }
 {
@@ -90,7 +90,7 @@ pub fn first_overlap<T, E: TreeHead, N: NodeStore, O: Values<u64>, A: Allocator>
     )
 }
 
-// The first interval after the subtree at a place that overlaps `[from, to)`.
+// The first interval that overlaps `[from, to)` after the subtree at a place, or `None` if none does.
 fn first_overlap_after<N: NodeStore, O: Values<u64>, A: Allocator>(
     links: &N,
     ends: &Greatest<A>,
@@ -125,12 +125,13 @@ fn first_overlap_after<N: NodeStore, O: Values<u64>, A: Allocator>(
     first_overlap_after(links, ends, starts, above, from, to, turns - 1)
 }
 
-/// The first member after the one at `place` whose interval overlaps `[from, to)`.
+/// The first member after the member at `place` whose interval overlaps `[from, to)`.
 ///
-/// It requires that the place is that of a member of some tree in the order of starts, with a start at each member. It returns `None` if no
-/// later member overlaps. To get all members that overlap, in order, call `first_overlap`, and then this call until it returns `None`. O(log n).
+/// It requires that `place` is that of a member of some tree, that the tree is in the order of the starts, and that each member has a start. It returns
+/// `None` if no later member overlaps. To get all members that overlap, in order, call `first_overlap`, and then `next_overlap` until it returns `None`.
+/// O(log n).
 pub fn next_overlap<N: NodeStore, O: Values<u64>, A: Allocator>(
-    summed: &Summed<N, Greatest<A>>,
+    summed: &Augmented<N, Greatest<A>>,
     starts: &O,
     place: Place,
     from: u64,
@@ -139,7 +140,7 @@ pub fn next_overlap<N: NodeStore, O: Values<u64>, A: Allocator>(
     requires { (root : Option Place) × (front back : List Place)
         × Represents N.node (N.table (links_of summed.now)) root (front ++ place ∷ back) × ArePlaced (O.values starts.now) (front ++ place ∷ back) }
     ensures { (root : Option Place) (front back : List Place)
-        → RepresentsSummed N.node (greatest (summaries_of summed.now)) (N.table (links_of summed.now)) root (front ++ place ∷ back)
+        → RepresentsAugmented N.node (greatest (summaries_of summed.now)) (N.table (links_of summed.now)) root (front ++ place ∷ back)
         → IsSorted nat_cmp (map (start_in (O.values starts.now)) (front ++ place ∷ back))
         → result ≡ first (filter (overlaps (start_in (O.values starts.now)) (number_at (summaries_of summed.now)) from to) back) }
 {

@@ -1,27 +1,27 @@
-//! Trees with summaries over the objects of a pool. The pool makes room for the link and the summary of each object.
+//! A tree with summaries can be over the objects of a pool. The pool makes room for the link and the summary of each object.
 //!
 //! ```text
-//! let object = pool.place(value)?; // `pool.links` are `Summed`, with room for its link and its summary
+//! let object = pool.place(value)?; // `pool.links` are `Augmented`, with room for its link and its summary
 //! set_value(&mut pool.links, object.place(), 5);
 //! tree.insert(&mut pool.links, &pool.objects, object)?; // after the members whose keys are not greater
 //! ```
 
-ghost use Rattle.ic_augmented.specs.Summed.{links_of, summaries_of};
+ghost use Rattle.ic_augmented.specs.Augmented.{links_of, summaries_of};
 
-use crate::sum_table::{SumTable, Summarize};
-use crate::summed::Summed;
+use crate::augmented::Augmented;
+use crate::augmented_table::{AugmentedTable, Summarize};
 use ic_link_ops::CoverError;
 use ic_pool::Tables;
 use ic_unsafe_ref::Place;
 use std::alloc::Allocator;
 use std::cmp::min;
 
-/// Links and summaries that grow together. A place that is covered has room for its link and for its summary, and it is free if it is not linked.
+/// Links and summaries grow together. Each covered place has room for its link and for its summary, and it is free if it is not linked.
 impl<L: Tables, V: Summarize<S>, S: Copy + Drop, A: Allocator> Tables
-    for Summed<L, SumTable<V, S, A>> {
+    for Augmented<L, AugmentedTable<V, S, A>> {
     ghost use Rattle.std.specs.Prelude.{◌<◌, min, refl};
     ghost use Rattle.ic_unsafe_ref.specs.Places.{index_of};
-    ghost use Rattle.ic_augmented.specs.SumTables.{room_of};
+    ghost use Rattle.ic_augmented.specs.AugmentedTables.{room_of};
     ghost use Rattle.ic_augmented.specs.Pooled.{GrowsSummed};
 
     ghost most = { min L.most 4294967296 };

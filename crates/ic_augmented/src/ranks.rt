@@ -1,4 +1,4 @@
-//! The number of a tree's members, the member at a position, and the position of a member.
+//! These calls return the number of a tree's members, the member at a position, and the position of a member.
 //!
 //! ```text
 //! nth(&tree, &summed, len(&tree, &summed) / 2) // the median
@@ -17,29 +17,29 @@ ghost use Rattle.ic_rbtree.specs.Tree.{root_in};
 ghost use Rattle.ic_augmented.specs.Counts.{counts};
 ghost use Rattle.ic_augmented.specs.Summaries.{IsSummed};
 ghost use Rattle.ic_augmented.specs.Subtrees.{IsSubtree};
-ghost use Rattle.ic_augmented.specs.Summed.{links_of, summaries_of};
-ghost use Rattle.ic_augmented.specs.Consistent.{RepresentsSummed};
+ghost use Rattle.ic_augmented.specs.Augmented.{links_of, summaries_of};
+ghost use Rattle.ic_augmented.specs.Consistent.{RepresentsAugmented};
 
+use crate::augmented::Augmented;
 use crate::counts::Counts;
-use crate::summed::Summed;
 use ic_rbtree::{NodeStore, RBTree, TreeHead};
 use ic_unsafe_ref::Place;
 use std::alloc::Allocator;
 
-/// How many members the tree has. O(1).
+/// The number of members of the tree. O(1).
 #[inline]
 pub fn len<T, E: TreeHead, N: NodeStore, A: Allocator>(
     tree: &RBTree<T, E>,
-    summed: &Summed<N, Counts<A>>,
+    summed: &Augmented<N, Counts<A>>,
 ) -> u64
     ensures { (s : List Place)
-        → RepresentsSummed N.node (counts (summaries_of summed.now)) (N.table (links_of summed.now)) (root_in E.kept tree.now) s
+        → RepresentsAugmented N.node (counts (summaries_of summed.now)) (N.table (links_of summed.now)) (root_in E.kept tree.now) s
         → result ≡ length s }
 {
     summed.summaries.total(tree.root())
 }
 
-// The member at a position of the subtree at a place.
+// The member at a position of the subtree at a place, counted from 0.
 fn nth_below<N: NodeStore, A: Allocator>(
     links: &N,
     summaries: &Counts<A>,
@@ -68,21 +68,21 @@ fn nth_below<N: NodeStore, A: Allocator>(
     nth_below(links, summaries, right, position - before - 1, turns - 1)
 }
 
-/// The member at a position, counted from 0; `None` if the position is not less than the number of members. O(log n).
+/// The member at a position, counted from 0, or `None` if the position is not less than the number of members. O(log n).
 pub fn nth<T, E: TreeHead, N: NodeStore, A: Allocator>(
     tree: &RBTree<T, E>,
-    summed: &Summed<N, Counts<A>>,
+    summed: &Augmented<N, Counts<A>>,
     position: u64,
 ) -> Option<Place>
-    requires { (s : List Place) × RepresentsSummed N.node (counts (summaries_of summed.now)) (N.table (links_of summed.now)) (root_in E.kept tree.now) s }
+    requires { (s : List Place) × RepresentsAugmented N.node (counts (summaries_of summed.now)) (N.table (links_of summed.now)) (root_in E.kept tree.now) s }
     ensures { (s : List Place)
-        → RepresentsSummed N.node (counts (summaries_of summed.now)) (N.table (links_of summed.now)) (root_in E.kept tree.now) s
+        → RepresentsAugmented N.node (counts (summaries_of summed.now)) (N.table (links_of summed.now)) (root_in E.kept tree.now) s
         → result ≡ slice_get s position }
 {
     nth_below(&summed.links, &summed.summaries, tree.root(), position, 67)
 }
 
-// Whether `end` is `place`.
+// Whether `end` is the place `place`.
 #[inline]
 pub(crate) fn is_at(end: Option<Place>, place: Place) -> bool
     ensures { result ≡ is_end end place }
@@ -93,7 +93,7 @@ pub(crate) fn is_at(end: Option<Place>, place: Place) -> bool
     }
 }
 
-// How many members are before the subtree at a place.
+// The number of members that come before the subtree at a place.
 fn count_before<N: NodeStore, A: Allocator>(
     links: &N,
     summaries: &Counts<A>,
@@ -118,13 +118,13 @@ fn count_before<N: NodeStore, A: Allocator>(
     before.saturating_add(beside).saturating_add(1)
 }
 
-/// The position of the member at `place`: how many members are before it.
+/// The position of the member at `place`, which is the number of members before it.
 ///
 /// It requires that the place is that of a member of some tree. The result is its position if the tree is summed. O(log n).
-pub fn index_of<N: NodeStore, A: Allocator>(summed: &Summed<N, Counts<A>>, place: Place) -> u64
+pub fn index_of<N: NodeStore, A: Allocator>(summed: &Augmented<N, Counts<A>>, place: Place) -> u64
     requires { (root : Option Place) × HasMember (Represents N.node (N.table (links_of summed.now)) root) place }
     ensures { (root : Option Place) (front back : List Place)
-        → RepresentsSummed N.node (counts (summaries_of summed.now)) (N.table (links_of summed.now)) root (front ++ place ∷ back)
+        → RepresentsAugmented N.node (counts (summaries_of summed.now)) (N.table (links_of summed.now)) root (front ++ place ∷ back)
         → result ≡ length front }
 {
     let before = count_before(&summed.links, &summed.summaries, place, 67);

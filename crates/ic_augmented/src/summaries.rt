@@ -1,4 +1,4 @@
-//! The stores of summaries beside the links of a tree.
+//! A store of summaries is kept beside the links of a tree.
 //!
 //! ```text
 //! summaries.invalidate(place); // its summary is stale now
@@ -12,26 +12,25 @@ ghost use Rattle.ic_augmented.specs.Summaries.{is_fresh, Invalidates, Writes};
 
 use ic_unsafe_ref::Place;
 
-/// A store with a summary for each place, fresh or stale, and the parent that the place had when the summary was
-/// written.
+/// A store with a summary for each place, which is fresh or stale, and with the parent that the place had when the summary was written.
 pub trait Summaries {
     /// The type of a subtree's summary.
     type Summary: Drop;
 
-    // What is stored at each place, and the function that computes a place's summary from those of its subtrees.
+    // For each place the stored summary and parent, and the function that computes a place's summary from the summaries of its two subtrees.
     ghost summaries: { Self → specs.Summaries Self.Summary };
 
-    // The place has room for a summary.
+    // The store has room for a summary of the place.
     ghost Covers: { Self → Place → Type 0 };
 
-    // How many summaries are fresh.
+    // The number of places whose summary is fresh.
     ghost count: { Self → ℕ };
 
     /// Whether the summary of `place` is fresh. O(1).
     fn is_fresh(&self, place: Place) -> bool
         ensures { result ≡ is_fresh ((summaries self.now).fresh place) };
 
-    /// The parent of `place` when its summary was written. O(1).
+    /// The parent that `place` had when its summary was written. O(1).
     fn upper(&self, place: Place) -> Option<Place>
         ensures { result ≡ (summaries self.now).upper place };
 
@@ -42,10 +41,10 @@ pub trait Summaries {
         ensures fewer { is_fresh ((summaries self.old).fresh place) ≡ true → count self.new < count self.old };
 }
 
-/// A store whose summaries can be recomputed.
+/// A store of summaries that can be recomputed.
 pub trait RecomputeSummaries: Summaries {
-    /// Sets the parent of `place` in its summary, and returns the summary; `None` if it is stale, and then nothing has changed. It
-    /// requires room for a summary there. O(1).
+    /// Stores `upper` as the parent of `place`, and returns the summary of `place`. If the summary is stale, it returns `None` and changes nothing. It
+    /// requires room for a summary of `place`. O(1).
     fn adopt(&mut self, place: Place, upper: Option<Place>) -> Option<Self::Summary>
         requires covered { Self.Covers self.old place }
         ensures covers { (q : Place) → Self.Covers self.old q → Self.Covers self.new q }
@@ -53,13 +52,13 @@ pub trait RecomputeSummaries: Summaries {
         ensures written { IfSome result (λ summary. Writes (Self.summaries self.old) (Self.summaries self.new) place ((Self.summaries self.old).fresh place) upper) }
         ensures kept { IfNone result (self.new ≡ self.old) };
 
-    /// The summary of `place`, `None` if it is stale. O(1).
+    /// The summary of `place`, or `None` if the summary is stale. O(1).
     fn fresh(&self, place: Place) -> Option<Self::Summary>
         ensures { result ≡ (Self.summaries self.now).fresh place };
 
-    /// Recomputes the summary of `place` after that of one subtree changed from `from` to `to`, sets its parent, and returns the old and the new
-    /// summary. It returns `None`, and changes nothing, if the summary is stale or these alone do not determine it. It requires room for a summary
-    /// there. O(1).
+    /// Recomputes the summary of `place`, if the summary of one subtree has changed from `from` to `to`. It sets the parent of `place`, and returns the
+    /// old and the new summary. It returns `None`, and changes nothing, if the summary is stale or cannot be computed from the old summary and this change
+    /// alone. It requires room for a summary of `place`. O(1).
     fn rejoin(
         &mut self,
         place: Place,
@@ -74,12 +73,12 @@ pub trait RecomputeSummaries: Summaries {
         ensures is { IfSome result (λ change. Rejoins ((Self.summaries self.old).join place) from to change.0 change.1) }
         ensures kept { IfNone result (self.new ≡ self.old) };
 
-    /// Whether two summaries are known to be the same. O(1).
+    /// Whether two summaries are known to be equal. If it returns false, they may still be equal. O(1).
     fn is_same(a: &Self::Summary, b: &Self::Summary) -> bool
         ensures { IsTrue result → a.now ≡ b.now };
 
-    /// Computes the summary of `place` from its value and these summaries of its subtrees, writes it and returns it. It requires room for a
-    /// summary there. O(1).
+    /// Computes the summary of `place` from the place's value and the given summaries of both subtrees, writes the summary and returns it. It requires
+    /// room for a summary of `place`. O(1).
     fn write(
         &mut self,
         place: Place,

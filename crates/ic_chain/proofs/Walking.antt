@@ -1,4 +1,4 @@
--- The walk over a list's objects: where it goes from a member, one step of it, and its end.
+-- The walk over a list's objects: the member to which it goes from a member, one step of the walk, and the end of the walk.
 use Rattle.std.proofs.Common.{◌≡◌, inl, inr, Bool, Option, Some, None, List, [], ◌∷◌, ◌++◌, true, false, Bor, refl, sym, ◌∙◌, ap, subst}
 use Rattle.std.specs.Option.{option_copied}
 use Rattle.std.specs.List.{cons_option}
@@ -19,19 +19,20 @@ last_after : (p : Place) {q : Place} (r : List Place) → Some q ≡ first r →
 last_after p {q} [] e = absurd (none_not q (sym e))
 last_after p (x ∷ r) e = refl
 
--- WHAT IS TOLD of a last member: a place is it,
+-- A LAST MEMBER IS GIVEN: if a place p is given to a splice as the last member (`KnowsLast`), p is the last member
 pub told_some : (keeps : Bool) (after : Option Place) {p : Place} {last : Option Place} → KnowsLast keeps (Some p) after last → Some p ≡ last
 told_some keeps after (inl e) = e
 told_some true after (inr e) = e
 told_some false after {p} (inr e) = absurd (none_not p (sym e.0))
 
--- and where none is told of a list that has one, the kind keeps none, and nothing is to stand after
+-- if no last member is given for a list that has members, then lists of the kind do not store their last member, and `after` is none
 pub told_none : (keeps : Bool) (after : Option Place) (x : Place) (t : List Place) → KnowsLast keeps None after (last (x ∷ t)) → (keeps ≡ false) × (after ≡ None)
 told_none keeps after x t (inl e) = absurd (last_some x t (sym e))
 told_none true after x t (inr e) = absurd (last_some x t (sym e))
 told_none false after x t (inr e) = (refl, e.1)
 
--- then nothing is turned: neither before what would stand there, nor after the last member
+-- if `at` is none, then there is no entry whose previous place changes, so the statement holds for every `to'`. `turned_to_none` says that no entry's
+-- next place changes if `to` is none
 pub turned_nowhere : {E : Type 0} {between : E → Option Place → Option Place → Type 0} {old new : Place → E} {at from to to' : Option Place} → at ≡ None
     → TurnsBefore between old new at from to → TurnsBefore between old new at from to'
 turned_nowhere none turns = record { turned = λ q b e h. absurd (none_not q (sym none ∙ e)); others = turns.others }
@@ -39,10 +40,10 @@ turned_nowhere none turns = record { turned = λ q b e h. absurd (none_not q (sy
 pub turned_to_none : {E : Type 0} {between : E → Option Place → Option Place → Type 0} {t : Place → E} {at to : Option Place} → to ≡ None → TurnsAfter between t t at None to
 turned_to_none none = record { turned = λ q a e h. rw none h; others = λ q apart. refl }
 
--- A PART OF A CHAIN after which nothing stands. `leads`: the law that an entry leads on
+-- A PART OF A CHAIN up to the end of the chain. `leads`: the law that an entry, with the place before it, names the place after it
 module _ {E : Type 0} {between : E → Option Place → Option Place → Type 0} {step : E → Option Place → Option Place}
     (leads : (e : E) (b a : Option Place) → between e b a → step e b ≡ a) {t : Place → E} {b : Option Place} {p : Place} where
-  -- it goes on after its first member,
+  -- the part w of the chain begins with p, and the rest of w is a part of the chain that begins with the place after p
   pub rest_more : {w : List Place} → IsStretch between t b (Some p) (last w) None w
       → (r : List Place) × (w ≡ p ∷ r) × IsStretch between t (Some p) (step (t p) b) (last r) None r
   rest_more {w = []} k = absurd (none_not p (sym k.starts))
@@ -53,7 +54,7 @@ module _ {E : Type 0} {between : E → Option Place → Option Place → Type 0}
         record { distinct = k.distinct.1; chain = rw e k.chain.1; starts = rw e (leads _ _ _ k.chain.0); ends = refl },
       )
 
-  -- to the same last member, where something stands there,
+  -- if the entry of p names a next place q, the rest of w begins with q, and it has the same last member as w
   pub rest_goes_on : {q : Place} {w : List Place} → IsStretch between t b (Some p) (last w) None w → step (t p) b ≡ Some q
       → (r : List Place) × (w ≡ p ∷ r) × IsStretch between t (Some p) (Some q) (last r) None r × (last w ≡ last r)
   rest_goes_on {q} k e =
@@ -61,21 +62,21 @@ module _ {E : Type 0} {between : E → Option Place → Option Place → Type 0}
       let rest : IsStretch between t (Some p) (Some q) (last more.0) None more.0 = rw e at more.2 in
       (more.0, more.1, rest, ap last more.1 ∙ last_after p more.0 rest.starts)
 
-  -- and ends there, where nothing does
+  -- if the entry of p names no next place, p is the last member of w
   pub rest_ends : {w : List Place} → IsStretch between t b (Some p) (last w) None w → step (t p) b ≡ None → Some p ≡ last w
   rest_ends k e =
       let more = rest_more k in
       sym (ap last (more.1 ∙ ap (λ (r : List Place). p ∷ r) (stretch_empty e more.2)))
 
--- A PART OF A CHAIN, AND WHERE A WALK OVER IT ENDS
+-- A PART OF A CHAIN, AND THE PLACE AT WHICH A WALK OVER IT ENDS
 module _ {E : Type 0} {between : E → Option Place → Option Place → Type 0} {t : Place → E} {b a : Option Place} where
-  -- with the end for its last member, where that is kept
+  -- if lists of the kind store their last member, then `end` is the last member of w
   pub at_end : {keeps : Bool} → keeps ≡ true → {from end : Option Place} {w : List Place} → IsStretch between t b from (last w) a w → WalkEnds keeps end a (last w)
       → IsStretch between t b from end a w
   at_end closed {end = end} {w} k e =
       record { distinct = k.distinct; chain = k.chain; starts = k.starts; ends = subst (λ keeps. WalkEnds keeps end a (last w)) closed e }
 
-  -- and the other way round
+  -- if lists of the kind store their last member and w ends at `end`, then a walk over w ends at `end`
   pub to_last : {keeps : Bool} → keeps ≡ true → {from end : Option Place} {w : List Place} → IsStretch between t b from end a w
       → IsStretch between t b from (last w) a w × WalkEnds keeps end a (last w)
   to_last closed {end = end} {w} k = (
@@ -84,13 +85,13 @@ module _ {E : Type 0} {between : E → Option Place → Option Place → Type 0}
   )
 
 module _ {E : Type 0} {between : E → Option Place → Option Place → Type 0} {t : Place → E} {b a : Option Place} where
-  -- a walk that comes to its end was on the last member
+  -- if the walk over w is at its end when it is on p, then p is the only member of w
   pub comes_to_end : (keeps : Bool) (end : Option Place) (p : Place) {w : List Place} → IsStretch between t b (Some p) (last w) a w → WalkEnds keeps end a (last w)
       → is_end end p ≡ true → (w ≡ p ∷ []) × WalkEnds keeps None a None
   comes_to_end true end p k e ends = (stretch_one (rw (is_end_yes end p ends) at (at_end refl k e)), refl)
   comes_to_end false end p k e ends = let never : false ≡ true = rw e.0 at ends in absurd (cc)
 
-  -- else it goes on after that,
+  -- if the walk over w is not at its end when it is on p, then it goes on with the rest of w, at the place after p
   pub goes_on : (step : E → Option Place → Option Place) → ((e : E) (b a : Option Place) → between e b a → step e b ≡ a) → (keeps : Bool) (end : Option Place) (p : Place)
       {w : List Place} → IsStretch between t b (Some p) (last w) a w → WalkEnds keeps end a (last w) → is_end end p ≡ false
       → (r : List Place) × (w ≡ p ∷ r) × IsStretch between t (Some p) (step (t p) b) (last r) a r × WalkEnds keeps end a (last r)
@@ -99,21 +100,21 @@ module _ {E : Type 0} {between : E → Option Place → Option Place → Type 0}
       let rest = to_last refl {end = end} more.2 in (more.0, more.1, rest.0, rest.1)
   goes_on step leads false end p k e goes = let more = rest_more leads (rw e.1 at k) in (more.0, more.1, rw e.1 more.2, e)
 
--- and gives all members of the part
+-- A WALK OVER A PART OF A CHAIN visits all members of this part, in order
 pub walks_over : {E : Type 0} {between : E → Option Place → Option Place → Type 0} (step : E → Option Place → Option Place)
     → ((e : E) (b a : Option Place) → between e b a → step e b ≡ a) → (t : Table E) → ((q : Place) (b a : Option Place) → between (t.entry q) b a → IsCovered t q)
     → (keeps : Bool) (end : Option Place) {b from a : Option Place} {w : List Place} → IsStretch between t.entry b from (last w) a w → WalkEnds keeps end a (last w) → walked step t b from end ≡ w
 walks_over step leads t covered true end k e = stretch_walked step leads t covered (at_end refl k e)
 walks_over step leads t covered false end k e = rw e.0 (stretch_through step leads t covered (rw e.1 at k))
 
--- THE MEMBERS OF A LIST, as the entries lead through them
+-- THE MEMBERS OF A LIST are the places to which the entries lead from the first member to the last
 pub members_represented : {E W : Type 0} {between : E → Option Place → Option Place → Type 0} {kept : Option Place → W} (step : E → Option Place → Option Place)
     → ((e : E) (b a : Option Place) → between e b a → step e b ≡ a) → (t : Table E) → ((q : Place) (b a : Option Place) → between (t.entry q) b a → IsCovered t q)
     → {list : ListHead W} {s : List Place} → RepresentsChain between kept t list s → walked step t None list.head None ≡ s
 members_represented step leads t covered shown = stretch_through step leads t covered (stretch_of shown)
 
 module _ {K T L O E : Type 0} (keeps : Bool) (between : E → Option Place → Option Place → Type 0) (table : L → Table E) (values : O → Objects T) where
-  -- the walk gave out the member at p, and goes on after it
+  -- THE WALK RETURNED the member p, and `members` remain. Before the step, p and then `members` were left
   pub record Steps (old new : Iter K T L O) (p : Place) : Type 0 where
     pub members : List Place
     pub walk : IsLeft keeps between table values new members
@@ -121,7 +122,7 @@ module _ {K T L O E : Type 0} (keeps : Bool) (between : E → Option Place → O
     pub placed : ArePlaced (values old.objects.now) (p ∷ members)
     pub objects : values new.objects.now ≡ values old.objects.now
 
-  -- it ends at the last member
+  -- if the walk is at the last member p, a step returns p and no member remains
   pub steps_last : (t : Iter K T L O) (p : Place) → CanWalk keeps between table values t → t.head ≡ Some p → is_end t.tail p ≡ true
       → Steps t (record t { head = None; tail = None }) p
   steps_last t p can at end =
@@ -134,7 +135,7 @@ module _ {K T L O E : Type 0} (keeps : Bool) (between : E → Option Place → O
         objects = refl;
       }
 
-  -- the same from the back: it gave out the member at p, and ends before it
+  -- THE WALK RETURNED the member p from the back, and `members` remain. Before the step, `members` and then p were left
   pub record StepsBack (old new : Iter K T L O) (p : Place) : Type 0 where
     pub members : List Place
     pub walk : IsLeft keeps between table values new members
@@ -154,16 +155,16 @@ module _ {K T L O E : Type 0} (keeps : Bool) (between : E → Option Place → O
         objects = refl;
       }
 
-  -- the walk can go on
+  -- after a step the walk can still be walked to its end
   pub can_walk : {old new : Iter K T L O} {p : Place} → Steps old new p → CanWalk keeps between table values new
   can_walk k = (k.members, k.walk, rw k.objects k.placed.1)
 
   pub can_walk_back : {old new : Iter K T L O} {p : Place} → StepsBack old new p → CanWalk keeps between table values new
   can_walk_back k = (k.members, k.walk, rw k.objects (all_but_last _ k.members _ k.placed).0)
 
-  -- `leads`: the law that an entry leads on
+  -- `leads`: the law that an entry, with the place before it, names the place after it
   module _ (step : E → Option Place → Option Place) (leads : (e : E) (b a : Option Place) → between e b a → step e b ≡ a) where
-    -- else it goes on at the next one
+    -- if the walk is not at its last member, a step returns p and the walk goes on at the next place
     pub steps_more : (t : Iter K T L O) (p : Place) (next : Option Place) → CanWalk keeps between table values t → t.head ≡ Some p → is_end t.tail p ≡ false
         → next ≡ step ((table t.links.now).entry p) t.before → Steps t (record t { before = Some p; head = next }) p
     steps_more t p next can at end is_next =
@@ -176,7 +177,7 @@ module _ {K T L O E : Type 0} (keeps : Bool) (between : E → Option Place → O
           objects = refl;
         }
 
-    -- and from the back, by the neighbor on the other side of what is after
+    -- if the walk from the back is not at its last member, a step returns p and the walk goes on at the previous place
     pub steps_back_more : (back : E → Option Place → Option Place) → ((e : E) (b a : Option Place) → between e b a → back e a ≡ b) → keeps ≡ true → (t : Iter K T L O) (p : Place) (prev : Option Place)
         → CanWalk keeps between table values t → t.tail ≡ Some p → is_end t.head p ≡ false
         → prev ≡ back ((table t.links.now).entry p) t.after → StepsBack t (record t { tail = prev; after = Some p }) p
@@ -191,18 +192,18 @@ module _ {K T L O E : Type 0} (keeps : Bool) (between : E → Option Place → O
         }
 
     module _ (law : (t : L) (q : Place) (b a : Option Place) → between ((table t).entry q) b a → IsCovered (table t) q) where
-      -- what is left is what stands at the members of the walk
+      -- the objects that the walk has left are the objects at the members w, if the members w remain
       pub left_is : (t : Iter K T L O) (w : List Place) → IsLeft keeps between table values t w → objects_left step table values t ≡ values_at (values t.objects.now) w
       left_is t w k = ap (values_at (values t.objects.now)) (walks_over step leads (table t.links.now) (law t.links.now) keeps t.tail k.0 k.1)
 
-      -- where it has no first member, nothing is left
+      -- if the walk has no first member, no objects are left
       pub none_left : (t : Iter K T L O) → CanWalk keeps between table values t → t.head ≡ None → objects_left step table values t ≡ []
       none_left t can at = left_is t can.0 can.1 ∙ ap (values_at (values t.objects.now)) (stretch_empty at can.1.0)
 
       pub none_left_back : keeps ≡ true → (t : Iter K T L O) → CanWalk keeps between table values t → t.tail ≡ None → objects_left step table values t ≡ []
       none_left_back closed t can at = left_is t can.0 can.1 ∙ ap (values_at (values t.objects.now)) (stretch_empty_back at (at_end closed can.1.0 can.1.1))
 
-      -- the step gives the object at p
+      -- if a step returns the object at p, the step returns the first of the objects that were left
       pub gives : {old new : Iter K T L O} {p : Place} (r : Option (Bor T)) → Steps old new p → option_copied r ≡ object_at (values old.objects.now) p
           → GivesFirst (objects_left step table values) old r new
       gives {old} {new} {p} r k is =
@@ -210,12 +211,12 @@ module _ {K T L O E : Type 0} (keeps : Bool) (between : E → Option Place → O
           (left_is old (p ∷ k.members) k.whole
           ∙ ap (cons_option (object_at (values old.objects.now) p)) (sym (left_is new k.members k.walk ∙ ap (λ o. values_at o k.members) k.objects)))
 
-      -- and leaves one less
+      -- if a step returns the object at p, one object less is left after the step, and the walk can still be walked to its end
       pub goes : {old new : Iter K T L O} {p : Place} (r : Option (Bor T)) → Steps old new p → option_copied r ≡ object_at (values old.objects.now) p
           → MakesProgress (CanWalk keeps between table values) (item_count (objects_left step table values)) old r new
       goes {old} {new} {p} r k is = makes_progress (objects_left step table values) (CanWalk keeps between table values) old new r (can_walk k) (gives r k is)
 
-      -- the same from the back
+      -- if a step from the back returns the object at p, the step returns the last of the objects that were left
       pub gives_back : {old new : Iter K T L O} {p : Place} (r : Option (Bor T)) → StepsBack old new p → option_copied r ≡ object_at (values old.objects.now) p
           → GivesLast (objects_left step table values) old r new
       gives_back {old} {new} {p} r k is =

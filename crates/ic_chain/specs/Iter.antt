@@ -1,4 +1,4 @@
--- A walk over a list's objects, as contracts see it.
+-- Which members and objects a walk over a list has not returned yet.
 use Rattle.std.specs.Prelude.{Bool, Option, List}
 use Rattle.ic_link_ops.specs.Prelude.{Place, Objects, last, Table, ArePlaced, values_at}
 use Rattle.ic_link_ops.specs.Chains.{IsStretch}
@@ -6,7 +6,7 @@ use Rattle.ic_link_ops.specs.Walk.{walked}
 use Rattle.ic_chain.specs.Walk.{WalkEnds}
 use Rattle.ic_chain.specs.declared.iter.Iter.{Iter}
 
--- `values`: the values by place
+-- `values`: the object at each place
 module _ {K T L O E : Type 0} (step : E → Option Place → Option Place) (table : L → Table E) (values : O → Objects T) where
   -- the members that the walk has not returned yet
   abbrev pub rest_of : Iter K T L O → List Place
@@ -16,12 +16,12 @@ module _ {K T L O E : Type 0} (step : E → Option Place → Option Place) (tabl
   abbrev pub objects_left : Iter K T L O → List T
   objects_left t = values_at (values t.objects.now) (rest_of t)
 
--- `keeps_last`: lists of the kind store their last member
+-- `keeps_last`: whether lists of the kind store their last member
 module _ {K T L O E : Type 0} (keeps_last : Bool) (between : E → Option Place → Option Place → Type 0) (table : L → Table E) (values : O → Objects T) where
-  -- these members remain, and they are a part of a chain
+  -- the members w remain to be returned, and the entries of the table link them in this order up to the end of the walk
   abbrev pub IsLeft : Iter K T L O → List Place → Type 0
   IsLeft t w = IsStretch between (table t.links.now).entry t.before t.head (last w) t.after w × WalkEnds keeps_last t.tail t.after (last w)
 
-  -- some sequence of members remains, maybe the empty one, and all of them are placed
+  -- the walk can be walked to its end: some sequence of members remains, maybe an empty one, and an object is at each of these members
   abbrev pub CanWalk : Iter K T L O → Type 0
   CanWalk t = (w : List Place) × IsLeft t w × ArePlaced (values t.objects.now) w

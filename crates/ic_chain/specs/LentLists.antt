@@ -1,8 +1,8 @@
--- A list and the table of its links that are borrowed together, as contracts see them.
+-- A value that borrows a list together with the table of its links, and what stays borrowed.
 use Rattle.std.specs.Prelude.{◌≡◌}
 use Rattle.ic_chain.specs.declared.lent_list.LentList.{LentList}
 
 module _ {K T L H P : Type 0} where
-  -- the same list and the same table are borrowed as before
+  -- the new value borrows the same list and the same table as the old value
   abbrev pub SameLoans : LentList K T L H P → LentList K T L H P → Type 0
   SameLoans old new = (new.home.ghost_name ≡ old.home.ghost_name) × (new.links.ghost_name ≡ old.links.ghost_name)

@@ -1,11 +1,10 @@
--- A list's own words after a cut.
+-- The first and last members that two lists store after a split.
 use Rattle.std.specs.Prelude.{◌≡◌, Option, None}
 use Rattle.ic_unsafe_ref.specs.declared.place.Place.{Place}
 use Rattle.ic_link_ops.specs.Chains.{ListHead, TurnsTail, end_of}
 
--- THE LISTS' OWN WORDS after a cut between `before` and `after`. The list that is kept begins as before, or is empty if no member is before the
--- cut, and ends with `before`. The list that is returned begins with `after`, and ends as the old list did, or is empty if no member is after
--- the cut
+-- THE ENDS AFTER A SPLIT between the members `before` and `after`. The list that is kept begins as before the split, or is empty if `before` is none,
+-- and ends with `before`. The list that is returned begins with `after`, and ends as the old list did, or is empty if `after` is none
 pub record SplitsEnds {W : Type 0} (kept : Option Place → W) (old new rest : ListHead W) (before after : Option Place) : Type 0 where
   pub head : new.head ≡ end_of before None old.head
   pub tail : new.tail ≡ kept before

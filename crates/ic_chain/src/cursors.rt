@@ -1,4 +1,4 @@
-//! The cursors of a list: one that reads, one that edits, and one that edits and owns the list.
+//! Calls that make the cursors of a list. One kind of cursor reads the list, one edits it, and one edits the list and owns it.
 //!
 //! ```text
 //! let mut cursor = list.front(&links); // on the first member
@@ -18,14 +18,14 @@ ghost use Rattle.ic_link_ops.specs.Prelude.{Place, Cut, join, first, last, IsAft
 ghost use Rattle.ic_link_ops.specs.Chains.{RepresentsChain, RepresentsSomeChain};
 ghost use Rattle.ic_chain.specs.Standing.{IsValidAt, HasMemberAfter, HasMemberBefore};
 
-use crate::Chain;
+use crate::LinkList;
 use crate::kind::{DoubleEnded, ForwardLinks, ListKind, NamesNext, Reversible};
 use crate::position::ListPosition;
 use ic_cursors::{Cursor, CursorMut, CursorOwning};
 use ic_link_ops::LinkOps;
 use ic_unsafe_ref::{Place, UnsafeRef};
 
-// The place of a neighbor that the caller passes.
+// The place of the object that the caller passed as a neighbor, or `None` if the caller passed none.
 #[inline]
 fn place_of<T>(object: Option<UnsafeRef<T>>) -> Option<Place>
     ensures { result ≡ object }
@@ -36,12 +36,12 @@ fn place_of<T>(object: Option<UnsafeRef<T>>) -> Option<Place>
     }
 }
 
-impl<K: ListKind, T> Chain<K, T> {
+impl<K: ListKind, T> LinkList<K, T> {
     ghost use Rattle.ic_cursors.specs.Cursor.{list_of, links_of, position, IsValid};
 
-    /// A cursor at null. O(1).
+    /// A reading cursor at null, which is between the last member and the first. O(1).
     #[inline]
-    pub fn cursor<'a, L: LinkOps>(&'a self, links: &'a L) -> Cursor<'a, Chain<K, T>, L>
+    pub fn cursor<'a, L: LinkOps>(&'a self, links: &'a L) -> Cursor<'a, LinkList<K, T>, L>
     where
         K: ForwardLinks<L>,
         ensures list { list_of result ≡ self.now }
@@ -54,9 +54,9 @@ impl<K: ListKind, T> Chain<K, T> {
         Cursor::new(self, links, at)
     }
 
-    /// A cursor on the first member, null in an empty list. O(1).
+    /// A cursor on the first member, or at null in an empty list. O(1).
     #[inline]
-    pub fn front<'a, L: LinkOps>(&'a self, links: &'a L) -> Cursor<'a, Chain<K, T>, L>
+    pub fn front<'a, L: LinkOps>(&'a self, links: &'a L) -> Cursor<'a, LinkList<K, T>, L>
     where
         K: ForwardLinks<L>,
         requires shown { K.ReadsNext → RepresentsSomeChain K.Between K.kept (L.table links.now) self.now }
@@ -71,12 +71,12 @@ impl<K: ListKind, T> Chain<K, T> {
     }
 }
 
-impl<K: DoubleEnded, T> Chain<K, T> {
+impl<K: DoubleEnded, T> LinkList<K, T> {
     ghost use Rattle.ic_cursors.specs.Cursor.{list_of, links_of, position, IsValid};
 
-    /// A cursor on the last member, null in an empty list. O(1).
+    /// A cursor on the last member, or at null in an empty list. O(1).
     #[inline]
-    pub fn back<'a, L: LinkOps>(&'a self, links: &'a L) -> Cursor<'a, Chain<K, T>, L>
+    pub fn back<'a, L: LinkOps>(&'a self, links: &'a L) -> Cursor<'a, LinkList<K, T>, L>
     where
         K: ForwardLinks<L>,
         ensures list { list_of result ≡ self.now }
@@ -90,16 +90,16 @@ impl<K: DoubleEnded, T> Chain<K, T> {
     }
 }
 
-impl<K: NamesNext, T> Chain<K, T> {
+impl<K: NamesNext, T> LinkList<K, T> {
     ghost use Rattle.ic_cursors.specs.Cursor.{list_of, links_of, position, IsValid};
 
-    /// A cursor on the object. It requires that the object is a member. O(1): it reads no entry.
+    /// A reading cursor on the object. The call requires that the object is a member. The call reads no entry: O(1).
     #[inline]
     pub fn cursor_from_ptr<'a, L: LinkOps>(
         &'a self,
         links: &'a L,
         object: UnsafeRef<T>,
-    ) -> Cursor<'a, Chain<K, T>, L>
+    ) -> Cursor<'a, LinkList<K, T>, L>
     where
         K: ForwardLinks<L>,
         requires member { HasMember (RepresentsChain K.Between K.kept (L.table links.now) self.now) object }
@@ -113,18 +113,18 @@ impl<K: NamesNext, T> Chain<K, T> {
     }
 }
 
-impl<K: Reversible, T> Chain<K, T> {
+impl<K: Reversible, T> LinkList<K, T> {
     ghost use Rattle.ic_cursors.specs.Cursor.{list_of, links_of, position, IsValid};
 
-    /// A cursor on the object. It requires that the object is a member, and that `prev` is the one before it, `None` at
-    /// the front. O(1): one reading of an entry.
+    /// A reading cursor on the object. The call requires that the object is a member, and that `prev` is the member before it, or `None` if it is the
+    /// first member. The call reads one entry: O(1).
     #[inline]
     pub fn cursor_from_ptr_and_prev<'a, L: LinkOps>(
         &'a self,
         links: &'a L,
         object: UnsafeRef<T>,
         prev: Option<UnsafeRef<T>>,
-    ) -> Cursor<'a, Chain<K, T>, L>
+    ) -> Cursor<'a, LinkList<K, T>, L>
     where
         K: ForwardLinks<L>,
         requires member { HasMemberAfter (RepresentsChain K.Between K.kept (L.table links.now) self.now) object prev }
@@ -137,15 +137,15 @@ impl<K: Reversible, T> Chain<K, T> {
         Cursor::new(self, links, at)
     }
 
-    /// A cursor on the object. It requires that the object is a member, and that `next` is the one after it, `None` at the
-    /// back. O(1): it reads no entry.
+    /// A reading cursor on the object. The call requires that the object is a member, and that `next` is the member after it, or `None` if it is the
+    /// last member. The call reads no entry: O(1).
     #[inline]
     pub fn cursor_from_ptr_and_next<'a, L: LinkOps>(
         &'a self,
         links: &'a L,
         object: UnsafeRef<T>,
         next: Option<UnsafeRef<T>>,
-    ) -> Cursor<'a, Chain<K, T>, L>
+    ) -> Cursor<'a, LinkList<K, T>, L>
     where
         K: ForwardLinks<L>,
         requires member { HasMemberBefore (RepresentsChain K.Between K.kept (L.table links.now) self.now) object next }
@@ -159,15 +159,15 @@ impl<K: Reversible, T> Chain<K, T> {
     }
 }
 
-impl<K: ListKind, T> Chain<K, T> {
+impl<K: ListKind, T> LinkList<K, T> {
     ghost use Rattle.ic_cursors.specs.CursorMut.{position, IsBorrowed, IsValid};
 
-    /// A cursor at null that edits. O(1).
+    /// A cursor at null, between the last member and the first, that edits the list. O(1).
     #[inline]
     pub fn cursor_mut<'a, L: LinkOps>(
         &'a mut self,
         links: &'a mut L,
-    ) -> CursorMut<'a, Chain<K, T>, L>
+    ) -> CursorMut<'a, LinkList<K, T>, L>
     where
         K: ForwardLinks<L>,
         ensures borrows { IsBorrowed self.entry links.entry result }
@@ -179,12 +179,12 @@ impl<K: ListKind, T> Chain<K, T> {
         CursorMut::new(self, links, at)
     }
 
-    /// A cursor that edits, on the first member, null in an empty list. O(1).
+    /// An editing cursor on the first member, or at null in an empty list. O(1).
     #[inline]
     pub fn front_mut<'a, L: LinkOps>(
         &'a mut self,
         links: &'a mut L,
-    ) -> CursorMut<'a, Chain<K, T>, L>
+    ) -> CursorMut<'a, LinkList<K, T>, L>
     where
         K: ForwardLinks<L>,
         requires shown { K.ReadsNext → RepresentsSomeChain K.Between K.kept (L.table links.old) self.old }
@@ -198,12 +198,15 @@ impl<K: ListKind, T> Chain<K, T> {
     }
 }
 
-impl<K: DoubleEnded, T> Chain<K, T> {
+impl<K: DoubleEnded, T> LinkList<K, T> {
     ghost use Rattle.ic_cursors.specs.CursorMut.{position, IsBorrowed, IsValid};
 
-    /// A cursor that edits, on the last member, null in an empty list. O(1).
+    /// An editing cursor on the last member, or at null in an empty list. O(1).
     #[inline]
-    pub fn back_mut<'a, L: LinkOps>(&'a mut self, links: &'a mut L) -> CursorMut<'a, Chain<K, T>, L>
+    pub fn back_mut<'a, L: LinkOps>(
+        &'a mut self,
+        links: &'a mut L,
+    ) -> CursorMut<'a, LinkList<K, T>, L>
     where
         K: ForwardLinks<L>,
         ensures borrows { IsBorrowed self.entry links.entry result }
@@ -216,16 +219,16 @@ impl<K: DoubleEnded, T> Chain<K, T> {
     }
 }
 
-impl<K: NamesNext, T> Chain<K, T> {
+impl<K: NamesNext, T> LinkList<K, T> {
     ghost use Rattle.ic_cursors.specs.CursorMut.{position, IsBorrowed, IsValid};
 
-    /// A cursor that edits, on the object. It requires that the object is a member. O(1): it reads no entry.
+    /// An editing cursor on the object. The call requires that the object is a member. The call reads no entry: O(1).
     #[inline]
     pub fn cursor_mut_from_ptr<'a, L: LinkOps>(
         &'a mut self,
         links: &'a mut L,
         object: UnsafeRef<T>,
-    ) -> CursorMut<'a, Chain<K, T>, L>
+    ) -> CursorMut<'a, LinkList<K, T>, L>
     where
         K: ForwardLinks<L>,
         requires member { HasMember (RepresentsChain K.Between K.kept (L.table links.old) self.old) object }
@@ -238,18 +241,18 @@ impl<K: NamesNext, T> Chain<K, T> {
     }
 }
 
-impl<K: Reversible, T> Chain<K, T> {
+impl<K: Reversible, T> LinkList<K, T> {
     ghost use Rattle.ic_cursors.specs.CursorMut.{position, IsBorrowed, IsValid};
 
-    /// A cursor that edits, on the object. It requires that the object is a member, and that `prev` is the one before it, `None` at
-    /// the front. O(1): one reading of an entry.
+    /// An editing cursor on the object. The call requires that the object is a member, and that `prev` is the member before it, or `None` if it is
+    /// the first member. The call reads one entry: O(1).
     #[inline]
     pub fn cursor_mut_from_ptr_and_prev<'a, L: LinkOps>(
         &'a mut self,
         links: &'a mut L,
         object: UnsafeRef<T>,
         prev: Option<UnsafeRef<T>>,
-    ) -> CursorMut<'a, Chain<K, T>, L>
+    ) -> CursorMut<'a, LinkList<K, T>, L>
     where
         K: ForwardLinks<L>,
         requires member { HasMemberAfter (RepresentsChain K.Between K.kept (L.table links.old) self.old) object prev }
@@ -261,15 +264,15 @@ impl<K: Reversible, T> Chain<K, T> {
         CursorMut::new(self, links, at)
     }
 
-    /// A cursor that edits, on the object. It requires that the object is a member, and that `next` is the one after it, `None` at the
-    /// back. O(1): it reads no entry.
+    /// An editing cursor on the object. The call requires that the object is a member, and that `next` is the member after it, or `None` if it is the
+    /// last member. The call reads no entry: O(1).
     #[inline]
     pub fn cursor_mut_from_ptr_and_next<'a, L: LinkOps>(
         &'a mut self,
         links: &'a mut L,
         object: UnsafeRef<T>,
         next: Option<UnsafeRef<T>>,
-    ) -> CursorMut<'a, Chain<K, T>, L>
+    ) -> CursorMut<'a, LinkList<K, T>, L>
     where
         K: ForwardLinks<L>,
         requires member { HasMemberBefore (RepresentsChain K.Between K.kept (L.table links.old) self.old) object next }
@@ -282,12 +285,12 @@ impl<K: Reversible, T> Chain<K, T> {
     }
 }
 
-impl<K: ListKind, T> Chain<K, T> {
+impl<K: ListKind, T> LinkList<K, T> {
     ghost use Rattle.ic_cursors.specs.CursorOwning.{list_of, place_of, position, IsValid};
 
-    /// A cursor at null that owns the list. It reads no table. O(1).
+    /// A cursor at null, between the last member and the first, that owns the list. The call reads no table. O(1).
     #[inline]
-    pub fn cursor_owning(self) -> CursorOwning<Chain<K, T>>
+    pub fn cursor_owning(self) -> CursorOwning<LinkList<K, T>>
         ensures list { list_of result ≡ self }
         ensures null { place_of result ≡ K.Position.null }
         ensures position { position K.Position.member result ≡ None }
@@ -296,9 +299,9 @@ impl<K: ListKind, T> Chain<K, T> {
         CursorOwning::new(self, at)
     }
 
-    /// A cursor that owns the list, on the first member, null in an empty list. O(1).
+    /// A cursor that owns the list, on the first member, or at null in an empty list. O(1).
     #[inline]
-    pub fn front_owning<L: LinkOps>(self, links: &L) -> CursorOwning<Chain<K, T>>
+    pub fn front_owning<L: LinkOps>(self, links: &L) -> CursorOwning<LinkList<K, T>>
     where
         K: ForwardLinks<L>,
         requires shown { K.ReadsNext → RepresentsSomeChain K.Between K.kept (L.table links.now) self }
@@ -312,12 +315,12 @@ impl<K: ListKind, T> Chain<K, T> {
     }
 }
 
-impl<K: DoubleEnded, T> Chain<K, T> {
+impl<K: DoubleEnded, T> LinkList<K, T> {
     ghost use Rattle.ic_cursors.specs.CursorOwning.{list_of, place_of, position, IsValid};
 
-    /// A cursor that owns the list, on the last member, null in an empty list. O(1).
+    /// A cursor that owns the list, on the last member, or at null in an empty list. O(1).
     #[inline]
-    pub fn back_owning<L: LinkOps>(self, links: &L) -> CursorOwning<Chain<K, T>>
+    pub fn back_owning<L: LinkOps>(self, links: &L) -> CursorOwning<LinkList<K, T>>
     where
         K: ForwardLinks<L>,
         ensures list { list_of result ≡ self }
@@ -331,16 +334,16 @@ impl<K: DoubleEnded, T> Chain<K, T> {
     }
 }
 
-impl<K: NamesNext, T> Chain<K, T> {
+impl<K: NamesNext, T> LinkList<K, T> {
     ghost use Rattle.ic_cursors.specs.CursorOwning.{list_of, place_of, position, IsValid};
 
-    /// A cursor that owns the list, on the object. It requires that the object is a member. O(1): it reads no entry.
+    /// A cursor that owns the list. It begins on the object. The call requires that the object is a member. The call reads no entry: O(1).
     #[inline]
     pub fn cursor_owning_from_ptr<L: LinkOps>(
         self,
         links: &L,
         object: UnsafeRef<T>,
-    ) -> CursorOwning<Chain<K, T>>
+    ) -> CursorOwning<LinkList<K, T>>
     where
         K: ForwardLinks<L>,
         requires member { HasMember (RepresentsChain K.Between K.kept (L.table links.now) self) object }
@@ -354,18 +357,18 @@ impl<K: NamesNext, T> Chain<K, T> {
     }
 }
 
-impl<K: Reversible, T> Chain<K, T> {
+impl<K: Reversible, T> LinkList<K, T> {
     ghost use Rattle.ic_cursors.specs.CursorOwning.{list_of, place_of, position, IsValid};
 
-    /// A cursor that owns the list, on the object. It requires that the object is a member, and that `prev` is the one before it, `None` at
-    /// the front. O(1): one reading of an entry.
+    /// A cursor that owns the list. It begins on the object. The call requires that the object is a member, and that `prev` is the member before it,
+    /// or `None` if it is the first member. The call reads one entry: O(1).
     #[inline]
     pub fn cursor_owning_from_ptr_and_prev<L: LinkOps>(
         self,
         links: &L,
         object: UnsafeRef<T>,
         prev: Option<UnsafeRef<T>>,
-    ) -> CursorOwning<Chain<K, T>>
+    ) -> CursorOwning<LinkList<K, T>>
     where
         K: ForwardLinks<L>,
         requires member { HasMemberAfter (RepresentsChain K.Between K.kept (L.table links.now) self) object prev }
@@ -377,15 +380,15 @@ impl<K: Reversible, T> Chain<K, T> {
         CursorOwning::new(self, at)
     }
 
-    /// A cursor that owns the list, on the object. It requires that the object is a member, and that `next` is the one after it, `None` at the
-    /// back. O(1): it reads no entry.
+    /// A cursor that owns the list. It begins on the object. The call requires that the object is a member, and that `next` is the member after it,
+    /// or `None` if it is the last member. The call reads no entry: O(1).
     #[inline]
     pub fn cursor_owning_from_ptr_and_next<L: LinkOps>(
         self,
         links: &L,
         object: UnsafeRef<T>,
         next: Option<UnsafeRef<T>>,
-    ) -> CursorOwning<Chain<K, T>>
+    ) -> CursorOwning<LinkList<K, T>>
     where
         K: ForwardLinks<L>,
         requires member { HasMemberBefore (RepresentsChain K.Between K.kept (L.table links.now) self) object next }

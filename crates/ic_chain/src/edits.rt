@@ -1,14 +1,15 @@
-//! What a list of any kind implements for cursors: moves and edits at a position.
+//! How a list of any kind implements the calls of cursors: the moves from a position, and the edits at a position.
 //!
-//! "After" is the gap after the position's member, or the first gap at null; "before" is the gap before it, or the last gap at null.
-//! After an edit after the position, the position stores the place that follows it then. The traits document what each call does.
+//! An edit "after" a position is made in the gap after the position's member, or in the first gap if the position is null. An edit "before" a
+//! position is made in the gap before its member, or in the last gap if the position is null. After an edit after the position, the position stores
+//! its new next place. The traits in `ic_cursors` document what each call does.
 
 ghost use Rattle.std.specs.Prelude.{◌≡◌, List, ⊤};
 ghost use Rattle.ic_link_ops.specs.Sequences.{Cut, join, IsAfter, IsBefore};
 ghost use Rattle.ic_link_ops.specs.Chains.{RepresentsChain};
 ghost use Rattle.ic_chain.specs.Standing.{IsValidAt};
 
-use crate::Chain;
+use crate::LinkList;
 use crate::kind::{BidirectionalLinks, DoubleEnded, ForwardLinks, ListKind, SingleEnded};
 use crate::position::ListPosition;
 use ic_cursors::{
@@ -18,12 +19,12 @@ use ic_link_ops::LinkOps;
 use ic_unsafe_ref::Place;
 use std::mem;
 
-impl<K: ListKind, T> Collection for Chain<K, T> {
+impl<K: ListKind, T> Collection for LinkList<K, T> {
     type Object = T;
 
     type Position = K::Position;
 
-    type Head = Chain<K, T>;
+    type Head = LinkList<K, T>;
 
     ghost head_of = { λ list. list };
 
@@ -37,10 +38,10 @@ impl<K: ListKind, T> Collection for Chain<K, T> {
     }
 }
 
-// The neighbors of a position, for edits. A cursor's step calls a function that is not inlined to read the end of a list, since it comes
-// to null once a round. Edits are often made at null, so they read the end inline.
-impl<K: ListKind, T> Chain<K, T> {
-    // The member after the position; the first member at null.
+// These functions find the neighbors of a position for an edit. They read an end of the list inline, because edits are often made at null. A cursor's
+// move reads an end only when it leaves null, so it calls a function that is not inlined.
+impl<K: ListKind, T> LinkList<K, T> {
+    // The member after the position, or the first member of the list if the position is null.
     #[inline]
     fn after<L: LinkOps>(&self, links: &L, at: &K::Position) -> Option<Place>
     where
@@ -54,11 +55,10 @@ impl<K: ListKind, T> Chain<K, T> {
         }
     }
 
-    /// The position on the member `current`, or at null if that is `None`, with `prev` before it, in the form that a cursor
-    /// of the list stores.
+    /// The position on the member `current`, or at null if `current` is `None`, in the form that a cursor of the list stores. `prev` is the member
+    /// before the position.
     ///
-    /// If the kind reads the member's entry, it requires that `prev` is the member's neighbor. O(1): at most one
-    /// reading.
+    /// If the kind of list reads the member's entry, the call requires that `prev` is the member's neighbor. It reads at most one entry: O(1).
     #[inline]
     pub fn position_at<L: LinkOps>(
         &self,
@@ -81,8 +81,8 @@ impl<K: ListKind, T> Chain<K, T> {
     }
 }
 
-impl<K: DoubleEnded, T> Chain<K, T> {
-    // The member before the position; the last member at null.
+impl<K: DoubleEnded, T> LinkList<K, T> {
+    // The member before the position, or the last member of the list if the position is null.
     #[inline]
     fn before<L: LinkOps>(&self, links: &L, at: &K::Position) -> Option<Place>
     where
@@ -100,7 +100,7 @@ impl<K: DoubleEnded, T> Chain<K, T> {
     }
 }
 
-impl<T, L: LinkOps, K: ForwardLinks<L>> CursorOps<L> for Chain<K, T> {
+impl<T, L: LinkOps, K: ForwardLinks<L>> CursorOps<L> for LinkList<K, T> {
     ghost Represents = { RepresentsChain K.Between K.kept };
 
     ghost IsValidAt = { IsValidAt (RepresentsChain K.Between K.kept) L.table K.Position.member K.Position.CachesNext };
@@ -126,7 +126,7 @@ impl<T, L: LinkOps, K: ForwardLinks<L>> CursorOps<L> for Chain<K, T> {
     }
 }
 
-impl<T, L: LinkOps, K: SingleEnded + ForwardLinks<L>> ForwardOnly<L> for Chain<K, T> {
+impl<T, L: LinkOps, K: SingleEnded + ForwardLinks<L>> ForwardOnly<L> for LinkList<K, T> {
     #[inline]
     fn remove_next_at(&mut self, links: &mut L, at: &mut K::Position) -> Option<Place> {
         let current = at.get();
@@ -158,7 +158,7 @@ impl<T, L: LinkOps, K: SingleEnded + ForwardLinks<L>> ForwardOnly<L> for Chain<K
     }
 }
 
-impl<T, L: LinkOps, K: DoubleEnded + BidirectionalLinks<L>> Bidirectional<L> for Chain<K, T> {
+impl<T, L: LinkOps, K: DoubleEnded + BidirectionalLinks<L>> Bidirectional<L> for LinkList<K, T> {
     #[inline]
     fn prev_of(&self, links: &L, at: &K::Position) -> K::Position {
         let current = at.get();
@@ -203,9 +203,9 @@ impl<T, L: LinkOps, K: DoubleEnded + BidirectionalLinks<L>> Bidirectional<L> for
     }
 }
 
-impl<T, L: LinkOps, K: ForwardLinks<L>> Splice<L> for Chain<K, T> {
+impl<T, L: LinkOps, K: ForwardLinks<L>> Splice<L> for LinkList<K, T> {
     #[inline]
-    fn splice_after_at(&mut self, links: &mut L, at: &mut K::Position, given: Chain<K, T>) {
+    fn splice_after_at(&mut self, links: &mut L, at: &mut K::Position, given: LinkList<K, T>) {
         let current = at.get();
         let after = self.after(&*links, at);
         let first = given.first();
@@ -215,7 +215,7 @@ impl<T, L: LinkOps, K: ForwardLinks<L>> Splice<L> for Chain<K, T> {
     }
 
     #[inline]
-    fn split_after_at(&mut self, links: &mut L, at: &mut K::Position) -> Chain<K, T> {
+    fn split_after_at(&mut self, links: &mut L, at: &mut K::Position) -> LinkList<K, T> {
         let current = at.get();
         let after = self.after(&*links, at);
         let rest = self.split_between(links, current, after);
@@ -224,9 +224,10 @@ impl<T, L: LinkOps, K: ForwardLinks<L>> Splice<L> for Chain<K, T> {
     }
 }
 
-impl<T, L: LinkOps, K: DoubleEnded + BidirectionalLinks<L>> BidirectionalSplice<L> for Chain<K, T> {
+impl<T, L: LinkOps, K: DoubleEnded + BidirectionalLinks<L>> BidirectionalSplice<L>
+    for LinkList<K, T> {
     #[inline]
-    fn splice_before_at(&mut self, links: &mut L, at: &mut K::Position, given: Chain<K, T>) {
+    fn splice_before_at(&mut self, links: &mut L, at: &mut K::Position, given: LinkList<K, T>) {
         let current = at.get();
         let before = self.before(&*links, at);
         let last = given.last();
@@ -234,7 +235,7 @@ impl<T, L: LinkOps, K: DoubleEnded + BidirectionalLinks<L>> BidirectionalSplice<
     }
 
     #[inline]
-    fn split_before_at(&mut self, links: &mut L, at: &mut K::Position) -> Chain<K, T> {
+    fn split_before_at(&mut self, links: &mut L, at: &mut K::Position) -> LinkList<K, T> {
         let current = at.get();
         let before = self.before(&*links, at);
         let rest = self.split_between(links, before, current);

@@ -1,4 +1,4 @@
-//! A walk that removes the members.
+//! A walk over a list that removes each member that it returns.
 //!
 //! ```text
 //! let mut rest = list.into_iter(&mut links);
@@ -12,18 +12,18 @@ ghost use Rattle.ic_link_ops.specs.Prelude.{Place, ChangesOnlyIn, releases_each}
 ghost use Rattle.ic_link_ops.specs.Taking.{Leaves, CanTake, TakesFirst, TakesLast};
 ghost use Rattle.ic_link_ops.specs.Chains.{RepresentsChain, RepresentsSomeChain};
 
-use crate::Chain;
+use crate::LinkList;
 use crate::kind::{BidirectionalLinks, DoubleEnded, ForwardLinks, ListKind};
 use ic_link_ops::LinkOps;
 use ic_unsafe_ref::UnsafeRef;
 
-/// A walk that removes and returns the members of a list: `next` takes the first, and `next_back` the last, if the kind's
-/// entries lead back.
+/// A walk that removes and returns the members of a list. `next` takes the first member. `next_back` takes the last member, if the entries of the
+/// kind can be read from back to front.
 ///
-/// The walk unlinks each member that it returns, and no other. If the walk is dropped, the remaining members stay
-/// linked: call [`finish`](Self::finish) to unlink them.
+/// The walk unlinks each member that it returns, and no other member. If the walk is dropped, the remaining members stay linked: call
+/// [`finish`](Self::finish) to unlink them.
 pub struct IntoIter<'a, K: ListKind, T, L> {
-    list: Chain<K, T>,
+    list: LinkList<K, T>,
     links: &'a mut L,
 }
 
@@ -71,7 +71,7 @@ impl<'a, T, L: LinkOps, K: DoubleEnded + BidirectionalLinks<L>> DoubleEndedItera
 impl<'a, T, L: LinkOps, K: ForwardLinks<L>> IntoIter<'a, K, T, L> {
     ghost use Rattle.ic_chain.specs.IntoIter.{rest_of};
 
-    /// The table in its current state. O(1).
+    /// The table of links in its current state, while the walk borrows it. O(1).
     #[inline]
     pub fn links(&self) -> &L
         ensures { result.now ≡ self.now.links.now }
@@ -79,7 +79,7 @@ impl<'a, T, L: LinkOps, K: ForwardLinks<L>> IntoIter<'a, K, T, L> {
         self.links
     }
 
-    /// Unlinks the members that the walk has not returned. One step for each of them, and no memory. O(n).
+    /// Unlinks the members that the walk has not returned. The call makes one step for each of these members, and takes no memory. O(n).
     pub fn finish(self)
         requires can_take { CanTake (RepresentsChain K.Between K.kept) L.table (rest_of self) }
         ensures released { (w : List Place) → Leaves (RepresentsChain K.Between K.kept) L.table (rest_of self.entry) w
@@ -92,8 +92,8 @@ impl<'a, T, L: LinkOps, K: ForwardLinks<L>> IntoIter<'a, K, T, L> {
     }
 }
 
-impl<K: ListKind, T> Chain<K, T> {
-    /// A walk that removes the members. O(1): nothing is unlinked yet.
+impl<K: ListKind, T> LinkList<K, T> {
+    /// Makes a walk that removes the members of the list. The call itself unlinks no member: O(1).
     pub fn into_iter<'a, L: LinkOps>(self, links: &'a mut L) -> IntoIter<'a, K, T, L>
     where
         K: ForwardLinks<L>,

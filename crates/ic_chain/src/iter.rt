@@ -12,7 +12,7 @@ ghost use Rattle.ic_link_ops.specs.Prelude.{Place, RepresentsPlaced, values_at};
 ghost use Rattle.ic_link_ops.specs.Walk.{is_end, GivesFirst, GivesLast};
 ghost use Rattle.ic_link_ops.specs.Chains.{RepresentsChain};
 
-use crate::Chain;
+use crate::LinkList;
 use crate::kind::{BidirectionalLinks, DoubleEnded, ForwardLinks, ListKind};
 use ic_cursors::DebugWalk;
 use ic_link_ops::LinkOps;
@@ -20,11 +20,11 @@ use ic_unsafe_ref::{Objects, Place, Values};
 use std::alloc::AllocError;
 use std::marker::PhantomData;
 
-/// A walk over the objects of a list: `next` returns them from the front, and `next_back` from the back if the kind stores both ends and
-/// its entries lead back.
+/// A walk over the objects of a list. `next` returns objects from the front. `next_back` returns objects from the back, if the kind stores both ends
+/// and its entries can be read from back to front.
 ///
-/// The walk stores the two ends of the remaining members and the places beyond them. When the two ends meet, both are exhausted. In a list
-/// that does not store its last member, the walk ends if no member follows.
+/// The walk stores the first and the last of the remaining members, and the places before and after these two. When `next` and `next_back` meet, no
+/// member is left. In a list that does not store its last member, the walk ends at the member that no member follows.
 pub struct Iter<'a, K, T, L, O = Objects<T>> {
     links: &'a L,
     objects: &'a O,
@@ -51,7 +51,7 @@ impl<K, T, L, O> Drop for Iter<'_, K, T, L, O> {
     }
 }
 
-// Whether the end of the walk is `place`.
+// Whether `place` is the last member of the walk, which is `end`.
 #[inline]
 fn is_at(end: Option<Place>, place: Place) -> bool
     ensures { result ≡ is_end end place }
@@ -74,7 +74,7 @@ impl<'a, K: ForwardLinks<L>, T, L: LinkOps, O: Values<T>> Iterator for Iter<'a, 
 
     ghost remaining = { item_count (objects_left K.step L.table O.values) };
 
-    /// The next object, or `None` if none is left. O(1): one reading of an entry, and one look-up of the object.
+    /// Returns the next object, or `None` if no object is left. The call reads one entry and makes one look-up of the object: O(1).
     fn next(&mut self) -> Option<&'a T> {
         let place = self.head?;
         let objects: &'a O = self.objects;
@@ -98,7 +98,7 @@ impl<'a, K: DoubleEnded + BidirectionalLinks<L>, T, L: LinkOps, O: Values<T>> Do
 
     ghost next_back_gives = { GivesLast (objects_left K.step L.table O.values) };
 
-    /// The next object from the back, or `None` if none is left. O(1), as `next`.
+    /// Returns the next object from the back, or `None` if no object is left. O(1), as `next` costs.
     fn next_back(&mut self) -> Option<&'a T> {
         let place = self.tail?;
         let objects: &'a O = self.objects;
@@ -119,7 +119,7 @@ impl<K, T, L, O> Clone for Iter<'_, K, T, L, O> {
 
     ghost is_infallible = { λ _. ⊤ };
 
-    /// A walk over the same objects, from the same two ends. It never fails.
+    /// A second walk over the objects that this walk has left. The call never fails.
     fn clone(&self) -> Result<Self, AllocError> {
         Ok(Iter {
             links: self.links,
@@ -134,11 +134,11 @@ impl<K, T, L, O> Clone for Iter<'_, K, T, L, O> {
     }
 }
 
-impl<K: ListKind, T> Chain<K, T> {
+impl<K: ListKind, T> LinkList<K, T> {
     ghost use Rattle.ic_chain.specs.Iter.{objects_left, CanWalk};
 
-    /// A walk over the objects of the list: from the front, and also from the back if the kind stores both ends and its entries lead back.
-    /// It requires that all members are placed. O(1).
+    /// A walk over the objects of the list from the front. It can also go from the back if the kind stores both ends and its entries can be read from
+    /// back to front. The call requires that an object is at each member. O(1).
     pub fn iter<'a, L: LinkOps, O: Values<T>>(
         &self,
         links: &'a L,
@@ -163,7 +163,7 @@ impl<K: ListKind, T> Chain<K, T> {
         }
     }
     /// A value that prints the objects of the list, in order: `{:?}` writes `[10, 20]`, and `{:#?}` writes each object on lines of its own.
-    /// It requires that all members are placed. O(1), and no memory.
+    /// The call requires that an object is at each member. It takes O(1) and no memory.
     pub fn debug<'a, L: LinkOps, O: Values<T>>(
         &self,
         links: &'a L,

@@ -1,15 +1,14 @@
-//! What follows from several calls of a list together. Each law is the contract of a function.
+//! Laws about several calls of a list, made one after the other. Each law is the contract of a function.
 //!
 //! ```text
 //! split_then_splice::<DoublyLinked, LinkOps>(); // split, and spliced again, the list is what it was
 //! ```
 //!
-//! `split_then_splice` and the two laws of pushes and pops have an empty body: their clause is about the results of calls that the caller
-//! makes. Call such a function where your proof needs its law. The other laws make their calls themselves.
+//! `split_then_splice` and the two laws of pushes and pops have an empty body, because their clauses are about calls that the caller makes. Call such
+//! a function where your proof needs its law. The other laws make their calls themselves.
 //!
-//! Laws of collections of every kind are lemmas for proofs (`CollectionLaws` of `ic_link_ops`): every table represents the empty
-//! sequence for a new collection, no table represents two sequences for one collection, and an edit leaves all other collections
-//! as they were.
+//! Laws of collections of every kind are lemmas for proofs (`CollectionLaws` of `ic_link_ops`). Every table represents the empty sequence for a new
+//! collection. No table represents two sequences for one collection. An edit leaves all other collections as they were.
 
 ghost use Rattle.std.specs.Prelude.{◌≡◌, List, [], ◌∷◌, None, IsTrue};
 ghost use Rattle.ic_link_ops.specs.Prelude.{Place, insert, remove, at_front, at_back, first, last, but_last, IsCovered, ChangesOnlyIn, acquires};
@@ -17,17 +16,17 @@ ghost use Rattle.ic_link_ops.specs.Chains.{RepresentsChain, RepresentsSomeChain}
 ghost use Rattle.ic_cursors.specs.Cursor as reads;
 ghost use Rattle.ic_chain.specs.Laws.{SplitsApart, SplitThenSplice, PushThenPop};
 
-use crate::Chain;
+use crate::LinkList;
 use crate::kind::{BidirectionalLinks, DoubleEnded, ForwardLinks};
 use ic_cursors::{Bidirectional, Cursor};
 use ic_link_ops::LinkOps;
 use ic_unsafe_ref::{Place, UnsafeRef};
 
-/// Moves a cursor from null to the next member and back, then to the previous member and back. It returns the two members: the first and
-/// the last.
+/// Moves a cursor from null to the next member and back, and then to the previous member and back. The call returns the first member and the last
+/// member.
 ///
-/// The cursor is at null again. Both results are `None` for an empty collection. It requires that the cursor is valid
-/// and at null, and a kind whose cursors move in both directions.
+/// At the end the cursor is at null again. Both results are `None` for an empty collection. The call requires that the cursor is valid and at null,
+/// and a kind whose cursors move in both directions.
 pub fn null_there_and_back<C: Bidirectional<L>, L: LinkOps>(
     cursor: &mut Cursor<'_, C, L>,
 ) -> (Option<Place>, Option<Place>)
@@ -52,29 +51,29 @@ pub fn null_there_and_back<C: Bidirectional<L>, L: LinkOps>(
     (front, back)
 }
 
-/// The law of a split and a splice: if a list is split after a position, and the removed members are spliced in there again,
-/// the list is as it was.
+/// The law of a split and a splice: a list that is split after a position is as it was, if the removed members are spliced in after this position.
 ///
-/// It holds over any table.
+/// The law holds over any table.
 ///
-/// It is about the results of `split_after` and `splice_after`, and makes no call. The table represents both parts of the split, and they
-/// share no member, so one may be spliced into the other (`apart`). The clause `kept` of `splice_after` states that the cursor is valid
-/// after such a splice.
+/// The law is about the results of `split_after` and `splice_after`, and makes no call. The table represents both parts of the split, and the parts
+/// share no member, so one part may be spliced into the other (`apart`). The clause `kept` of `splice_after` states that the cursor is valid after
+/// the splice.
 pub fn split_then_splice<K: ForwardLinks<L>, L: LinkOps>()
     ensures apart { SplitsApart (RepresentsChain K.Between K.kept) L.table L.Trace }
     ensures as_it_was { SplitThenSplice (RepresentsChain K.Between K.kept) L.table L.Trace }
 {}
 
-/// Inserts one object at the front of two lists of two fields, of any kinds, and returns true, since both accept it.
+/// Inserts one object at the front of two lists of any kinds, which link objects by two different fields. The call returns true, because both lists
+/// accept the object.
 ///
-/// A link in one field is not a link in the other. O(1).
+/// A link of the object in one field does not make the object linked in the other field. O(1).
 ///
-/// It requires that both tables cover the object's place, that neither refuses it, and that each represents a sequence. A plain table refuses only
-/// a place that is linked in it.
+/// The call requires that both tables cover the object's place and do not refuse it, and that each table represents a sequence. A plain table refuses
+/// only a place that is linked in it.
 pub fn fields_are_apart<K: ForwardLinks<L>, J: ForwardLinks<M>, T, L: LinkOps, M: LinkOps>(
-    first: &mut Chain<K, T>,
+    first: &mut LinkList<K, T>,
     first_links: &mut L,
-    second: &mut Chain<J, T>,
+    second: &mut LinkList<J, T>,
     second_links: &mut M,
     object: Place,
 ) -> bool
@@ -105,17 +104,15 @@ pub fn fields_are_apart<K: ForwardLinks<L>, J: ForwardLinks<M>, T, L: LinkOps, M
     in_first && in_second
 }
 
-/// The law of a push and a pop at the front: `pop_front` returns the object that `push_front` accepted, and all is as it
-/// was.
+/// The law of a push and a pop at the front: `pop_front` returns the object that `push_front` accepted, and the list and the table are as they were.
 ///
-/// The list, the linked places and every other list are as they were, over any table. The law is about the results of the two calls, and
-/// makes no call.
+/// The list, the linked places and every other list are as they were, over any table. The law is about the results of `push_front` and `pop_front`,
+/// and makes no call.
 pub fn push_then_pop_front<K: ForwardLinks<L>, L: LinkOps>()
     ensures { PushThenPop (RepresentsChain K.Between K.kept) L.table L.Trace L.linked at_front first (λ s. remove (at_front s)) }
 {}
 
-/// The law of a push and a pop at the back: `pop_back` returns the object that `push_back` accepted, and all is as it
-/// was.
+/// The law of a push and a pop at the back: `pop_back` returns the object that `push_back` accepted, and the list and the table are as they were.
 pub fn push_then_pop<K: DoubleEnded + BidirectionalLinks<L>, L: LinkOps>()
     ensures { PushThenPop (RepresentsChain K.Between K.kept) L.table L.Trace L.linked at_back last but_last }
 {}

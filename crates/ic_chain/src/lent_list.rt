@@ -1,4 +1,4 @@
-//! A list and the table of its links, borrowed together for a loop of many calls.
+//! A value that borrows a list and the table of its links together, for a loop of many calls.
 //!
 //! ```text
 //! fn run_all<L: LinkedListOps>(list: &mut LinkedList<Job>, links: &mut L) {
@@ -13,27 +13,27 @@ ghost use Rattle.std.specs.Prelude.{◌≡◌, ◌++◌, ◌∷◌, List, [], On
 ghost use Rattle.ic_link_ops.specs.Prelude.{Place, first, last, at_front, at_back, insert, remove, but_last, IsCovered, ChangesOnlyIn, HasMember, acquires, releases};
 ghost use Rattle.ic_link_ops.specs.Chains.{RepresentsChain, RepresentsSomeChain};
 
-use crate::Chain;
+use crate::LinkList;
 use crate::kind::{BidirectionalLinks, DoubleEnded, ForwardLinks, ListKind, NamesBoth};
 use ic_link_ops::{AlreadyLinked, LinkOps};
 use ic_unsafe_ref::UnsafeRef;
 
-/// A list and the table of its links, for as long as both are borrowed.
+/// A list and the table of its links, while both are borrowed together.
 ///
-/// Each call over `&mut Chain` reads the list's ends from memory; in a loop over a `LentList` they can stay in registers. Over a view of
-/// the links ([`LentTable`](ic_link_ops::LentTable)) no call reads the address of the links again either. When the `LentList` goes out of
-/// scope, the list has its current members. A function that takes a `LentList` by `&mut` makes all other calls on its fields:
+/// Each call over `&mut LinkList` reads the list's ends from memory. In a loop over a `LentList` the ends can stay in registers. Over a view of the
+/// links ([`LentTable`](ic_link_ops::LentTable)), no call reads the address of the links again. When the `LentList` goes out of scope, the borrowed
+/// list gets its current members back. A function that takes a `LentList` by `&mut` makes all other calls on its fields:
 /// `lent.list.cursor_mut(lent.links)`.
 pub struct LentList<'a, K: ListKind, T, L> {
-    home: &'a mut Chain<K, T>,
-    /// The list.
-    pub list: Chain<K, T>,
+    home: &'a mut LinkList<K, T>,
+    /// The list, whose ends are part of the `LentList` until it is dropped.
+    pub list: LinkList<K, T>,
     /// The table of its links.
     pub links: &'a mut L,
 }
 
 impl<K: ListKind, T, L> Drop for LentList<'_, K, T, L> {
-    /// Writes the ends back to the borrowed list.
+    /// Writes the ends of the list back to the borrowed list.
     #[inline]
     fn drop(self)
         ensures list { self.exit.0.now ≡ self.entry.list }
@@ -48,11 +48,10 @@ impl<K: ListKind, T, L> Drop for LentList<'_, K, T, L> {
     }
 }
 
-impl<K: ListKind, T> Chain<K, T> {
+impl<K: ListKind, T> LinkList<K, T> {
     /// Borrows the list together with the table of its links. O(1).
     ///
-    /// The borrowed list gets its members back when the `LentList` is dropped, or by [`LentList::finish`]. Until then
-    /// it is empty.
+    /// The borrowed list gets its members back when the `LentList` is dropped, or by [`LentList::finish`]. Until then the borrowed list is empty.
     #[inline]
     pub fn lend<'a, L>(&'a mut self, links: &'a mut L) -> LentList<'a, K, T, L>
         ensures list { result.list ≡ self.old }
@@ -70,7 +69,7 @@ impl<K: ListKind, T> Chain<K, T> {
 }
 
 impl<K: ListKind, T, L> LentList<'_, K, T, L> {
-    /// Ends the borrow, and gives the borrowed list its members back, as a drop does. O(1).
+    /// Ends the borrow. Like a drop, the call gives the borrowed list its members back. O(1).
     #[inline]
     pub fn finish(self)
         ensures list { self.exit.0.now ≡ self.entry.list }
@@ -81,7 +80,7 @@ impl<K: ListKind, T, L> LentList<'_, K, T, L> {
 impl<T, L: LinkOps, K: ForwardLinks<L>> LentList<'_, K, T, L> {
     ghost use Rattle.ic_chain.specs.LentLists.{SameLoans};
 
-    /// Inserts the object at the front of the list, as [`Chain::push_front`] does. O(1).
+    /// Inserts the object at the front of the list, as [`LinkList::push_front`] does. O(1).
     #[inline]
     pub fn push_front(&mut self, object: UnsafeRef<T>) -> Result<(), AlreadyLinked<T>>
         requires covered { IsCovered (L.table self.old.links.now) object }
@@ -97,7 +96,7 @@ impl<T, L: LinkOps, K: ForwardLinks<L>> LentList<'_, K, T, L> {
         self.list.push_front(self.links, object)
     }
 
-    /// Removes the object at the front of the list, as [`Chain::pop_front`] does. O(1).
+    /// Removes the object at the front of the list, as [`LinkList::pop_front`] does. O(1).
     #[inline]
     pub fn pop_front(&mut self) -> Option<UnsafeRef<T>>
         requires shown { RepresentsSomeChain K.Between K.kept (L.table self.old.links.now) self.old.list }
@@ -115,7 +114,7 @@ impl<T, L: LinkOps, K: ForwardLinks<L>> LentList<'_, K, T, L> {
 impl<T, L: LinkOps, K: DoubleEnded + ForwardLinks<L>> LentList<'_, K, T, L> {
     ghost use Rattle.ic_chain.specs.LentLists.{SameLoans};
 
-    /// Inserts the object at the back of the list, as [`Chain::push_back`] does. O(1).
+    /// Inserts the object at the back of the list, as [`LinkList::push_back`] does. O(1).
     #[inline]
     pub fn push_back(&mut self, object: UnsafeRef<T>) -> Result<(), AlreadyLinked<T>>
         requires covered { IsCovered (L.table self.old.links.now) object }
@@ -135,7 +134,7 @@ impl<T, L: LinkOps, K: DoubleEnded + ForwardLinks<L>> LentList<'_, K, T, L> {
 impl<T, L: LinkOps, K: DoubleEnded + BidirectionalLinks<L>> LentList<'_, K, T, L> {
     ghost use Rattle.ic_chain.specs.LentLists.{SameLoans};
 
-    /// Removes the object at the back of the list, as [`Chain::pop_back`] does. O(1).
+    /// Removes the object at the back of the list, as [`LinkList::pop_back`] does. O(1).
     #[inline]
     pub fn pop_back(&mut self) -> Option<UnsafeRef<T>>
         requires shown { RepresentsSomeChain K.Between K.kept (L.table self.old.links.now) self.old.list }
@@ -153,7 +152,7 @@ impl<T, L: LinkOps, K: DoubleEnded + BidirectionalLinks<L>> LentList<'_, K, T, L
 impl<T, L: LinkOps, K: DoubleEnded + NamesBoth<L>> LentList<'_, K, T, L> {
     ghost use Rattle.ic_chain.specs.LentLists.{SameLoans};
 
-    /// Removes the object, which has to be a member, from the list, as [`Chain::remove`] does. O(1).
+    /// Removes the object, which must be a member, from the list, as [`LinkList::remove`] does. O(1).
     #[inline]
     pub fn remove(&mut self, object: &UnsafeRef<T>)
         requires member { HasMember (RepresentsChain K.Between K.kept (L.table self.old.links.now) self.old.list) object.now }
@@ -166,7 +165,7 @@ impl<T, L: LinkOps, K: DoubleEnded + NamesBoth<L>> LentList<'_, K, T, L> {
         self.list.remove(self.links, object);
     }
 
-    /// Moves the object, which has to be a member, after all others, as [`Chain::move_to_back`] does. O(1).
+    /// Moves the object, which must be a member, after all other members, as [`LinkList::move_to_back`] does. O(1).
     #[inline]
     pub fn move_to_back(&mut self, object: &UnsafeRef<T>)
         requires member { HasMember (RepresentsChain K.Between K.kept (L.table self.old.links.now) self.old.list) object.now }
@@ -179,7 +178,7 @@ impl<T, L: LinkOps, K: DoubleEnded + NamesBoth<L>> LentList<'_, K, T, L> {
         self.list.move_to_back(self.links, object);
     }
 
-    /// Moves the object, which has to be a member, before all others, as [`Chain::move_to_front`] does. O(1).
+    /// Moves the object, which must be a member, before all other members, as [`LinkList::move_to_front`] does. O(1).
     #[inline]
     pub fn move_to_front(&mut self, object: &UnsafeRef<T>)
         requires member { HasMember (RepresentsChain K.Between K.kept (L.table self.old.links.now) self.old.list) object.now }

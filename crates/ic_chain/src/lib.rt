@@ -1,11 +1,11 @@
 //! A list over a table of links, written once for every kind: doubly linked, singly linked and XOR lists.
 //!
 //! Each operation takes the table of the link field. Linking takes no memory, and one object can be in lists of several fields.
-//! [`Chain`] has all calls. The crate of a kind implements the traits of this one: which words a list stores ([`ListKind`]), and how
-//! it reads and writes the links of a table ([`ForwardLinks`], [`BidirectionalLinks`]).
+//! [`LinkList`] has all calls. The crate of a kind of list implements two groups of traits. They say which words a list stores ([`ListKind`]), and how
+//! the list reads and writes the links of a table ([`ForwardLinks`], [`BidirectionalLinks`]).
 //!
 //! ```text
-//! pub type LinkedList<T> = Chain<DoublyLinked, T>;
+//! pub type LinkedList<T> = LinkList<DoublyLinked, T>;
 //!
 //! let mut list = LinkedList::new();
 //! list.push_back(&mut links, first)?;
@@ -14,14 +14,14 @@
 //! ```
 //!
 //! A cursor is on a member, or at null, which is between the last member and the first. `Cursor` reads. `CursorMut` edits: it
-//! inserts, removes, replaces, splices and splits, each in O(1). `CursorOwning` edits too, and owns its list, so a struct can
-//! contain it; each of its calls takes the table. [`Iter`] lends the objects, and [`IntoIter`] removes the members.
+//! inserts, removes, replaces, splices and splits, each in O(1). `CursorOwning` also edits, and owns its list, so a struct can contain such a cursor.
+//! Each of its calls takes the table. [`Iter`] lends the objects, and [`IntoIter`] removes the members.
 //!
-//! You may store lists in words of your own. For an edit, make a `Chain` of the words, call the layer under these calls, and store
-//! the words that the `Chain` has then. That layer requires only that the places which it writes are linked.
+//! You may store lists in words of your own. For an edit, make a `LinkList` of the words, and call the layer that works below the calls of `LinkList`. Then
+//! store the words that the `LinkList` has. This layer requires only that the places which it writes are linked.
 //!
 //! ```text
-//! let mut list: LinkedList<Job> = Chain::from_ends(first, last);
+//! let mut list: LinkedList<Job> = LinkList::from_ends(first, last);
 //! list.insert_linked(&mut links, last, place, None); // at the back
 //! ```
 #![tactic(auto)]
@@ -46,5 +46,5 @@ pub use kind::{
     SingleEnded,
 };
 pub use lent_list::LentList;
-pub use list::Chain;
+pub use list::LinkList;
 pub use position::ListPosition;

@@ -1,4 +1,4 @@
-//! The list.
+//! A list of any kind, and its calls.
 //!
 //! ```text
 //! list.push_back(&mut links, object)?;
@@ -20,17 +20,17 @@ use ic_unsafe_ref::{Place, UnsafeRef};
 use std::marker::{Model, PhantomData};
 use std::mem;
 
-/// A list of objects, of any kind. It stores its first member, and what its kind stores about the last one.
+/// A list of objects, of any kind. It stores its first member, and what its kind stores about the last member.
 ///
-/// Contracts see these two. The list has the sequence that the table represents for them.
-pub struct Chain<K: ListKind, T> {
+/// Contracts name only these two values. The list has the sequence that the table represents for them.
+pub struct LinkList<K: ListKind, T> {
     head: PlaceWord,
     tail: K::Tail,
     of: PhantomData<T>,
     kind: PhantomData<K>,
 }
 
-impl<K: ListKind, T> Model for Chain<K, T> {
+impl<K: ListKind, T> Model for LinkList<K, T> {
     ghost use Rattle.ic_link_ops.specs.Chains.{ListHead};
 
     ghost Value = { ListHead K.Tail };
@@ -38,9 +38,9 @@ impl<K: ListKind, T> Model for Chain<K, T> {
     ghost view = { λ l. record { head = l.head; tail = l.tail } };
 }
 
-impl<K: ListKind, T> Drop for Chain<K, T> {
+impl<K: ListKind, T> Drop for LinkList<K, T> {
     fn drop(self) {
-        let Chain {
+        let LinkList {
             head: _,
             tail: _,
             of: _,
@@ -49,32 +49,32 @@ impl<K: ListKind, T> Drop for Chain<K, T> {
     }
 }
 
-impl<K: ListKind, T> Default for Chain<K, T> {
+impl<K: ListKind, T> Default for LinkList<K, T> {
     ghost is_default = { λ l. l ≡ empty_list K.kept };
 
     /// An empty list.
-    fn default() -> Chain<K, T> {
-        Chain::new()
+    fn default() -> LinkList<K, T> {
+        LinkList::new()
     }
 }
 
-impl<K: ListKind, T> Chain<K, T> {
+impl<K: ListKind, T> LinkList<K, T> {
     /// An empty list: every table represents the empty sequence for it. O(1).
-    pub fn new() -> Chain<K, T>
+    pub fn new() -> LinkList<K, T>
         ensures { result ≡ empty_list K.kept }
     {
-        Chain::from_ends(None, None)
+        LinkList::from_ends(None, None)
     }
 
-    /// The list with these ends, for callers who store the ends of their lists themselves. O(1).
+    /// The list with the given first and last members, for callers who store the ends of their lists themselves. O(1).
     ///
-    /// It requires nothing of them: the list has the sequence, if any, that a table represents for it. [`Chain::first`] returns the first end, and
-    /// [`Chain::last`] the last, if the kind stores it.
+    /// The call requires nothing of the two ends: the list has the sequence, if any, that a table represents for it. [`LinkList::first`] returns the
+    /// first end. [`LinkList::last`] returns the last end, if the kind stores it.
     #[inline]
-    pub fn from_ends(first: Option<Place>, last: Option<Place>) -> Chain<K, T>
+    pub fn from_ends(first: Option<Place>, last: Option<Place>) -> LinkList<K, T>
         ensures { result ≡ list_head first (K.kept last) }
     {
-        Chain {
+        LinkList {
             head: PlaceWord::of(first),
             tail: K::keep(last),
             of: PhantomData,
@@ -82,7 +82,7 @@ impl<K: ListKind, T> Chain<K, T> {
         }
     }
 
-    /// Whether the list has no members. It reads no links. O(1).
+    /// Whether the list has no members. The call reads no links. O(1).
     #[inline]
     pub fn is_empty(&self) -> bool
         ensures { IsTrue result ↔ (self.now.head ≡ None) }
@@ -90,7 +90,7 @@ impl<K: ListKind, T> Chain<K, T> {
         self.head.get().is_none()
     }
 
-    /// The first member, `None` in an empty list. It reads no links. O(1).
+    /// The first member, or `None` in an empty list. The call reads no links. O(1).
     #[inline]
     pub fn first(&self) -> Option<Place>
         ensures { result ≡ self.now.head }
@@ -98,8 +98,8 @@ impl<K: ListKind, T> Chain<K, T> {
         self.head.get()
     }
 
-    // The first member, for a cursor that moves from null. This happens once a round, so the call is not inlined, and a step
-    // from a member is one load.
+    // The first member, for a cursor that moves from null. A walk around the list makes this move once, so the call is not inlined, and a move from a
+    // member is one load.
     #[cold]
     #[inline(never)]
     pub(crate) fn head_from_null(&self) -> Option<Place>
@@ -108,7 +108,7 @@ impl<K: ListKind, T> Chain<K, T> {
         self.first()
     }
 
-    // The last member according to what is stored, `None` if the kind does not store it.
+    // The last member that the list stores, or `None` if the kind does not store its last member.
     #[inline]
     pub(crate) fn kept_last(&self) -> Option<Place>
         ensures { result ≡ K.kept_last self.now.tail }
@@ -117,24 +117,22 @@ impl<K: ListKind, T> Chain<K, T> {
     }
 }
 
-impl<K: SingleEnded, T> Chain<K, T> {
-    /// The list with this first place, for callers who store the first place of their lists themselves. O(1).
+impl<K: SingleEnded, T> LinkList<K, T> {
+    /// The list with the given first member, for callers who store the first member of their lists themselves. O(1).
     ///
-    /// It requires nothing of the place: the list has the sequence, if any, that a table represents for it. [`Chain::first`] returns the
-    /// place.
+    /// The call requires nothing of the place: the list has the sequence, if any, that a table represents for it. [`LinkList::first`] returns the place.
     #[inline]
-    pub fn from_front(first: Option<Place>) -> Chain<K, T>
+    pub fn from_front(first: Option<Place>) -> LinkList<K, T>
         ensures { result ≡ list_head first (K.kept None) }
     {
-        Chain::from_ends(first, None)
+        LinkList::from_ends(first, None)
     }
 }
 
-impl<K: ListKind, T> Chain<K, T> {
+impl<K: ListKind, T> LinkList<K, T> {
     /// Inserts the object at the front of the list, unless its link is refused. O(1), and it takes no memory.
     ///
-    /// It requires and returns what [`Chain::push_back`] does. Good for stacks, and for lists in the order of the last
-    /// use.
+    /// The call requires and returns what [`LinkList::push_back`] does. It is good for stacks, and for lists in the order of the last use.
     #[inline]
     pub fn push_front<L: LinkOps>(
         &mut self,
@@ -182,8 +180,8 @@ impl<K: ListKind, T> Chain<K, T> {
         Some(UnsafeRef::new(front))
     }
 
-    // The last member, which gets `after` after it: as the list stores it, or found by a walk. If `after` is `None`, no
-    // walk is made.
+    // The last member, to which `after` is to be linked as the next member. The list stores it, or a walk finds it if the kind does not store it. If
+    // `after` is `None`, no walk is made.
     #[inline]
     pub(crate) fn last_before<L: LinkOps>(&self, links: &L, after: Option<Place>) -> Option<Place>
     where
@@ -198,8 +196,7 @@ impl<K: ListKind, T> Chain<K, T> {
         last_from::<K, L>(links, self.first()?)
     }
 
-    // Links the object instead of the member `out`, between the same neighbors, and unlinks `out`. Returns whether the object's link was
-    // acquired.
+    // Links the object between the neighbors of the member `out`, and unlinks `out`. Returns whether the object's link was acquired.
     #[inline]
     pub(crate) fn replace<L: LinkOps>(
         &mut self,
@@ -232,7 +229,7 @@ impl<K: ListKind, T> Chain<K, T> {
         true
     }
 
-    // Removes the member from between its two neighbors and unlinks it.
+    // Removes the member from between the neighbors `before` and `after`, and unlinks it.
     #[inline]
     pub(crate) fn unlink<L: LinkOps>(
         &mut self,
@@ -260,8 +257,8 @@ impl<K: ListKind, T> Chain<K, T> {
     /// Inserts the place into the gap between two neighbors, and returns whether its link was acquired. O(1), and it takes no
     /// memory.
     ///
-    /// It requires that the place is covered, and that the neighbors are on both sides of one gap, `None` beyond an end. If the link is
-    /// refused, the list is as it was.
+    /// The call requires that the table covers the place, and that the neighbors are the members before and after one gap. A neighbor beyond an end
+    /// of the list is `None`. If the link is refused, the list is as it was.
     #[inline]
     pub fn insert_between<L: LinkOps>(
         &mut self,
@@ -296,8 +293,8 @@ impl<K: ListKind, T> Chain<K, T> {
 }
 
 // The calls of lists that store their last member.
-impl<K: DoubleEnded, T> Chain<K, T> {
-    /// The last member, `None` in an empty list. It reads no links. O(1).
+impl<K: DoubleEnded, T> LinkList<K, T> {
+    /// The last member, or `None` in an empty list. The call reads no links. O(1).
     #[inline]
     pub fn last(&self) -> Option<Place>
         ensures { result ≡ K.kept_last self.now.tail }
@@ -305,7 +302,7 @@ impl<K: DoubleEnded, T> Chain<K, T> {
         self.kept_last()
     }
 
-    // The last member, for a cursor that moves from null. This happens once a round, so the call is not inlined.
+    // The last member, for a cursor that moves from null. A walk around the list makes this move once, so the call is not inlined.
     #[cold]
     #[inline(never)]
     pub(crate) fn last_from_null(&self) -> Option<Place>
@@ -316,8 +313,8 @@ impl<K: DoubleEnded, T> Chain<K, T> {
 
     /// Inserts the object at the back of the list, unless its link is refused. O(1), and it takes no memory.
     ///
-    /// It requires that the object's place is covered. If the link is refused, the object is returned and the list is as it
-    /// was. A plain table refuses the link exactly if the object is linked in this field.
+    /// The call requires that the table covers the object's place. If the link is refused, the object is returned and the list is as it was. A plain
+    /// table refuses the link exactly if the object is already linked in this table.
     #[inline]
     pub fn push_back<L: LinkOps>(
         &mut self,
@@ -366,12 +363,12 @@ impl<K: DoubleEnded, T> Chain<K, T> {
     }
 }
 
-// The layer under the calls above, for callers who store lists in words of their own and test them themselves: none of these
-// calls requires that the table represents a sequence.
-impl<K: ListKind, T> Chain<K, T> {
-    /// Inserts a place that is linked already between two neighbors. O(1).
+// The layer below the calls of `LinkList`, for callers who store lists in words of their own and test these words themselves. No call of this layer
+// requires that the table represents a sequence.
+impl<K: ListKind, T> LinkList<K, T> {
+    /// Inserts a place between two neighbors; the place must be linked already. O(1).
     ///
-    /// It requires only that the places which it writes are linked: this one, and those neighbors that are not `None`.
+    /// The call requires only that the places which it writes are linked: `place`, and those neighbors that are not `None`.
     #[inline]
     pub fn insert_linked<L: LinkOps>(
         &mut self,
@@ -400,10 +397,10 @@ impl<K: ListKind, T> Chain<K, T> {
         K::set_neighbors(links, place, before, after);
     }
 
-    /// Replaces the member `out` by a place that is linked already, between the same neighbors. O(1).
+    /// Replaces the member `out` by a place between the same neighbors. The place must be linked already. O(1).
     ///
-    /// It requires only that the places which it writes are linked: this one, and those neighbors that are not `None`. The member stays
-    /// linked.
+    /// The call requires only that the places which it writes are linked: the new place, and those neighbors that are not `None`. The replaced member
+    /// stays linked.
     #[inline]
     pub fn replace_linked<L: LinkOps>(
         &mut self,
@@ -436,8 +433,8 @@ impl<K: ListKind, T> Chain<K, T> {
 
     /// Removes the member `out` from between its two neighbors. O(1).
     ///
-    /// It requires only that the neighbors that are not `None` are linked. Each neighbor then names the other one; instead of a neighbor that
-    /// is `None`, the list's end is set. The member stays linked: unlink it by the table's `release_link`.
+    /// The call requires only that the neighbors that are not `None` are linked. It makes each neighbor name the other neighbor. If a neighbor is
+    /// `None`, the end of the list is set instead. The member stays linked: unlink it by the table's `release_link`.
     #[inline]
     pub fn bypass<L: LinkOps>(
         &mut self,
@@ -465,17 +462,16 @@ impl<K: ListKind, T> Chain<K, T> {
         set_prev_or_tail::<K, L>(links, &mut self.tail, after, Some(out), before);
     }
 
-    /// Inserts all members of the given list, whose last member is `end`, between two neighbors. O(1). An empty list
-    /// changes nothing.
+    /// Inserts all members of the given list, whose last member is `end`, between two neighbors. O(1). If the given list is empty, nothing changes.
     ///
-    /// It requires only that the places which it writes are linked: both neighbors and both ends of the given list, as far as they are not
-    /// `None`. If the kind does not store the last member and there is no neighbor after, `end` can be `None`.
+    /// The call requires only that the places which it writes are linked: both neighbors and both ends of the given list, if they are not `None`.
+    /// `end` may be `None` if the kind does not store the last member and there is no neighbor after the gap.
     #[inline]
     pub fn splice_between<L: LinkOps>(
         &mut self,
         links: &mut L,
         before: Option<Place>,
-        given: Chain<K, T>,
+        given: LinkList<K, T>,
         end: Option<Place>,
         after: Option<Place>,
     )
@@ -510,17 +506,16 @@ impl<K: ListKind, T> Chain<K, T> {
         }
     }
 
-    /// Cuts the list between two neighbors: the list keeps the members before the cut, and the rest are returned as a
-    /// list. O(1).
+    /// Cuts the list between two neighbors. The list keeps the members before the cut, and the members after the cut are returned as a list. O(1).
     ///
-    /// It requires only that the neighbors that are not `None` are linked.
+    /// The call requires only that the neighbors that are not `None` are linked.
     #[inline]
     pub fn split_between<L: LinkOps>(
         &mut self,
         links: &mut L,
         before: Option<Place>,
         after: Option<Place>,
-    ) -> Chain<K, T>
+    ) -> LinkList<K, T>
     where
         K: ForwardLinks<L>,
         requires before { (q : Place) → before ≡ Some q → IsLinked L.linked (L.table links.old) q }
@@ -537,7 +532,7 @@ impl<K: ListKind, T> Chain<K, T> {
     {
         set_next_or_head::<K, L>(links, &mut self.head, before, after, None);
         set_prev_or_tail::<K, L>(links, &mut self.tail, after, before, None);
-        Chain {
+        LinkList {
             head: PlaceWord::of(after),
             tail: mem::replace(&mut self.tail, K::keep(before)),
             of: PhantomData,

@@ -1,4 +1,4 @@
-//! Functions that set a neighbor, or an end of the list if there is no neighbor, and one that finds the last member.
+//! Functions that set a neighbor of a member, or an end of the list if there is no neighbor, and a function that finds the last member.
 
 ghost use Rattle.std.specs.Prelude.{◌≡◌, ◌≢◌, Option, Some, None, List, []};
 ghost use Rattle.ic_link_ops.specs.Prelude.{Place, last, IsLinked, IsNameable};
@@ -9,7 +9,7 @@ use crate::kind::ForwardLinks;
 use ic_link_ops::{LinkOps, PlaceWord};
 use ic_unsafe_ref::Place;
 
-/// Sets the place after `place` to `next`; it was `from`. If `place` is `None`, `next` becomes the list's first member.
+/// Sets the place after `place` to `next`, if it was `from` before. If `place` is `None`, `next` becomes the list's first member.
 #[inline]
 pub(crate) fn set_next_or_head<K: ForwardLinks<L>, L: LinkOps>(
     links: &mut L,
@@ -32,7 +32,7 @@ pub(crate) fn set_next_or_head<K: ForwardLinks<L>, L: LinkOps>(
     }
 }
 
-/// Sets the place before `place` to `prev`; it was `from`. If `place` is `None`, `prev` becomes the list's last member.
+/// Sets the place before `place` to `prev`, if it was `from` before. If `place` is `None`, `prev` becomes the list's last member.
 #[inline]
 pub(crate) fn set_prev_or_tail<K: ForwardLinks<L>, L: LinkOps>(
     links: &mut L,
@@ -56,7 +56,7 @@ pub(crate) fn set_prev_or_tail<K: ForwardLinks<L>, L: LinkOps>(
     }
 }
 
-/// The last member of the list with this first member. One reading for each member.
+/// The last member of the list whose first member is `first`. The call reads one entry for each member.
 pub(crate) fn last_from<K: ForwardLinks<L>, L: LinkOps>(links: &L, first: Place) -> Option<Place>
     requires rest { (s : List Place) × IsStretch K.Between (L.table links.now).entry None (Some first) (last s) None s }
     ensures { (s : List Place) → IsStretch K.Between (L.table links.now).entry None (Some first) (last s) None s → result ≡ last s }

@@ -1,18 +1,18 @@
-//! Calls of some kinds alone.
+//! Calls that only lists of some kinds have.
 
 ghost use Rattle.std.specs.Prelude.{◌≡◌, ◌++◌, ◌∷◌, List, []};
 ghost use Rattle.ic_link_ops.specs.Prelude.{Place, IsLinked, ChangesOnlyIn, HasMember, releases};
 ghost use Rattle.ic_link_ops.specs.Chains.{list_head, RepresentsChain};
 
-use crate::Chain;
+use crate::LinkList;
 use crate::kind::{DoubleEnded, ListKind, NamesBoth, Reversible};
 use ic_link_ops::LinkOps;
 use ic_unsafe_ref::{Place, UnsafeRef};
 
-impl<K: ListKind, T> Chain<K, T> {
-    /// Removes the object, which has to be a member, from the list. O(1).
+impl<K: ListKind, T> LinkList<K, T> {
+    /// Removes the object from the list. The object must be a member. O(1).
     ///
-    /// The other members stay in their order, and so does every other list of the table.
+    /// The other members stay in their order, and every other list of the table stays as it was.
     #[inline]
     pub fn remove<L: LinkOps>(&mut self, links: &mut L, object: &UnsafeRef<T>)
     where
@@ -31,10 +31,10 @@ impl<K: ListKind, T> Chain<K, T> {
     }
 }
 
-impl<K: DoubleEnded, T> Chain<K, T> {
-    /// Moves the object, which has to be a member, after all others. O(1), and it takes no memory.
+impl<K: DoubleEnded, T> LinkList<K, T> {
+    /// Moves the object after all other members. The object must be a member. O(1), and it takes no memory.
     ///
-    /// The others keep their order. The object stays linked, so no table can refuse it, and no other thread sees it unlinked.
+    /// The other members keep their order. The object stays linked, so no table can refuse it, and no other thread can find it unlinked.
     #[inline]
     pub fn move_to_back<L: LinkOps>(&mut self, links: &mut L, object: &UnsafeRef<T>)
     where
@@ -52,9 +52,9 @@ impl<K: DoubleEnded, T> Chain<K, T> {
         self.insert_linked(links, last, place, None);
     }
 
-    /// Moves the object, which has to be a member, before all others. O(1), and it takes no memory.
+    /// Moves the object before all other members. The object must be a member. O(1), and it takes no memory.
     ///
-    /// The others keep their order, and the object stays linked, as in [`Chain::move_to_back`].
+    /// The other members keep their order, and the object stays linked, as in [`LinkList::move_to_back`].
     #[inline]
     pub fn move_to_front<L: LinkOps>(&mut self, links: &mut L, object: &UnsafeRef<T>)
     where
@@ -72,7 +72,7 @@ impl<K: DoubleEnded, T> Chain<K, T> {
         self.insert_linked(links, None, place, first);
     }
 
-    // Removes the member from between its neighbors. It stays linked.
+    // Removes the member from between its neighbors. The member stays linked.
     #[inline]
     fn detach<L: LinkOps>(&mut self, links: &mut L, place: Place)
     where
@@ -91,12 +91,12 @@ impl<K: DoubleEnded, T> Chain<K, T> {
     }
 }
 
-impl<K: Reversible, T> Chain<K, T> {
-    /// Reverses the list. O(1): its two ends are exchanged, and no entry is written.
+impl<K: Reversible, T> LinkList<K, T> {
+    /// Reverses the list. The two ends of the list are exchanged, and no entry is written: O(1).
     #[inline]
     pub fn reverse(&mut self)
         ensures { self.new ≡ list_head (K.kept_last self.old.tail) (K.kept self.old.head) }
     {
-        *self = Chain::from_ends(self.last(), self.first());
+        *self = LinkList::from_ends(self.last(), self.first());
     }
 }

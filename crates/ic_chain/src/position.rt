@@ -1,4 +1,4 @@
-//! What a cursor stores of a position: the member that it is on, and what its kind needs besides.
+//! What a cursor of a list stores about its position: the member that it is on, and what its kind of list needs in addition.
 //!
 //! ```text
 //! let at: K::Position = ListPosition::of(Some(place), next);
@@ -12,9 +12,9 @@ use ic_cursors::Position;
 use ic_link_ops::PlaceWord;
 use ic_unsafe_ref::Place;
 
-/// A position, and what it stores about the place after it.
+/// A position in a list, and what the position stores about the next place.
 pub trait ListPosition: Position {
-    // What the position stores is right if this is the place after it.
+    // What the position stores about the next place is right, if the given place is the next place.
     ghost CachesNext: { Self → Option Place → Type 0 };
 
     // The position at null.
@@ -25,13 +25,13 @@ pub trait ListPosition: Position {
         ensures null { result ≡ null }
         ensures on { Self.member result ≡ None };
 
-    /// The position on this place, `None` for null, with that place after it.
+    /// Makes the position on the place `current`, or at null if it is `None`. The place after the position is `next`.
     fn of(current: Option<Place>, next: Option<Place>) -> Self
         ensures on { Self.member result ≡ current }
         ensures caches { CachesNext result next };
 }
 
-// A position that stores its place alone, since the entry names the place after.
+// A position that stores only its own place, because the entry names the next place.
 impl ListPosition for PlaceWord {
     ghost CachesNext = { λ at next. ⊤ };
 

@@ -1,4 +1,4 @@
-//! Calls on a list as a whole.
+//! Calls that concern all members of a list.
 //!
 //! ```text
 //! let rest = list.take();      // `list` is empty now
@@ -9,14 +9,14 @@ ghost use Rattle.std.specs.Prelude.{◌≡◌, ◌↔◌, List, IsTrue};
 ghost use Rattle.ic_link_ops.specs.Prelude.{Place, IsMember, ChangesOnlyIn, releases_each};
 ghost use Rattle.ic_link_ops.specs.Chains.{RepresentsChain, RepresentsSomeChain, empty_list};
 
-use crate::Chain;
+use crate::LinkList;
 use crate::kind::{ForwardLinks, ListKind};
 use ic_link_ops::LinkOps;
 use ic_unsafe_ref::Place;
 use std::mem;
 
-impl<K: ListKind, T> Chain<K, T> {
-    /// Whether the place is that of a member. It walks from the front: O(n), and no memory.
+impl<K: ListKind, T> LinkList<K, T> {
+    /// Whether the place is a member of the list. The call walks from the front: O(n), and no memory.
     pub fn contains<L: LinkOps>(&self, links: &L, place: Place) -> bool
     where
         K: ForwardLinks<L>,
@@ -35,9 +35,9 @@ impl<K: ListKind, T> Chain<K, T> {
         false
     }
 
-    /// Removes all objects from the list: each member is unlinked, and the list is empty.
+    /// Removes all objects from the list. Each member is unlinked, and the list is then empty.
     ///
-    /// One step for each member, and no memory. Lists that share no member with this one stay as they are. O(n).
+    /// The call makes one step for each member, and takes no memory. Lists that share no member with this list stay as they are. O(n).
     pub fn clear<L: LinkOps>(&mut self, links: &mut L)
     where
         K: ForwardLinks<L>,
@@ -74,10 +74,9 @@ impl<K: ListKind, T> Chain<K, T> {
         list.clear(links);
     }
 
-    /// Empties the list, and leaves the objects that were in it linked. O(1): it reads no table.
+    /// Empties the list, and leaves the objects that were in it linked. The call reads no table: O(1).
     ///
-    /// The objects stay linked, so no list accepts them until the table unlinks them. For a plain table, `force_unlink`
-    /// does this.
+    /// The objects stay linked, so no list accepts them until the table unlinks them. For a plain table, `force_unlink` unlinks an object.
     #[inline]
     pub fn fast_clear(&mut self)
         ensures empty { self.new ≡ empty_list K.kept }
@@ -85,9 +84,9 @@ impl<K: ListKind, T> Chain<K, T> {
         let _ = self.take();
     }
 
-    /// Returns all of the list, and leaves it empty. O(1): it reads no table, and no link changes.
+    /// Returns the list with all its members, and leaves this list empty. The call reads no table, and no link changes: O(1).
     #[inline]
-    pub fn take(&mut self) -> Chain<K, T>
+    pub fn take(&mut self) -> LinkList<K, T>
         ensures whole { result ≡ self.old }
         ensures empty { self.new ≡ empty_list K.kept }
     {

@@ -1,4 +1,5 @@
--- A check of a hash table, chain by chain: what it has passed is the front of any sequence that is held, and all of it at the end.
+-- A check of a hash table, chain by chain. Each sequence that the table holds begins with the members of the checked chains, and at the end these are all
+-- members.
 use Rattle.std.proofs.Common.{◌≡◌, ℕ, suc, ◌+◌, ◌<◌, ◌≤◌, Bool, true, false, eqb, is_some, IsSome, Option, Some, None, List, [], ◌∷◌, ◌++◌, drop, length, length-append, ltb, ltb-true, lt-ltb, eqb-true, eq-eqb, true≢false, slice_index_or, refl, sym, ap, ◌∙◌, subst, arith, append_assoc, append-nil}
 use Rattle.std.specs.Bool.{Decides}
 use Rattle.std.specs.List.{AllByRecursion}
@@ -21,7 +22,7 @@ use Rattle.ic_check.specs.Checked.{IsRepresented, RepresentsNone}
 use Rattle.ic_check.specs.HashTables.{IsPlacedIn, RepresentsOwn}
 use Rattle.ic_check.proofs.Marking.{distinct_both, drop_none}
 
--- an index is in range exactly where a value is placed
+-- the index of a place is below the number of values exactly if the place has a value
 pub placed_exactly : {V : Type 0} (values : List V) (p : Place) {i n : ℕ} → i ≡ index_of p → n ≡ length values → ltb i n ≡ is_placed (at_indexes values) p
 placed_exactly values p {i} {n} at many = by (is_placed (at_indexes values) p) refl where
   out : (b : Bool) → ltb i n ≡ b → is_placed (at_indexes values) p ≡ false → b ≡ false
@@ -34,18 +35,18 @@ placed_exactly values p {i} {n} at many = by (is_placed (at_indexes values) p) r
   by false e = out (ltb i n) refl e
 
 module _ {V : Type 0} (slots : Slots) (hash : V → ℕ) (objects : Objects V) (i : ℕ) (p : Place) where
-  -- where nothing stands nothing belongs
+  -- a place without an object belongs in no chain
   pub nothing_own : is_placed objects p ≡ false → IsPlacedIn slots hash objects i p → ⊥
   nothing_own vacant (value, is, belongs) = true≢false (sym (ap is_some is) ∙ vacant)
 
-  -- the object that stands there belongs in chain i or does not
+  -- a place with an object belongs in chain i exactly if the hash of this object leads to i
   pub own_exactly : (value : V) (slot : ℕ) → object_at objects p ≡ Some value → slot ≡ slot_of slots (hash value) → Decides (eqb slot i) (IsPlacedIn slots hash objects i p)
   own_exactly value slot is same = (
     (λ yes. (value, is, sym same ∙ eqb-true slot i yes)),
     λ own. eq-eqb slot i (same ∙ ap (λ v. slot_of slots (hash v)) (some_same (sym is ∙ own.1)) ∙ own.2),
   )
 
-  -- it is placed, and belongs wherever it does
+  -- A PLACE AND ITS OBJECT: a place has an object that belongs in chain i exactly if it has an object and belongs in chain i
   pub own_placed : IsPlacedIn slots hash objects i p → IsSome (object_at objects p)
   own_placed own = ap is_some own.1
 
@@ -58,12 +59,13 @@ module _ {V : Type 0} (slots : Slots) (hash : V → ℕ) (objects : Objects V) (
     by None e some = absurd (true≢false (sym some))
     by (Some value) e some = (value, e, belongs value e)
 
--- placed in one of the chains before number i
+-- the place p has an object that belongs in one of the chains with a number below i
 abbrev pub IsPlacedBefore : {V : Type 0} → Slots → (V → ℕ) → Objects V → ℕ → Place → Type 0
 IsPlacedBefore slots hash objects i p = (j : ℕ) × (j < i) × IsPlacedIn slots hash objects j p
 
 module _ {V : Type 0} (slots : Slots) (hash : V → ℕ) (objects : Objects V) (i : ℕ) where
-  -- own members belong in the chain, and where all that are placed belong, they are own
+  -- Places that have objects which belong in chain i belong in chain i. Conversely, if all places of s have objects and belong in chain i, their objects belong
+  -- in chain i
   all_belong : (s : List Place) → AllByRecursion (IsPlacedIn slots hash objects i) s → AllByRecursion (BelongsIn slots hash objects i) s
   all_belong [] own = tt
   all_belong (p ∷ s) own = (own_belongs slots hash objects i p own.0, all_belong s own.1)
@@ -72,7 +74,7 @@ module _ {V : Type 0} (slots : Slots) (hash : V → ℕ) (objects : Objects V) (
   all_own [] placed own = tt
   all_own (p ∷ s) placed own = (placed_own slots hash objects i p placed.0 own.0, all_own s placed.1 own.1)
 
-  -- those of the chains before are before number i + 1, and so are those of chain i
+  -- places that belong in chains below number i belong in chains below number i + 1, and so do places that belong in chain i
   all_before : (s : List Place) → AllByRecursion (IsPlacedBefore slots hash objects i) s → AllByRecursion (IsPlacedBefore slots hash objects (suc i)) s
   all_before [] h = tt
   all_before (p ∷ s) h = ((h.0.0, omega (arith, h.0.1), h.0.2), all_before s h.1)
@@ -85,7 +87,7 @@ module _ {V : Type 0} (slots : Slots) (hash : V → ℕ) (objects : Objects V) (
   before_placed [] h = tt
   before_placed (p ∷ s) h = (own_placed slots hash objects h.0.0 p h.0.2, before_placed s h.1)
 
-  -- a place of chain i is in none before
+  -- a place that belongs in chain i is not among places that belong in chains below number i
   apart_from : (p : Place) → IsPlacedIn slots hash objects i p → (done : List Place) → AllByRecursion (IsPlacedBefore slots hash objects i) done → IsAbsent p done
   apart_from p own [] before = tt
   apart_from p own (q ∷ done) before = (differ, apart_from p own done before.1) where
@@ -98,7 +100,7 @@ module _ {V : Type 0} (slots : Slots) (hash : V → ℕ) (objects : Objects V) (
   all_apart [] own done before = tt
   all_apart (p ∷ chain) own done before = (apart_from p own.0 done before, all_apart chain own.1 done before)
 
--- the walk along a chain that is represented, whose members before `current` are own ones
+-- the walk along a represented chain has come to `current`, and all members before `current` satisfy `Own`
 module _ {E : Type 0} (between : E → Option Place → Option Place → Type 0) (Own : Place → Type 0) where
   pub record Owns (t : Table E) (chain : List Place) (current : Option Place) : Type 0 where
     pub walk : Releases between t t chain current
@@ -110,24 +112,24 @@ module _ {E : Type 0} {between : E → Option Place → Option Place → Type 0}
   owns_none linked starts = record { walk = releases_none linked starts; own = tt }
 
   module _ {p : Place} (k : Owns between Own t chain (Some p)) where
-    -- ONE MEMBER MORE
+    -- ONE MEMBER MORE: if the member p satisfies `Own`, the walk goes on to the next place
     pub owns_more : {next : Option Place} → IsDistinct chain → Own p → next ≡ first (drop 1 k.walk.rest) → (more : Owns between Own t chain next) × (k.walk.rest ≡ p ∷ more.walk.rest)
     owns_more distinct own is_next =
         let m = releases_more distinct k.walk (λ q n. refl) is_next in
         (record { walk = m.0; own = subst (AllByRecursion Own) (sym m.2) (all_both Own k.walk.done (p ∷ []) k.own (own, tt)) }, m.1)
 
-    -- the member there is own where all are
+    -- if all members of the chain satisfy `Own`, the member that the walk has come to satisfies it
     pub owns_there : AllByRecursion Own chain → Own p
     owns_there all = (subst (AllByRecursion Own) (first_is k.walk.rest k.walk.at) (all_back Own k.walk.done k.walk.rest (subst (AllByRecursion Own) k.walk.parts all))).0
 
-  -- ALL OF IT
+  -- THE WHOLE CHAIN: if the walk has ended, all members of the chain satisfy `Own`
   pub owns_all : {current : Option Place} (k : Owns between Own t chain current) → current ≡ None → AllByRecursion Own chain
   owns_all k over =
       let none = nothing_first k.walk.rest (sym over ∙ k.walk.at) in
       subst (AllByRecursion Own) (sym (k.walk.parts ∙ ap (λ l. k.walk.done ++ l) none ∙ append-nil k.walk.done)) k.own
 
 module _ {E A B V : Type 0} (successor : E → Successor) (hash : A → V → ℕ) (fronts : B → List (Option Place)) (t : Table E) (table : HashTable A B) (objects : Objects V) where
-  -- THE CHAINS BEFORE NUMBER i are checked: their members are `done`, and `rest` are the first members of the others
+  -- THE CHAINS BELOW NUMBER i ARE CHECKED: their members are `done`, in which no place occurs twice, and `rest` are the first members of the other chains
   pub record ChecksChains (i : ℕ) (rest : List (Option Place)) (count : ℕ) : Type 0 where
     pub done : List Place
     pub counted : count ≡ length done
@@ -139,23 +141,23 @@ module _ {E A B V : Type 0} (successor : E → Successor) (hash : A → V → �
         → (back : List Place) × AreChained successor (BelongsIn table.slots (hash table.adapter) objects) t i rest back × (s ≡ done ++ back)
 
 module _ {E A B V : Type 0} {successor : E → Successor} {hash : A → V → ℕ} {fronts : B → List (Option Place)} {t : Table E} {table : HashTable A B} {objects : Objects V} where
-  -- at first none is
+  -- at the beginning no chain is checked
   pub chains_none : ChecksChains successor hash fronts t table objects 0 (fronts table.buckets) 0
   chains_none = record { done = []; counted = refl; distinct = tt; before = tt; builds = λ s h. h; leads = λ s h. (s, h, refl) }
 
   module _ {i count : ℕ} (k : ChecksChains successor hash fronts t table objects i (drop i (fronts table.buckets)) count) where
-    -- the chain that is next
+    -- if i is below the number of buckets, the buckets from i on are bucket i and the buckets from i + 1 on
     at_next : i < length (fronts table.buckets) → drop i (fronts table.buckets) ≡ slice_index_or (fronts table.buckets) i None ∷ drop (suc i) (fronts table.buckets)
     at_next within = drop-cons (fronts table.buckets) i None within
 
     both_distinct : (chain : List Place) → RepresentsOwn successor hash fronts t table objects i chain → IsDistinct (k.done ++ chain)
     both_distinct chain c = distinct_both k.done chain k.distinct c.shown.distinct (all_apart table.slots (hash table.adapter) objects i chain c.own k.done k.before)
 
-    -- few members are in these chains
+    -- the checked chains and chain i together have at most 8,589,934,591 members
     pub few_checked : {n : ℕ} → IsRepresented (RepresentsOwn successor hash fronts t table objects i) n → count + n ≤ 8589934591
     few_checked (chain, c, many) = omega (arith, few_places (k.done ++ chain) (both_distinct chain c), k.counted, many, length-append k.done chain)
 
-    -- ONE CHAIN MORE
+    -- ONE CHAIN MORE: if chain i is represented with members that belong there, the chains below number i + 1 are checked
     chains_one_more : {n more : ℕ} → i < length (fronts table.buckets) → IsRepresented (RepresentsOwn successor hash fronts t table objects i) n → more ≡ count + n
         → ChecksChains successor hash fronts t table objects (suc i) (drop (suc i) (fronts table.buckets)) more
     chains_one_more {n} {more} within (chain, c, many) counts = record {
@@ -178,7 +180,7 @@ module _ {E A B V : Type 0} {successor : E → Successor} {hash : A → V → �
     chains_more {more = more} within shown counts is_next =
         subst (λ (j : ℕ). ChecksChains successor hash fronts t table objects j (drop j (fronts table.buckets)) more) is_next (chains_one_more within shown counts)
 
-    -- none is held where the chain has no own members
+    -- if chain i is not represented with members that belong there, the hash table holds no sequence
     pub not_held : i < length (fronts table.buckets) → RepresentsNone (RepresentsOwn successor hash fronts t table objects i) → HoldsSome successor hash fronts t table objects → ⊥
     not_held within never (s, held) =
         let l = k.leads s held.chained in
@@ -187,14 +189,14 @@ module _ {E A B V : Type 0} {successor : E → Successor} {hash : A → V → �
         let placed : ArePlaced objects h.0 = all_front (λ q. IsSome (object_at objects q)) h.0 h.1 (subst (ArePlaced objects) h.2 left) in
         never h.0 (record { shown = h.3; own = all_own table.slots (hash table.adapter) objects i h.0 placed h.4 })
 
-    -- ALL CHAINS ARE CHECKED: they have no other members,
+    -- ALL CHAINS ARE CHECKED: each sequence that the hash table holds is then the list of the checked members
     all_held : drop i (fronts table.buckets) ≡ [] → (s : List Place) → Holds successor hash fronts t table objects s → s ≡ k.done
     all_held none s held =
         let l = k.leads s held.chained in
         let last = subst (λ (fs : List (Option Place)). AreChained successor (BelongsIn table.slots (hash table.adapter) objects) t i fs l.0) none l.1 in
         l.2 ∙ ap (λ (x : List Place). k.done ++ x) last ∙ append-nil k.done
 
-    -- which are held exactly where they are as many as the table has counted
+    -- if all chains are checked, the table holds a sequence exactly if the number of checked members is the number that the table has counted
     pub held_exactly : {len : ℕ} → length (fronts table.buckets) ≤ i → HasChains fronts table → len ≡ table.len → Decides (eqb count len) (HoldsSome successor hash fronts t table objects)
     held_exactly {len} over chains many =
         let none : drop i (fronts table.buckets) ≡ [] = drop_none (fronts table.buckets) i over in (

@@ -1,4 +1,4 @@
--- A walk through words that nobody vouches for, which marks each place that it meets.
+-- A walk along a list whose words may contain anything. The walk marks each place that it comes to.
 use Rattle.std.proofs.Common.{◌≡◌, ℕ, ◌+◌, ◌<◌, ◌≤◌, Bool, true, false, Option, Some, None, List, [], ◌∷◌, length, slice_set, refl, sym, ◌∙◌, ap, subst, arith, true≢false}
 use Rattle.ic_link_ops.specs.Prelude.{Place, index_of, IsDistinct, first_or, first, last, Table, IsCovered}
 use Rattle.ic_link_ops.specs.Chains.{IsChain, RepresentsChain}
@@ -10,7 +10,7 @@ use Rattle.ic_check.proofs.Checking.{Checks, checks_none, checks_more, checks_st
 use Rattle.ic_check.proofs.Marking.{also_none, also_more, only_also, distinct_both, unmarked_apart, unmarked_before, unmarked_both, unmarked_back}
 
 module _ {E : Type 0} (between : E → Option Place → Option Place → Type 0) where
-  -- the walk has passed members that were not marked, each once, and has marked them
+  -- the walk has passed members that were not marked before, each of them once, and has marked them
   pub record Walks (t : Table E) (head before current : Option Place) (count : ℕ) (old marks : List Bool) : Type 0 where
     pub checks : Checks between t head before current count
     pub distinct : IsDistinct checks.done
@@ -18,13 +18,14 @@ module _ {E : Type 0} (between : E → Option Place → Option Place → Type 0)
     pub also : MarksAlso old marks checks.done
 
 module _ {E : Type 0} {between : E → Option Place → Option Place → Type 0} (step : E → Option Place → Option Place) (law : (e : E) (b a : Option Place) → between e b a → step e b ≡ a) {t : Table E} where
-  -- at first nothing is passed
+  -- at the beginning of the walk no member is passed
   pub walks_none : {head current : Option Place} (marks : List Bool) → head ≡ current → Walks between t head None current 0 marks marks
   unfolding checks_none
   walks_none marks e = record { checks = checks_none step law e refl refl; distinct = tt; free = tt; also = also_none marks }
 
   module _ {head before current : Option Place} {count : ℕ} {old marks : List Bool} (k : Walks between t head before current count old marks) where
-    -- ONE STEP: the place is not marked, stands between the place before and the next one, and is marked now
+    -- ONE STEP: the walk goes on if the place p is not marked and its entry is between the place before and the next place. The place p is marked after this
+    -- step
     pub walks_more : {ahead : Option Place} {p : Place} {more i : ℕ} → current ≡ Some p → is_marked marks p ≡ false → between (t.entry p) before ahead → more ≡ count + 1 → i ≡ index_of p → i < length marks
         → Walks between t head (Some p) ahead more old (slice_set marks i true)
     unfolding checks_more
@@ -35,7 +36,7 @@ module _ {E : Type 0} {between : E → Option Place → Option Place → Type 0}
       also = also_more p i k.also free at few;
     }
 
-    -- a marked place is met twice, or was marked before
+    -- if the walk comes to a marked place, no sequence of unmarked members without a repetition is represented
     pub walks_met : {p : Place} → current ≡ Some p → is_marked marks p ≡ true → (s : List Place) → IsDistinct s → IsChain between t.entry None s None → head ≡ first s → AreUnmarked old s → ⊥
     walks_met {p} is met s distinct chain starts free =
         let l = checks_stands step law k.checks is s chain starts in
@@ -43,7 +44,7 @@ module _ {E : Type 0} {between : E → Option Place → Option Place → Type 0}
         let was = (unmarked_back old k.checks.done (p ∷ l.0) (subst (AreUnmarked old) l.1 free)).0 in
         true≢false (sym met ∙ k.also.others p out ∙ was)
 
-    -- few places are met, and no more than the table covers
+    -- the walk has passed at most 8,589,934,591 places, and no more places than the table covers
     pub walks_few : count ≤ 8589934591
     walks_few = omega (arith, few_places k.checks.done k.distinct, k.checks.counted)
 
@@ -52,11 +53,12 @@ module _ {E : Type 0} {between : E → Option Place → Option Place → Type 0}
         let few = stretch_length {between = between} t covered {b = None} {from = first k.checks.done} {to = last k.checks.done} {a = current} {w = k.checks.done} (record { distinct = k.distinct; chain = k.checks.chain; starts = refl; ends = refl }) in
         omega (arith, few, k.checks.counted)
 
-    -- what it has marked is linked
+    -- each place that the walk has marked is linked
     pub walks_only : (linked : E → Bool) → ((e : E) (b a : Option Place) → between e b a → linked e ≡ true) → MarksLinked linked t old marks
     walks_only linked held = only_also linked t k.also (λ p off. chain_absent between linked held t.entry None k.checks.done current p k.checks.chain off)
 
-    -- THE END: all of it is passed
+    -- THE END OF THE WALK: if the list ends with the last passed place, the passed members are a represented sequence, and the walk has marked exactly these
+    -- members
     pub walks_all : {W : Type 0} {kept : Option Place → W} {tail : W} → current ≡ None → tail ≡ kept before → IsGathered (RepresentsChain between kept t (record { head = head; tail = tail })) old marks count
     walks_all {kept = kept} over ends = (
       k.checks.done,

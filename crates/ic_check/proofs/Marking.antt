@@ -1,4 +1,4 @@
--- Marks of members, collection by collection.
+-- How a check marks the members of the collections of a table, one collection after the other.
 use Rattle.std.proofs.Common.{◌≡◌, ℕ, zero, suc, ◌+◌, ◌*◌, ◌<◌, ◌≤◌, Bool, not, MatchOption, IfSome, cond, true, false, Option, Some, None, List, [], ◌∷◌, ◌++◌, drop, length, length-append, slice_set, slice_index_or, refl, sym, ap, ◌∙◌, subst, arith, append_assoc, append-nil, true≢false, inl, inr}
 use Rattle.ic_link_ops.specs.Prelude.{Place, index_of, place_at, IsAbsent, IsMember, IsDistinct, IsDisjoint, first, Table, IsLinked}
 use Rattle.ic_unsafe_ref.proofs.PlaceLemmas.{same_or_not, same_index, place_with, place_at_word}
@@ -12,11 +12,11 @@ use Rattle.std.proofs.lemmas.List.{length-set, get_or-set_other, get_or_past}
 use Rattle.std.proofs.lemmas.List.Sums.{sum_by-set, sum_by-cons}
 use Rattle.std.proofs.lemmas.Grind.{get_or-set_at}
 
--- NO PLACE IS MARKED BESIDES,
+-- NO PLACE IS NEWLY MARKED if the marks stay as they are
 pub also_none : (marks : List Bool) → MarksAlso marks marks []
 also_none marks = record { long = refl; more = omega arith; marked = λ p member. absurd (member tt); others = λ p out. refl }
 
--- a mark that is set where none was
+-- if a mark is set that was not set, the number of marks is greater by 1
 pub set_more : (marks : List Bool) (i : ℕ) → i < length marks → slice_index_or marks i false ≡ false → many_marked (slice_set marks i true) ≡ many_marked marks + 1
 set_more marks i few free =
     let weigh : Bool → ℕ = λ mark. cond mark 1 0 in
@@ -24,7 +24,7 @@ set_more marks i few free =
     let was : weigh (slice_index_or marks i false) ≡ 0 = ap weigh free in
     omega (arith, sums, was)
 
--- one place more is,
+-- if the members of s are newly marked and the unmarked place p is then marked, the members of s and p are newly marked
 pub also_more : {old marks : List Bool} {s : List Place} (p : Place) (i : ℕ) → MarksAlso old marks s → is_marked marks p ≡ false → i ≡ index_of p → i < length marks
     → MarksAlso old (slice_set marks i true) (s ++ p ∷ [])
 also_more {old} {marks} {s} p i a free at few = record {
@@ -37,7 +37,7 @@ also_more {old} {marks} {s} p i a free at few = record {
   others = λ q out. others_same false marks p true i at q (absent_right q s (p ∷ []) out).0 ∙ a.others q (absent_left q s (p ∷ []) out);
 }
 
--- and so are more
+-- if the members of s are newly marked and then the members of t, the members of both lists are newly marked
 pub also_on : {old mid new : List Bool} {s t : List Place} → MarksAlso old mid s → MarksAlso mid new t → MarksAlso old new (s ++ t)
 also_on {s = s} {t} a b = record {
   long = b.long ∙ a.long;
@@ -50,7 +50,7 @@ also_on {s = s} {t} a b = record {
 }
 
 module _ {old new : List Bool} {done : List Place} (a : MarksAlso old new done) where
-  -- what was not marked and is no member is not marked now
+  -- places that were not marked and are not among the newly marked members are not marked now
   pub unmarked_beside : (s : List Place) → IsDisjoint s done → AreUnmarked old s → AreUnmarked new s
   unmarked_beside [] apart free = tt
   unmarked_beside (x ∷ s) apart free = (a.others x apart.0 ∙ free.0, unmarked_beside s apart.1 free.1)
@@ -58,22 +58,22 @@ module _ {old new : List Bool} {done : List Place} (a : MarksAlso old new done) 
   absent_now : (x : Place) → is_marked new x ≡ false → IsAbsent x done
   absent_now x free = elim (absent_or x done) [ inl out ↦ out | inr member ↦ absurd (true≢false (sym (a.marked x member) ∙ free)) ]
 
-  -- what is not marked now is no member,
+  -- places that are not marked now are not among the newly marked members
   pub unmarked_apart : (s : List Place) → AreUnmarked new s → IsDisjoint s done
   unmarked_apart [] free = tt
   unmarked_apart (x ∷ s) free = (absent_now x free.0, unmarked_apart s free.1)
 
-  -- and was not marked
+  -- places that are not marked now were not marked before
   pub unmarked_before : (s : List Place) → AreUnmarked new s → AreUnmarked old s
   unmarked_before [] free = tt
   unmarked_before (x ∷ s) free = (sym (a.others x (absent_now x free.0)) ∙ free.0, unmarked_before s free.1)
 
--- the members of both rows were not marked
+-- if no member of s and no member of t is marked, no member of both lists together is marked
 pub unmarked_both : (marks : List Bool) (s t : List Place) → AreUnmarked marks s → AreUnmarked marks t → AreUnmarked marks (s ++ t)
 unmarked_both marks [] t h k = k
 unmarked_both marks (x ∷ s) t h k = (h.0, unmarked_both marks s t h.1 k)
 
--- and so are those of each
+-- if no member of two lists together is marked, no member of the first list is marked
 pub unmarked_front : (marks : List Bool) (s t : List Place) → AreUnmarked marks (s ++ t) → AreUnmarked marks s
 unmarked_front marks [] t h = tt
 unmarked_front marks (x ∷ s) t h = (h.0, unmarked_front marks s t h.1)
@@ -82,23 +82,23 @@ pub unmarked_back : (marks : List Bool) (s t : List Place) → AreUnmarked marks
 unmarked_back marks [] t h = h
 unmarked_back marks (x ∷ s) t h = unmarked_back marks s t h.1
 
--- nothing is marked where no place is
+-- if no place is marked, no member of s is marked
 pub unmarked_all : (marks : List Bool) → ((p : Place) → is_marked marks p ≡ false) → (s : List Place) → AreUnmarked marks s
 unmarked_all marks none [] = tt
 unmarked_all marks none (x ∷ s) = (none x, unmarked_all marks none s)
 
--- two rows that share no member have no place twice
+-- two lists that share no place and have no place twice have, one after the other, no place twice
 pub distinct_both : (s t : List Place) → IsDistinct s → IsDistinct t → IsDisjoint t s → IsDistinct (s ++ t)
 distinct_both s t d e apart = distinct_splice [] s t e d (disjoint_sym t s apart)
 
--- the place with an index, as its word names it
+-- the word 8 * (i + 1) names the place with the index i, if i is below 8,589,934,591
 pub place_named : (i : ℕ) → i < 8589934591 → (o : Option Place) → o ≡ place_at (8 * (i + 1)) → MatchOption o (8589934591 ≤ i) (λ p. index_of p ≡ i)
 place_named i few o is =
     let k = place_with i few in
     let named : o ≡ Some k.0 = is ∙ ap (λ (j : ℕ). place_at (8 * (j + 1))) (sym k.1) ∙ place_at_word (Some k.0) in
     subst (λ (x : Option Place). MatchOption x (8589934591 ≤ i) (λ p. index_of p ≡ i)) (sym named) k.1
 
--- the walk through the members of s, of which it has marked `front`, and has come to `current`
+-- the walk through the members of s has marked the members `front`, and has come to `current`, the first of the rest
 pub record Marks (s : List Place) (old marks : List Bool) (current : Option Place) (left : ℕ) : Type 0 where
   pub front : List Place
   pub rest : List Place
@@ -120,7 +120,7 @@ marks_none {s} {marks} e k = record {
 }
 
 module _ {s : List Place} {old marks : List Bool} {current : Option Place} {left : ℕ} (m : Marks s old marks current left) where
-  -- THE MEMBER that it has come to, and what is after
+  -- THE MEMBER that the walk has come to is p, and `after` are the members of s after p
   pub record Here (p : Place) : Type 0 where
     pub after : List Place
     pub rest_is : m.rest ≡ p ∷ after
@@ -131,7 +131,7 @@ module _ {s : List Place} {old marks : List Bool} {current : Option Place} {left
       let r = first_is m.rest (sym e ∙ m.leads) in
       record { after = _; rest_is = r; is = m.is ∙ ap (λ (l : List Place). m.front ++ l) r }
 
-  -- it was marked before
+  -- if the walk comes to a member that is marked already, some member of s was marked before the walk
   pub marks_met : {p : Place} → current ≡ Some p → is_marked marks p ≡ true → IsDistinct s → AreUnmarked old s → ⊥
   marks_met {p} e met distinct free =
       let k = here e in
@@ -139,7 +139,7 @@ module _ {s : List Place} {old marks : List Bool} {current : Option Place} {left
       let was = (unmarked_back old m.front (p ∷ k.after) (subst (AreUnmarked old) k.is free)).0 in
       true≢false (sym met ∙ m.also.others p out ∙ was)
 
-  -- it was not, and is now
+  -- if the walk comes to a member that is not marked, it marks this member and goes on to the next member
   pub marks_more : {p : Place} {next : Option Place} {i fewer : ℕ} (e : current ≡ Some p) → is_marked marks p ≡ false → i ≡ index_of p → i < length marks → next ≡ first (here e).after
       → left ≡ fewer + 1 → Marks s old (slice_set marks i true) next fewer
   marks_more {p} {next} {i} {fewer} e free at few leads counts =
@@ -154,7 +154,7 @@ module _ {s : List Place} {old marks : List Bool} {current : Option Place} {left
         also = also_more p i m.also free at few;
       }
 
-  -- all are marked, where the walk has ended
+  -- if the walk has ended, no member of s was marked before the walk, and all are marked now
   pub marks_all : current ≡ None → AreUnmarked old s × MarksAlso old marks s
   marks_all over =
       let none : m.rest ≡ [] = nothing_first m.rest (sym over ∙ m.leads) in
@@ -162,7 +162,7 @@ module _ {s : List Place} {old marks : List Bool} {current : Option Place} {left
       rw whole (m.free, m.also)
 
 module _ {H : Type 0} (shows : H → List Place → Type 0) where
-  -- the collections that were checked: their members are `done`, and are marked besides
+  -- the collections of `all` before `rest` were checked: their members are `done`, were not marked before, and are newly marked
   pub record Gathers (all rest : List H) (old marks : List Bool) (count : ℕ) : Type 0 where
     pub done : List Place
     pub distinct : IsDistinct done
@@ -176,13 +176,13 @@ module _ {H : Type 0} (shows : H → List Place → Type 0) where
   gathers_none all marks = record { done = []; distinct = tt; free = tt; also = also_none marks; counted = refl; builds = λ s h. h; leads = λ s h. (s, h, refl) }
 
   module _ {all rest : List H} {old marks : List Bool} {count : ℕ} (g : Gathers all rest old marks count) {one : H} {others : List H} (is : rest ≡ one ∷ others) where
-    -- few members are in them and in one collection more
+    -- the checked collections and one further collection together have at most 8,589,934,591 members
     pub few_gathered : {now : List Bool} {n : ℕ} → ((s : List Place) → shows one s → IsDistinct s) → IsGathered (shows one) marks now n → count + n ≤ 8589934591
     few_gathered {now} {n} distinct (s, shown, many, free, also) =
         let few = few_places (g.done ++ s) (distinct_both g.done s g.distinct (distinct s shown) (unmarked_apart g.also s free)) in
         omega (arith, few, g.counted, many, length-append g.done s)
 
-    -- ONE COLLECTION MORE
+    -- ONE COLLECTION MORE: if the check has marked the members of the next collection, one more collection is checked
     pub gathers_one : {now : List Bool} {n more : ℕ} → ((s r : List Place) → shows one s → shows one r → s ≡ r) → ((s : List Place) → shows one s → IsDistinct s)
         → IsGathered (shows one) marks now n → more ≡ count + n → Gathers all others old now more
     gathers_one {now} {n} {more} single distinct (s, shown, many, free, also) counts = record {
@@ -199,7 +199,7 @@ module _ {H : Type 0} (shows : H → List Place → Type 0) where
           (k.1, k.3, l.2 ∙ ap (λ (x : List Place). g.done ++ x) (k.4 ∙ ap (λ (x : List Place). x ++ k.1) (single k.0 s k.2 shown)) ∙ sym (append_assoc g.done s k.1));
     }
 
-    -- none is represented for a collection of which no member was marked
+    -- if the table represents no unmarked sequence for one collection, it represents no unmarked sequence for all collections together
     pub not_gathered : RepresentsNoneUnmarked (shows one) marks → RepresentsNoneUnmarked (RepresentsEachOnce shows all) old
     not_gathered never whole once free =
         let l = g.leads whole once.each in
@@ -209,7 +209,7 @@ module _ {H : Type 0} (shows : H → List Place → Type 0) where
         let here = unmarked_front old k.0 k.1 (unmarked_back old g.done (k.0 ++ k.1) (subst (AreUnmarked old) parts free)) in
         never k.0 k.2 (unmarked_beside g.also k.0 apart here)
 
-  -- ALL ARE CHECKED
+  -- ALL COLLECTIONS ARE CHECKED: the table represents a sequence of `count` members for all of them together, and the check has marked exactly these members
   pub gathered : {all rest : List H} {old marks : List Bool} {count : ℕ} (g : Gathers all rest old marks count) → rest ≡ [] → IsGathered (RepresentsEachOnce shows all) old marks count
   gathered {all} g over = (
     g.done,
@@ -219,21 +219,21 @@ module _ {H : Type 0} (shows : H → List Place → Type 0) where
     g.also,
   )
 
-  -- one sequence is represented for a row at most
+  -- if a table represents at most one sequence for each collection, it represents at most one sequence for a row of collections
   pub each_one : ((c : H) (s r : List Place) → shows c s → shows c r → s ≡ r) → (all : List H) (s r : List Place) → RepresentsEach shows all s → RepresentsEach shows all r → s ≡ r
   each_one single [] s r h k = h ∙ sym k
   each_one single (c ∷ all) s r h k = h.4 ∙ ap (λ (x : List Place). x ++ h.1) (single c h.0 k.0 h.2 k.2) ∙ ap (λ (x : List Place). k.0 ++ x) (each_one single all h.1 k.1 h.3 k.3) ∙ sym k.4
 
 module _ {E : Type 0} (linked : E → Bool) (t : Table E) {old marks : List Bool} (none : (p : Place) → is_marked old p ≡ false) {s : List Place} (also : MarksAlso old marks s) where
-  -- where each linked place is marked, none but the members is linked
+  -- if each linked place is marked, only members of s are linked
   pub only_members : ((p : Place) → IsLinked linked t p → is_marked marks p ≡ true) → (p : Place) → IsLinked linked t p → IsMember p s
   only_members all p is out = true≢false (sym (all p is) ∙ also.others p out ∙ none p)
 
-  -- and where one is not, some other is
+  -- if not every linked place is marked, a place that is no member of s is linked
   pub not_only : (((p : Place) → IsLinked linked t p → is_marked marks p ≡ true) → ⊥) → ((p : Place) → IsLinked linked t p → IsMember p s) → ⊥
   not_only never only = never (λ p is. also.marked p (only p is))
 
--- THE MARKS THAT ARE LEFT, where none was set before
+-- THE MARKS THAT ARE LEFT: if no mark was set before, exactly the members of s are marked
 module _ {old new : List Bool} (none : (p : Place) → is_marked old p ≡ false) (zero_before : many_marked old ≡ 0) {s : List Place} (also : MarksAlso old new s) where
   pub marking : IsMarking new s
   marking p = ((λ e. elim (absent_or p s) [ inl out ↦ absurd (true≢false (sym e ∙ also.others p out ∙ none p)) | inr member ↦ member ]), also.marked p)
@@ -246,12 +246,12 @@ pub left_gathered : (shows : List Place → Type 0) (old new : List Bool) → ((
 left_gathered shows old new none zero_before None h = tt
 left_gathered shows old new none zero_before (Some count) (s, shown, many, free, also) = left_marked none zero_before also shows shown many
 
--- WHAT IS MARKED IS LINKED
+-- EACH NEWLY MARKED PLACE IS LINKED, in the table t
 module _ {E : Type 0} (linked : E → Bool) (t : Table E) where
   pub only_none : (marks : List Bool) → MarksLinked linked t marks marks
   only_none marks = record { besides = λ p free is. absurd (true≢false (sym is ∙ free)) }
 
-  -- the members of s are marked besides, and what is not linked is none of them
+  -- if only the members of s are newly marked, and no unlinked place is a member of s, each newly marked place is linked
   pub only_also : {old new : List Bool} {s : List Place} → MarksAlso old new s → ((p : Place) → linked (t.entry p) ≡ false → IsAbsent p s) → MarksLinked linked t old new
   only_also {old} {new} also free = record { besides = λ p was is. by p was is (linked (t.entry p)) refl } where
     by : (p : Place) → is_marked old p ≡ false → is_marked new p ≡ true → (b : Bool) → linked (t.entry p) ≡ b → IsLinked linked t p
@@ -264,11 +264,11 @@ module _ {E : Type 0} (linked : E → Bool) (t : Table E) where
     by p was is true e = h.besides p was e
     by p was is false e = k.besides p e is
 
-  -- where none was marked before, all that is marked is linked
+  -- if no place was marked before and each newly marked place is linked, each marked place is linked
   pub only_linked : {old new : List Bool} → ((p : Place) → is_marked old p ≡ false) → MarksLinked linked t old new → (p : Place) → is_marked new p ≡ true → IsLinked linked t p
   only_linked none h p is = h.besides p (none p) is
 
--- NO MARK is set
+-- NO MARK IS SET: if no mark below the index i is set and mark i is removed, no mark below i + 1 is set
 pub cleared_more : (marks : List Bool) (i : ℕ) → i < length marks → ((j : ℕ) → j < i → slice_index_or marks j false ≡ false)
     → (j : ℕ) → j < i + 1 → slice_index_or (slice_set marks i false) j false ≡ false
 cleared_more marks i few before j low = elim (cases_lt j i) [
@@ -289,7 +289,7 @@ none_marked (x ∷ marks) none =
     let first : weigh x ≡ 0 = ap weigh (none 0) in
     omega (arith, sum_by-cons weigh x marks, first, none_marked marks (λ j. none (suc j)))
 
--- after the last of a list there is nothing
+-- if a list has at most i elements, no element is left when the first i are dropped
 pub drop_none : {X : Type 0} (xs : List X) (i : ℕ) → length xs ≤ i → drop i xs ≡ []
 drop_none [] zero h = refl
 drop_none [] (suc i) h = refl
@@ -297,7 +297,7 @@ drop_none (x ∷ xs) zero h = absurd (omega (arith, h))
 drop_none (x ∷ xs) (suc i) h = drop_none xs i (omega (arith, h))
 
 module _ {E : Type 0} (linked : E → Bool) (t : Table E) (marks : List Bool) where
-  -- a place that is not linked is not missed
+  -- if a place is not linked, its index is not the index of a missed place
   pub not_missed : {p : Place} {i : ℕ} → index_of p ≡ i → linked (t.entry p) ≡ false → IsMissed linked t marks i → ⊥
   not_missed {p} {i} at free missed =
       let same : missed.0 ≡ p = same_index missed.0 p (missed.1 ∙ sym at) in
@@ -316,7 +316,7 @@ module _ {E : Type 0} (linked : E → Bool) (t : Table E) (marks : List Bool) wh
     )
     by false e = ((λ h. (p, at, is, subst (λ (j : ℕ). slice_index_or marks j false ≡ false) (sym at) e)), λ missed. refl)
 
-  -- one index more
+  -- if all linked places below index i are marked and index i is not missed, all linked places below index i + 1 are marked
   pub marked_more : {i : ℕ} → ((p : Place) → index_of p < i → linked (t.entry p) ≡ true → is_marked marks p ≡ true) → (IsMissed linked t marks i → ⊥)
       → (p : Place) → index_of p < i + 1 → linked (t.entry p) ≡ true → is_marked marks p ≡ true
   marked_more {i} before never p low is = elim (cases_lt (index_of p) i) [

@@ -1,4 +1,5 @@
--- Two walks side by side, the one a value after the other: all is sorted exactly if what the one after has left is.
+-- Two walks through the values of a tree, of which the second is one value ahead. All values are sorted exactly if the values from the first walk on are
+-- sorted.
 use Rattle.std.proofs.Common.{◌≡◌, true, Option, Some, None, List, [], ◌∷◌, map, sym, ◌∙◌, ap, subst}
 use Rattle.std.specs.Borrow.{Bor}
 use Rattle.std.specs.Option.{IfSome, is_some}
@@ -7,7 +8,7 @@ use Rattle.std.specs.declared.cmp.Ordering.TheVariants.{Greater}
 use Rattle.ic_link_ops.specs.Walk.{GivesFirst}
 use Rattle.ic_rbtree.specs.Borders.{IsSorted}
 
--- a call that gave a value
+-- if a call has returned a value, its contract for this case holds
 pub on_some : {T : Type 0} {P : Type 0} (r : Option T) → is_some r ≡ true → IfSome r (λ x. P) → P
 on_some None some h = absurd (cc)
 on_some (Some x) some h = h
@@ -17,11 +18,11 @@ first_given rest s t None some h = absurd (cc)
 first_given rest s t (Some x) some h = (x.now, h.0)
 
 module _ {V K : Type 0} (cmp : K → K → Ordering) (key : V → K) where
-  -- the keys of these never fall
+  -- no key in this list of values is less than the key before it
   abbrev pub Rise : List V → Type 0
   Rise s = IsSorted cmp (map key s)
 
-  -- one walk is a value after the other, and all are sorted exactly if what it has left is
+  -- the second walk is one value ahead of the first, and all values are sorted exactly if the values from the first walk on are sorted
   pub record GoesOn (all after left : List V) : Type 0 where
     pub value : V
     pub is : after ≡ value ∷ left
@@ -41,7 +42,7 @@ module _ {V K : Type 0} (cmp : K → K → Ordering) (key : V → K) where
     both : after ≡ last ∷ value ∷ rest
     both = was ∙ ap (λ (s : List V). last ∷ s) (rest_same (sym was ∙ g.is) ∙ is)
 
-    -- ONE VALUE MORE that is not less
+    -- ONE VALUE MORE: if the next value is not less than the value before it, both walks go on
     pub goes_on : (cmp (key last) (key value) ≡ Greater → ⊥) → GoesOn all others rest
     goes_on rises =
         let here : others ≡ value ∷ rest = rest_same (sym was ∙ both) in
@@ -52,11 +53,11 @@ module _ {V K : Type 0} (cmp : K → K → Ordering) (key : V → K) where
           up = λ h. g.up (subst Rise (sym both) (rises, subst Rise here h));
         }
 
-    -- one that is less
+    -- if the next value is less than the value before it, the values are not sorted
     pub goes_down : cmp (key last) (key value) ≡ Greater → Rise all → ⊥
     goes_down falls h = (subst Rise both (g.down h)).0 falls
 
-  -- the end
+  -- if no value is left, all values are sorted
   pub goes_through : {all after left : List V} → GoesOn all after left → left ≡ [] → Rise all
   goes_through {all} {after} {left} g over = let one : after ≡ g.value ∷ [] = g.is ∙ ap (λ (s : List V). g.value ∷ s) over in g.up (subst Rise (sym one) tt)
 

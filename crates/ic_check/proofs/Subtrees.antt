@@ -1,4 +1,4 @@
--- A walk down along parents meets no place twice, and what it found says whether a tree stands there.
+-- A walk down a tree whose children name their parents visits no place twice, and its result says whether the entries represent a subtree.
 use Rattle.std.proofs.Common.{◌≡◌, ℕ, ◌+◌, ◌≤◌, true, MatchOption, Option, Some, None, List, [], ◌∷◌, ◌++◌, length, length-append, refl, sym, ap, ◌∙◌, subst, arith, append_assoc}
 use Rattle.std.proofs.Math.Nat.{max-le, le-max_left, le-max_right}
 use Rattle.std.specs.List.{AllByRecursion}
@@ -17,14 +17,14 @@ use Rattle.ic_rbtree.proofs.Heights.{height_few, exponent_small}
 use Rattle.ic_check.specs.declared.tree.Subtree.{Subtree}
 use Rattle.ic_check.specs.Subtrees.{AreApart, AreNoRedPair, AreUnlike, IsJoined, IsPathUp, HasPathUp, IsSound, IsTreeBelow, HasNoTree}
 
--- what stands before one end of a list is told by the list
+-- if two equal lists end with w after one more place, this place is the same in both lists
 same_before : (f g w : List Place) (r q : Place) → f ++ r ∷ w ≡ g ++ q ∷ w → r ≡ q
 same_before [] [] w r q e = cc
 same_before [] (y ∷ g) w r q e = absurd (omega (arith, ap length e, length-append g (q ∷ w)))
 same_before (x ∷ f) [] w r q e = absurd (omega (arith, ap length e, length-append f (r ∷ w)))
 same_before (x ∷ f) (y ∷ g) w r q e = same_before f g w r q (cc)
 
--- no member of s is one of t, if what holds of the ones and what holds of the others is never of one place
+-- if no place satisfies both P and Q, a list of places that satisfy P and a list of places that satisfy Q share no place
 apart_all : {P Q : Place → Type 0} → ((x : Place) → P x → Q x → ⊥) → (s t : List Place) → AllByRecursion P s → AllByRecursion Q t → IsDisjoint s t
 apart_all {P} {Q} apart [] t h k = tt
 apart_all {P} {Q} apart (x ∷ s) t h k = (absent t k, apart_all apart s t h.1 k) where
@@ -36,7 +36,7 @@ absent_all : (P : Place → Type 0) (p : Place) → (P p → ⊥) → (s : List 
 absent_all P p never [] h = tt
 absent_all P p never (x ∷ s) h = ((λ e. never (subst P (sym e) h.0)), absent_all P p never s h.1)
 
--- a member of t is no member of s if these share none
+-- a member of t is not a member of s if the two lists share no member
 outside : (q : Place) (s t : List Place) → (IsAbsent q t → ⊥) → IsDisjoint s t → IsAbsent q s
 outside q [] t m d = tt
 outside q (x ∷ s) t m d = ((λ e. m (rw e d.0)), outside q s t m d.1)
@@ -47,7 +47,7 @@ blacks_low (fork Red a p b) = omega (arith, blacks_low a, le-max_left (height a)
 blacks_low (fork Black a p b) = omega (arith, blacks_low a, le-max_left (height a) (height b))
 
 module _ {E : Type 0} (n : E → Node) (entry : Place → E) where
-  -- an end has one path up
+  -- there is only one path of parents up from an end
   one_path : (v w : List Place) (o : Option Place) → IsPathUp n entry o v → IsPathUp n entry o w → v ≡ w
   one_path [] [] o h k = refl
   one_path [] (q ∷ w) o h k = absurd (none_not q (sym h ∙ k.0))
@@ -56,11 +56,11 @@ module _ {E : Type 0} (n : E → Node) (entry : Place → E) where
       let same : q ≡ p = some_same (sym k.0 ∙ h.0) in
       rw same (ap (λ (l : List Place). p ∷ l) (one_path v w (n (entry p)).parent h.1 (subst (λ (x : Place). IsPathUp n entry (n (entry x)).parent w) same k.1)))
 
-  -- the path from x leads through the root of a tree, and from there on w
+  -- the path of parents up from x leads through the root `o` of a tree, and from there on through the places w
   abbrev Comes : Option Place → List Place → Place → Type 0
   Comes o w x = (f : List Place) × (r : Place) × (o ≡ Some r) × IsPathUp n entry (Some x) (f ++ r ∷ w)
 
-  -- so does the path from each member
+  -- the path of parents up from each member of a tree leads through the root of the tree, and from there on through the places w
   paths : (t : Tree) (up : Option Place) (w : List Place) → IsTree n entry up t → IsPathUp n entry up w → AllByRecursion (Comes (top t) w) (in_order t)
   paths leaf up w h k = tt
   paths (fork c a p b) up w h k =
@@ -72,7 +72,7 @@ module _ {E : Type 0} (n : E → Node) (entry : Place → E) where
       longer : (o : Option Place) (z : Place) → Comes o (p ∷ w) z → Comes (Some p) w z
       longer o z k = (k.0 ++ k.1 ∷ [], p, refl, subst (IsPathUp n entry (Some z)) (sym (append_assoc k.0 (k.1 ∷ []) (p ∷ w))) k.3)
 
-  -- A WALK DOWN ALONG PARENTS meets no place twice: below two children that differ there are two sets of places, and the member is in neither
+  -- A WALK DOWN VISITS NO PLACE TWICE: if two different children name p as their parent, the subtrees below them share no place, and p is in neither subtree
   pub fork_distinct : (c : Color) (a : Tree) (p : Place) (b : Tree) (w : List Place) → IsPathUp n entry (Some p) (p ∷ w)
       → IsTree n entry (Some p) a → IsTree n entry (Some p) b → AreApart (top a) (top b) → IsDistinct (in_order a) → IsDistinct (in_order b)
       → IsDistinct (in_order (fork c a p b))
@@ -91,7 +91,7 @@ module _ {E : Type 0} (n : E → Node) (entry : Place → E) where
           let same = one_path (u.0 ++ u.1 ∷ p ∷ w) (v.0 ++ v.1 ∷ p ∷ w) (Some z) u.3 v.3 in
           apart u.1 u.2 (v.2 ∙ ap Some (sym (same_before u.0 v.0 (p ∷ w) u.1 v.1 same)))
 
-  -- what the entry of a member says that may stand below `up`
+  -- the place p can be a member below `up`: its entry is linked, names `up` as its parent, and names two different children
   pub record MayStandBelow (up : Option Place) (p : Place) : Type 0 where
     pub linked : (n (entry p)).linked ≡ true
     pub parent : (n (entry p)).parent ≡ up
@@ -101,11 +101,11 @@ module _ {E : Type 0} (n : E → Node) (entry : Place → E) where
       → left ≡ (n (entry p)).left → right ≡ (n (entry p)).right → AreApart left right → MayStandBelow up p
   stands_there linked parent left right apart = record { linked = linked; parent = parent; apart = λ q e f. apart q (left ∙ e) (right ∙ f) }
 
-  -- from there the parents lead on, and beyond the root
+  -- if the parents lead from `up` to a root, they lead to a root from a place p whose parent is `up`
   pub path_through : {up : Option Place} {p : Place} → (n (entry p)).parent ≡ up → HasPathUp n entry up → HasPathUp n entry (Some p)
   path_through {up} {p} parent path = (p ∷ path.0, (refl, rw parent path.1))
 
-  -- the parts of a sound subtree
+  -- a sound subtree with the root p is made of p and two sound subtrees, and the entry of p names the roots of these subtrees
   pub record Parts (up : Option Place) (p : Place) (t : Tree) : Type 0 where
     pub a : Tree
     pub b : Tree
@@ -147,20 +147,20 @@ module _ {E : Type 0} (n : E → Node) (entry : Place → E) where
       twice : (r : Place) → top a ≡ Some r → top b ≡ Some r → ⊥
       twice r e f = top_not a r (outside r (in_order a) (q ∷ in_order b) (λ out. top_not b r out.1 f) (distinct_disjoint (in_order a) (q ∷ in_order b) s.distinct)) e
 
-  -- nothing below the root's place: the empty tree
+  -- if there is no root, the subtree is the empty tree, which is sound
   pub nothing_below : (up : Option Place) → IsSound n entry up None leaf
   nothing_below up = record { entries = tt; starts = refl; distinct = tt; no_red_pair = tt; even = tt }
 
-  -- no subtree stands where no level is left
+  -- if no level is left, there is no subtree with the root p
   pub no_levels : {levels : ℕ} {up : Option Place} {p : Place} → levels ≡ 0 → HasNoTree n entry levels up (Some p)
   no_levels {levels} {up} {p} none t s low =
       let k = parts t up p s in omega (arith, none, low, ap height k.is, le-max_left (height k.a) (height k.b))
 
-  -- nor where the entry says otherwise
+  -- if the entry of p doesn't allow that p is a member below `up`, there is no subtree with the root p below `up`
   pub stands_not : {levels : ℕ} {up : Option Place} {p : Place} → (MayStandBelow up p → ⊥) → HasNoTree n entry levels up (Some p)
   stands_not {levels} {up} {p} never t s low = never (parts t up p s).stands
 
-  -- nor where none stands on a side
+  -- if there is no subtree on one side below p, there is no subtree with the root p
   pub none_left : {levels few : ℕ} {up at : Option Place} {p : Place} → levels ≤ few + 1 → at ≡ (n (entry p)).left → HasNoTree n entry few (Some p) at → HasNoTree n entry levels up (Some p)
   none_left {levels} {few} {up} {at} {p} fits is none t s low =
       let k = parts t up p s in
@@ -171,7 +171,7 @@ module _ {E : Type 0} (n : E → Node) (entry : Place → E) where
       let k = parts t up p s in
       subst (HasNoTree n entry few (Some p)) is none k.b k.right (omega (arith, fits, low, ap height k.is, le-max_right (height k.a) (height k.b)))
 
-  -- few black members are on a way down
+  -- there are at most as many black members on a way down as the subtree has levels
   pub few_blacks : {few : ℕ} {up at : Option Place} {found : Subtree} → IsTreeBelow n entry few up at found → found.blacks ≤ few
   few_blacks x = omega (arith, x.3.blacks, blacks_low x.0, x.2)
 
@@ -185,13 +185,13 @@ module _ {E : Type 0} (n : E → Node) (entry : Place → E) where
         fork_distinct (n (entry p)).color x.0 p y.0 path.0 (refl, rw stands.parent path.1) x.1.entries y.1.entries
         (λ q e f. stands.apart q (x.1.starts ∙ e) (y.1.starts ∙ f)) x.1.distinct y.1.distinct
 
-    -- two subtrees have few members
+    -- the two subtrees below p have at most 8,589,934,591 members together
     pub few_members : {up : Option Place} → HasPathUp n entry up → MayStandBelow up p → left.members + right.members ≤ 8589934591
     few_members path stands =
         let few = few_places (in_order (fork (n (entry p)).color x.0 p y.0)) (both_distinct path stands) in
         omega (arith, few, x.3.members, y.3.members, length-append (in_order x.0) (p ∷ in_order y.0))
 
-    -- JOINED they are one
+    -- JOINED SUBTREES: if the result of the check joins the results for the two subtrees below p, there is a subtree with the root p and this result
     pub joined : {up : Option Place} {levels : ℕ} {found : Subtree} → HasPathUp n entry up → MayStandBelow up p → few + 1 ≤ levels → IsJoined (n (entry p)).color left right found → IsTreeBelow n entry levels up (Some p) found
     joined {up} {levels} {found} path stands fits j = (
       fork (n (entry p)).color x.0 p y.0,
@@ -212,7 +212,7 @@ module _ {E : Type 0} (n : E → Node) (entry : Place → E) where
       reds : AreNoRedPair (n (entry p)).color (top_color x.0) (top_color y.0)
       reds red = let k = j.no_red_pair red in (sym x.3.color ∙ k.0, sym y.3.color ∙ k.1)
 
-    -- and where they can't be joined there is none
+    -- if the results for the two subtrees below p cannot be joined, there is no subtree with the root p
     pub unlike : {up : Option Place} {levels : ℕ} → AreUnlike (n (entry p)).color left right → HasNoTree n entry levels up (Some p)
     unlike {up} {levels} never t s low =
         let k = parts t up p s in
@@ -221,14 +221,14 @@ module _ {E : Type 0} (n : E → Node) (entry : Place → E) where
         never (x.3.blacks ∙ ap blacks a ∙ k.even ∙ sym (y.3.blacks ∙ ap blacks b))
         (λ red. let r = k.no_red_pair red in (x.3.color ∙ ap top_color a ∙ r.0, y.3.color ∙ ap top_color b ∙ r.1))
 
-    -- WHAT JOINS THEM tells whether there is one
+    -- WHETHER THERE IS A SUBTREE with the root p follows from whether the results for its two subtrees can be joined
     pub told : {up : Option Place} {levels : ℕ} {c : Color} → HasPathUp n entry up → MayStandBelow up p → few + 1 ≤ levels → c ≡ (n (entry p)).color → (o : Option Subtree)
         → MatchOption o (AreUnlike c left right) (IsJoined c left right) → MatchOption o (HasNoTree n entry levels up (Some p)) (IsTreeBelow n entry levels up (Some p))
     told path stands fits color None h = unlike (subst (λ (k : Color). AreUnlike k left right) color h)
     told path stands fits color (Some found) h = joined path stands fits (subst (λ (k : Color). IsJoined k left right found) color h)
 
 module _ {E : Type 0} {n : E → Node} {t : Table E} {root : Option Place} where
-  -- WHAT IS SHOWN is sound, and no higher than 66
+  -- A REPRESENTED TREE is sound, and has at most 66 levels
   pub sound : {s : List Place} (shown : Represents n t root s) → IsSound n t.entry None root shown.tree
   sound shown = record {
     entries = shown.held.entries;
@@ -243,18 +243,18 @@ module _ {E : Type 0} {n : E → Node} {t : Table E} {root : Option Place} where
       let few = few_places (in_order shown.tree) (sound shown).distinct in
       exponent_small (height shown.tree) (length (in_order shown.tree) + 1) (omega (arith, few)) (height_few shown.tree shown.shape)
 
-  -- so what no walk finds is not represented
+  -- if the check finds no tree of at most 66 levels with this root, the table represents no sequence for the tree
   pub none_represented : HasNoTree n t.entry 66 None root → (s : List Place) → Represents n t root s → ⊥
   none_represented none s shown = none shown.tree (sound shown) (low shown)
 
-  -- nor is a tree with a red root
+  -- if the check finds a tree with a red root, the table represents no sequence for the tree
   pub red_not_represented : {levels : ℕ} {found : Subtree} → IsTreeBelow n t.entry levels None root found → found.color ≡ Red → (s : List Place) → Represents n t root s → ⊥
   red_not_represented x red s shown =
       let same = one_tree n t.entry None x.0 shown.tree x.1.entries shown.held.entries (sym x.1.starts ∙ shown.starts) in
       let color : Red ≡ Black = sym red ∙ x.3.color ∙ ap top_color same ∙ shown.shape.black_root in
       cc
 
-  -- and one with a black root is
+  -- if the check finds a tree with a black root, the table represents a sequence with the number of members that was found
   pub black_represented : {levels : ℕ} {found : Subtree} → IsTreeBelow n t.entry levels None root found → found.color ≡ Black
       → (s : List Place) × Represents n t root s × (length s ≡ found.members)
   black_represented x black = (

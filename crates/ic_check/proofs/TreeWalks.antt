@@ -1,4 +1,4 @@
--- A walk along a tree that is represented, which marks each member.
+-- A walk along a tree that the table represents. The walk marks each member.
 use Rattle.std.proofs.Common.{◌≡◌, ℕ, Bool, Option, Some, None, List, [], ◌∷◌, ◌++◌, sym, subst, ◌∙◌, append_assoc}
 use Rattle.ic_link_ops.specs.Prelude.{Place, Cut, join, first, IsAbsent, Table}
 use Rattle.ic_link_ops.specs.declared.side.Side.TheVariants.{Left, Right}
@@ -13,11 +13,11 @@ use Rattle.ic_check.specs.WholeTables.{MarksLinked}
 use Rattle.ic_check.proofs.Marking.{Marks, here, only_also}
 
 module _ {E : Type 0} (n : E → Node) {t : Table E} {root : Option Place} where
-  -- null is a position, and each member is one
+  -- a walk along a represented tree may start before the first member, where the current place is none
   pub safe_null : {s : List Place} → Represents n t root s → IsSafe n t root (None ∷ [])
   safe_null {s} h = (λ q. among q s, represented_closed n (represented_of n h), (tt, tt))
 
-  -- what it has marked is linked
+  -- each place that the walk has marked is linked
   pub member_marks : {s : List Place} {old marks : List Bool} {current : Option Place} {left : ℕ} (m : Marks s old marks current left) → Represents n t root s
       → {linked : E → Bool} → ((e : E) → (n e).linked ≡ linked e) → MarksLinked linked t old marks
   member_marks m h {linked} alike = only_also linked t m.also
@@ -33,7 +33,7 @@ module _ {E : Type 0} (n : E → Node) {t : Table E} {root : Option Place} where
     pub member_safe : IsSafe n t root (Some p ∷ [])
     member_safe = (λ q. among q (m.front ++ p ∷ (here m e).after), represented_closed n (represented_of n there), (among_there p m.front (here m e).after, tt))
 
-    -- a step goes to what stands after
+    -- a step from the member p goes to the member after p, or to none after the last member
     pub member_next : {next : Option Place} → ((gap : Cut) → Represents n t root (join gap) → IsBeside Right gap (Some p) → IsBeside Left gap next) → next ≡ first (here m e).after
     member_next {next} leads =
         let gap : Cut = record { front = m.front ++ p ∷ []; back = (here m e).after } in

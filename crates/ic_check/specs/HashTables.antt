@@ -1,4 +1,4 @@
--- The result of a check of a hash table for one chain.
+-- What a check of a hash table finds out about one chain.
 use Rattle.std.specs.Prelude.{◌≡◌, ℕ, Option, Some, List}
 use Rattle.std.specs.List.{AllByRecursion}
 use Rattle.ic_link_ops.specs.Prelude.{Place, Objects, object_at, Table}
@@ -9,11 +9,11 @@ use Rattle.ic_hash_table.specs.Slots.{slot_of}
 use Rattle.ic_hash_table.specs.Chains.{RepresentsFrom}
 use Rattle.ic_hash_table.specs.HashTable.{front_at}
 
--- the place has an object, which belongs in chain i
+-- the place p has an object, and the object's hash leads to chain i
 abbrev pub IsPlacedIn : {V : Type 0} → Slots → (V → ℕ) → Objects V → ℕ → Place → Type 0
 IsPlacedIn {V} slots hash objects i p = (value : V) × (object_at objects p ≡ Some value) × (slot_of slots (hash value) ≡ i)
 
--- CHAIN i IS REPRESENTED with these members, each of which is placed and belongs there
+-- CHAIN i IS REPRESENTED: the table represents chain i as the list `chain`, and each member of the list has an object whose hash leads to chain i
 module _ {E A B V : Type 0} (successor : E → Successor) (hash : A → V → ℕ) (fronts : B → List (Option Place)) (t : Table E) (table : HashTable A B) (objects : Objects V) where
   pub record RepresentsOwn (i : ℕ) (chain : List Place) : Type 0 where
     pub shown : RepresentsFrom successor t (front_at fronts table i) chain

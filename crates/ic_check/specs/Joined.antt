@@ -1,4 +1,4 @@
--- Words that are always those of places, of none, or the exclusive or of two of these.
+-- Link words that are always the word of a place, the word of none, or the exclusive or of two of these words.
 use Rattle.std.specs.Prelude.{◌≡◌, ℕ, true, not, bit_xor, Option}
 use Rattle.std.proofs.Common.{sym, ap, ◌∙◌, eq-eqb, true≢false, arith}
 use Rattle.std.proofs.lemmas.Nat.{xor_comm}
@@ -19,7 +19,7 @@ use Rattle.ic_link_ops.specs.TwoWords as doubly
 use Rattle.ic_link_ops.specs.XorLaws.{xor_back}
 use Rattle.ic_link_ops.specs.Words.{is_word, marked_bits_of}
 
--- each stored word that is not the mark is the word of places
+-- a stored word that is not the mark of an unlinked place is the word of a place or of none, or the exclusive or of two of these words
 marked_word : (w : MarkedWord) → is_word w ≡ true → IsWord (marked_bits_of w)
 marked_word w is = w.mark_or_word (λ e. true≢false (sym is ∙ ap not (eq-eqb _ _ e)))
 
@@ -29,7 +29,7 @@ one_word w is = marked_word w.word is
 pub two_words : (w : TwoWords) → doubly.has_words w ≡ true → IsWord (doubly.next_word_of w)
 two_words w is = marked_word w.next is
 
--- the same for words of 4 bytes
+-- a stored 4-byte word that is not the mark of an unlinked place is the word of a place, of none, or the exclusive or of two such words
 narrow_word : (w : NarrowMarkedWord) → is_narrow_word w ≡ true → IsWord (marked_narrow_bits_of w)
 narrow_word w is = let h = w.mark_or_word (λ e. true≢false (sym is ∙ ap not (eq-eqb _ _ e))) in (omega (arith, h.0), h.1)
 
@@ -39,8 +39,8 @@ one_narrow_word w is = narrow_word w.word is
 pub two_narrow_words : (w : TwoNarrowWords) → narrow_doubly.has_words w ≡ true → IsWord (narrow_doubly.next_word_of w)
 two_narrow_words w is = narrow_word w.next is
 
--- A WORD JOINS EACH PLACE with another: it is the exclusive or of that place's word and the word of the place that it
--- then names
+-- A WORD JOINS EACH PLACE WITH ANOTHER: for any end `a`, the word n is the exclusive or of two words. One is the word of `a`, the other is the word of the
+-- place that n names if the word of `a` is taken out of n
 pub joins_told : (n : ℕ) (a : Option Place) → IsWord n → n ≡ bit_xor (word_of a) (word_of (place_at (bit_xor n (word_of a))))
 joins_told n a is =
     sym (xor_back (word_of a) n) ∙ xor_comm (bit_xor (word_of a) n) (word_of a) ∙ ap (bit_xor (word_of a)) (xor_comm (word_of a) n)

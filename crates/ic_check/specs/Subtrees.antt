@@ -9,21 +9,21 @@ use Rattle.ic_link_ops.specs.RedBlackTree.{Node, IsTree}
 use Rattle.ic_rbtree.specs.Height.{height}
 use Rattle.ic_check.specs.declared.tree.Subtree.{Subtree}
 
--- the two children are not the same place
+-- the two children a and b are different places, if both exist
 abbrev pub AreApart : Option Place → Option Place → Type 0
 AreApart a b = (q : Place) → a ≡ Some q → b ≡ Some q → ⊥
 
--- a member of the first color may have children of the other two colors
+-- a member of the color c may have children of the colors a and b: if c is red, both children are black
 abbrev pub AreNoRedPair : Color → Color → Color → Type 0
 AreNoRedPair c a b = c ≡ Red → (a ≡ Black) × (b ≡ Black)
 
--- the result for a subtree is right
+-- The result `found` is right for the tree t: it has the number of members, the number of black members down the left side, and the root's color
 pub record IsFound (found : Subtree) (t : Tree) : Type 0 where
   pub members : found.members ≡ length (in_order t)
   pub blacks : found.blacks ≡ blacks t
   pub color : found.color ≡ top_color t
 
--- the result for a member with two subtrees
+-- `found` is the right result for a subtree whose root has the color c, if the checks of its left and right subtrees returned `left` and `right`
 pub record IsJoined (c : Color) (left right found : Subtree) : Type 0 where
   pub even : left.blacks ≡ right.blacks
   pub no_red_pair : AreNoRedPair c left.color right.color
@@ -31,21 +31,21 @@ pub record IsJoined (c : Color) (left right found : Subtree) : Type 0 where
   pub blacks : found.blacks ≡ weight c + left.blacks
   pub color : found.color ≡ c
 
--- the two subtrees below a member of that color are not a subtree of the right shape
+-- two subtrees with the results `left` and `right` can't be below a root of the color c: their black counts differ, or a red member has a red child
 abbrev pub AreUnlike : Color → Subtree → Subtree → Type 0
 AreUnlike c left right = left.blacks ≡ right.blacks → AreNoRedPair c left.color right.color → ⊥
 
 module _ {E : Type 0} (n : E → Node) (entry : Place → E) where
-  -- the parents lead from an end through w, and beyond a root
+  -- parents lead up from the end o through all places of w in order, and the last place of w has no parent. If w is empty, o is none
   abbrev pub IsPathUp : Option Place → List Place → Type 0
   IsPathUp o [] = o ≡ None
   IsPathUp o (p ∷ w) = (o ≡ Some p) × IsPathUp (n (entry p)).parent w
 
-  -- the parents lead from this end beyond a root
+  -- if parents are followed from the end o, a place without a parent is reached
   abbrev pub HasPathUp : Option Place → Type 0
   HasPathUp o = (w : List Place) × IsPathUp o w
 
-  -- the entries are those of the tree t with the root `at` below `up`, and t can be a part of a red-black tree
+  -- The entries represent the tree t with the root `at`, whose parent is `up`. No place occurs twice in t, and t can be a part of a red-black tree
   pub record IsSound (up at : Option Place) (t : Tree) : Type 0 where
     pub entries : IsTree n entry up t
     pub starts : at ≡ top t
@@ -53,10 +53,11 @@ module _ {E : Type 0} (n : E → Node) (entry : Place → E) where
     pub no_red_pair : NoRedPair t
     pub even : IsEven t
 
-  -- there is such a tree with at most this many levels, and the result for it is right
+  -- the entries represent a part of a red-black tree with the root `at` below `up` and with at most `levels` levels, and `found` is the right result for this
+  -- tree
   abbrev pub IsTreeBelow : ℕ → Option Place → Option Place → Subtree → Type 0
   IsTreeBelow levels up at found = (t : Tree) × IsSound up at t × (height t ≤ levels) × IsFound found t
 
-  -- there is no such tree
+  -- the entries represent no part of a red-black tree with the root `at` below `up` and with at most `levels` levels
   abbrev pub HasNoTree : ℕ → Option Place → Option Place → Type 0
   HasNoTree levels up at = (t : Tree) → IsSound up at t → height t ≤ levels → ⊥

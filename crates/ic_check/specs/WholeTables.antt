@@ -6,23 +6,25 @@ use Rattle.ic_link_ops.specs.Prelude.{Place, index_of, IsAbsent, IsMember, IsDis
 use Rattle.ic_link_ops.specs.PlainTables.{entry_at}
 
 module _ {H : Type 0} (shows : H → List Place → Type 0) where
-  -- the table represents a sequence for each list, and these one after the other are s
+  -- the table represents a sequence for each of the collections `lists`, and s is these sequences, one after the other
   abbrev pub RepresentsEach : List H → List Place → Type 0
   RepresentsEach [] s = s ≡ []
   RepresentsEach (list ∷ lists) s = (front back : List Place) × shows list front × RepresentsEach lists back × (s ≡ front ++ back)
 
-  -- the same, and no place occurs twice in s
+  -- the table represents a sequence for each of the collections `lists`, s is these sequences, one after the other, and no place occurs twice in s
   pub record RepresentsEachOnce (lists : List H) (s : List Place) : Type 0 where
     pub each : RepresentsEach lists s
     pub distinct : IsDistinct s
 
-  -- THE WHOLE TABLE: also, no place is a member of two of them, and only their members are linked
+  -- THE WHOLE TABLE IS REPRESENTED: s is the sequences of the collections `lists`, one after the other. No place occurs twice in s, and only members of s are
+  -- linked
   pub record RepresentsAll {E : Type 0} (linked : E → Bool) (t : Table E) (lists : List H) (s : List Place) : Type 0 where
     pub each : RepresentsEach lists s
     pub distinct : IsDistinct s
     pub only : (p : Place) → IsLinked linked t p → IsMember p s
 
--- THE WHOLE TABLE OF TWO ROWS of collections: those of the second row have the rest of s
+-- THE WHOLE TABLE OF TWO ROWS IS REPRESENTED: s is the sequences of the collections in `first`, and then of the collections in `second`. No place occurs twice
+-- in s, and only members of s are linked
 module _ {H G : Type 0} (shows : H → List Place → Type 0) (others : G → List Place → Type 0) where
   pub record RepresentsBoth {E : Type 0} (linked : E → Bool) (t : Table E) (first : List H) (second : List G) (s : List Place) : Type 0 where
     pub front : List Place
@@ -33,7 +35,7 @@ module _ {H G : Type 0} (shows : H → List Place → Type 0) (others : G → Li
     pub distinct : IsDistinct s
     pub only : (p : Place) → IsLinked linked t p → IsMember p s
 
--- whether a place is marked
+-- whether the marks say that a place is marked
 abbrev pub is_marked : List Bool → Place → Bool
 is_marked = entry_at false
 
@@ -41,11 +43,11 @@ is_marked = entry_at false
 abbrev pub many_marked : List Bool → ℕ
 many_marked marks = count_by (λ mark. mark) marks
 
--- A PLACE THAT IS NEWLY MARKED is linked
+-- EACH NEWLY MARKED PLACE IS LINKED: a place that is marked in `new` and not in `old` is linked in the table
 pub record MarksLinked {E : Type 0} (linked : E → Bool) (t : Table E) (old new : List Bool) : Type 0 where
   pub besides : (p : Place) → is_marked old p ≡ false → is_marked new p ≡ true → IsLinked linked t p
 
--- the members of s are marked, and no other place is
+-- all members of s are marked, and no other place is marked
 abbrev pub IsMarking : List Bool → List Place → Type 0
 IsMarking marks s = (p : Place) → Decides (is_marked marks p) (IsMember p s)
 
@@ -53,27 +55,28 @@ IsMarking marks s = (p : Place) → Decides (is_marked marks p) (IsMember p s)
 abbrev pub AreUnmarked : List Bool → List Place → Type 0
 AreUnmarked marks s = AllByRecursion (λ p. is_marked marks p ≡ false) s
 
--- THE MEMBERS OF s ARE NEWLY MARKED, with this many new marks, and no other place is
+-- THE MEMBERS OF s ARE NEWLY MARKED: in `new` each member of s is marked, and the number of marks is greater by the length of s. Each other place is as in
+-- `old`
 pub record MarksAlso (old new : List Bool) (s : List Place) : Type 0 where
   pub long : length new ≡ length old
   pub more : many_marked new ≡ many_marked old + length s
   pub marked : (p : Place) → IsMember p s → is_marked new p ≡ true
   pub others : (p : Place) → IsAbsent p s → is_marked new p ≡ is_marked old p
 
--- the result of a check that marks the members of one collection: this many are represented, none of them was marked before, and they
--- are marked now
+-- a check has marked the members of one collection: the table represents a sequence of `count` members, none of them was marked in `old`, and `new` marks them
+-- all
 module _ (shows : List Place → Type 0) where
   abbrev pub IsGathered : List Bool → List Bool → ℕ → Type 0
   IsGathered old new count = (s : List Place) × shows s × (length s ≡ count) × AreUnmarked old s × MarksAlso old new s
 
-  -- the table represents no sequence without a marked member
+  -- the table represents no sequence whose members are all unmarked in `old`
   abbrev pub RepresentsNoneUnmarked : List Bool → Type 0
   RepresentsNoneUnmarked old = (s : List Place) → shows s → AreUnmarked old s → ⊥
 
-  -- THE MARKS THAT ARE LEFT: exactly the members of a represented sequence with this number of members are marked
+  -- THE MARKS THAT ARE LEFT: the table represents a sequence, exactly the members of this sequence are marked, and `count` marks are set
   abbrev pub LeavesMarked : List Bool → ℕ → Type 0
   LeavesMarked marks count = (s : List Place) × shows s × IsMarking marks s × (many_marked marks ≡ count)
 
--- the place with that index is linked, and not marked
+-- the place with the index i is linked, and it is not marked
 abbrev pub IsMissed : {E : Type 0} → (E → Bool) → Table E → List Bool → ℕ → Type 0
 IsMissed linked t marks i = (p : Place) × (index_of p ≡ i) × IsLinked linked t p × (is_marked marks p ≡ false)

@@ -1,4 +1,4 @@
-//! The collections of a table, as a check of the whole table counts them, with a mark for each place.
+//! How a check of a whole table counts the members of each collection and marks their places.
 //!
 //! ```text
 //! let members = list.gather(&links, &mut marks)?; // they were unmarked, and are marked now
@@ -19,21 +19,21 @@ ghost use Rattle.ic_check.specs.WholeTables.{AreUnmarked, MarksAlso, MarksLinked
 use crate::kinds::TellsNeighbors;
 use crate::tells::TellsLinks;
 use crate::tree::check_tree;
-use ic_chain::Chain;
+use ic_chain::LinkList;
 use ic_link_ops::Side;
 use ic_link_ops::rbtree::RBTreeOps;
 use ic_rbtree::RBTree;
 
 /// A collection that a check of a whole table can count and mark: a list of any kind, or a tree.
 pub trait Gather<L: TellsLinks> {
-    // Which sequence a table represents for it.
+    // The statement that a table represents a sequence for the collection.
     ghost Represents: { Self → Table L.Entry → List Place → Type 0 };
 
-    /// Marks the members of the collection and returns their number; `None` if the table represents no sequence for it, or if one of its members
-    /// was marked before.
+    /// Marks the members of the collection and returns their number. The result is `None` if the table represents no sequence for the collection, or if one of
+    /// its members was marked before.
     ///
-    /// It requires nothing of the words, but a mark for each place that the table covers. It marks only linked places. O(n) for n members. It
-    /// takes no memory.
+    /// The call requires nothing of the words, but there must be a mark for each place that the table covers. The call marks only linked places. O(n) for n
+    /// members. The call takes no memory.
     fn gather(&self, links: &L, marks: &mut [bool]) -> Option<usize>
         requires room { (L.table links.now).extent.places ≤ length marks.old }
         ensures gathered { MatchOption result (RepresentsNoneUnmarked (Represents self.now (L.table links.now)) marks.old)
@@ -41,13 +41,13 @@ pub trait Gather<L: TellsLinks> {
         ensures only { MarksLinked L.linked (L.table links.now) marks.old marks.new }
         ensures length { length marks.new ≡ length marks.old };
 
-    // The laws: at most one sequence is represented, and no place occurs twice in it.
+    // The laws: a table represents at most one sequence for a collection, and no place occurs twice in this sequence.
     ghost represents_one: { (c : Self) (t : Table L.Entry) (s r : List Place) → Represents c t s → Represents c t r → s ≡ r };
 
     ghost represents_distinct: { (c : Self) (t : Table L.Entry) (s : List Place) → Represents c t s → IsDistinct s };
 }
 
-impl<K: TellsNeighbors<L>, T, L: TellsLinks> Gather<L> for Chain<K, T> {
+impl<K: TellsNeighbors<L>, T, L: TellsLinks> Gather<L> for LinkList<K, T> {
     ghost Represents = { λ list t s. RepresentsChain K.Between K.kept t list s };
 
     fn gather(&self, links: &L, marks: &mut [bool]) -> Option<usize> {
@@ -102,7 +102,7 @@ impl<A, L: RBTreeOps + TellsLinks> Gather<L> for RBTree<A> {
     ghost represents_distinct = { λ tree t s h. h.held.distinct };
 }
 
-// Marks the members of a tree with this number of members, and returns whether none of them was marked before.
+// Marks the members of a tree that has `count` members, and returns whether none of them was marked before.
 fn mark<A, L: RBTreeOps + TellsLinks>(
     tree: &RBTree<A>,
     links: &L,

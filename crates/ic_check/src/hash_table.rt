@@ -26,10 +26,9 @@ use ic_unsafe_ref::{Place, Values};
 
 /// Whether the links hold a sequence of members for the hash table.
 ///
-/// It returns true exactly if each chain ends, no place occurs twice, each member has an object that belongs in the member's chain, and
-/// there are as many members as the table has counted. It requires nothing of the words of the links and of the buckets. O(b + n) for b
-/// buckets and n members, with one hash for each member and no comparison, and at most as many further steps as the links cover places. It
-/// takes no memory.
+/// The check returns true exactly if each chain ends, no place occurs twice, and each member has an object whose hash leads to the member's chain. There must
+/// also be as many members as the table has counted. The check requires nothing of the words of the links and of the buckets. O(b + n) for b buckets and n
+/// members, with one hash for each member and no comparison, and at most as many further steps as the links cover places. The check takes no memory.
 pub fn check_hash_table<
     A: HashAdapter,
     B: BucketRow,
@@ -53,8 +52,8 @@ pub fn check_hash_table<
     members == table.len()
 }
 
-// The number of members of chain `at`; `None` if the table represents no sequence for it, or if a member of it is not placed, or belongs in
-// another chain.
+// Returns the number of members of chain `at`. The result is `None` if the table represents no sequence for this chain, or if a member has no object, or one
+// that belongs in another chain.
 fn check_chain<
     A: HashAdapter,
     B: BucketRow,
@@ -79,7 +78,7 @@ fn check_chain<
     }
 }
 
-// Whether each member of a chain is placed, and belongs in chain `at`.
+// Returns whether each member of a chain has an object that belongs in chain `at`.
 fn are_own<A: HashAdapter, B, L: SinglyLinkedListOps, O: TellsPlaced<A::Value>>(
     table: &HashTable<A, B>,
     links: &L,
@@ -102,7 +101,7 @@ fn are_own<A: HashAdapter, B, L: SinglyLinkedListOps, O: TellsPlaced<A::Value>>(
     true
 }
 
-// Whether the place has an object that belongs in chain `at`.
+// Returns whether the place has an object that belongs in chain `at`.
 fn is_own<A: HashAdapter, B, O: TellsPlaced<A::Value>>(
     table: &HashTable<A, B>,
     objects: &O,

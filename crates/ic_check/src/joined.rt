@@ -1,4 +1,4 @@
-//! Tables of XOR links in which every entry of a linked place joins any given place with some other.
+//! Tables of XOR links in which the entry of each linked place joins any given place with some other place.
 //!
 //! ```text
 //! // The word of a linked place is that of a place, of none, or the exclusive or of two of these. So beside each place it names another
@@ -19,9 +19,9 @@ use ic_link_ops::{
 };
 use std::alloc::Allocator;
 
-/// Words whose next word, if the place is linked, is that of a place, of none, or the exclusive or of two of these.
+/// Link words of a place. If the place is linked, its next word is the word of a place, the word of none, or the exclusive or of two such words.
 pub trait KeepsWord: NextWord {
-    // The law: lists of the kind store their last member.
+    // The law: the next word of a linked place is the word of a place, the word of none, or the exclusive or of two such words.
     ghost keeps_word: { (w : Self) → Self.is_linked w ≡ true → IsWord (Self.next_word w) };
 }
 
@@ -41,12 +41,11 @@ impl KeepsWord for TwoNarrowWords {
     ghost keeps_word = { λ w is. two_narrow_words w is };
 }
 
-/// A table of XOR links. Given any place or none as one neighbor, each entry of a linked place yields another neighbor,
-/// and joins the two.
+/// A table of XOR links. For any place or none as one neighbor, the entry of a linked place yields another neighbor, and the entry joins these two.
 ///
 /// Plain tables, lent tables and tables of claimed links have this property.
 pub trait JoinsAny: XorLinkedListOps {
-    // The law: lists of the kind store their last member.
+    // The law: for any place or none as one neighbor, the entry of a linked place joins this neighbor with the other neighbor that it yields.
     ghost joins_any: { (e : Self.Entry) (a : Option Place) → Self.linked e ≡ true → Self.HasNeighbors e a (Self.other e a) };
 }
 

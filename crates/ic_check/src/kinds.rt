@@ -1,4 +1,4 @@
-//! The kinds of lists, as a walk from the front checks them.
+//! What a walk from the front of a list tests at each place, for each kind of list.
 //!
 //! ```text
 //! DoublyLinked::names_prev(&links, place, prev) // whether the entry of the place names `prev`
@@ -10,7 +10,7 @@ ghost use Rattle.std.proofs.Common.{refl};
 ghost use Rattle.ic_link_ops.specs.Prelude.{Place, IsLinked};
 
 use crate::joined::JoinsAny;
-use ic_chain::{Chain, ForwardLinks};
+use ic_chain::{ForwardLinks, LinkList};
 use ic_link_ops::LinkOps;
 use ic_link_ops::linked_list::LinkedListOps;
 use ic_link_ops::singly_linked_list::SinglyLinkedListOps;
@@ -19,27 +19,26 @@ use ic_singly_linked_list::SinglyLinked;
 use ic_unsafe_ref::Place;
 use ic_xor_linked_list::XorLinked;
 
-/// A kind of lists that can test whether a place is after the one from which a walk reached it.
+/// A kind of lists that can test whether the entry of a place agrees with the place from which a walk came to it.
 ///
 /// Each kind has this test: doubly and singly linked lists over all tables, and XOR lists over tables that are
 /// [`JoinsAny`].
 pub trait TellsNeighbors<L: LinkOps>: ForwardLinks<L> {
-    /// Whether `place` is after `prev` according to its entry. It requires that the place is linked. At most one reading.
+    /// Returns whether `place` comes after `prev`, as the entry of `place` says. The call requires that the place is linked. The call reads at most one entry.
     fn names_prev(links: &L, place: Place, prev: Option<Place>) -> bool
         requires linked { IsLinked L.linked (L.table links.now) place }
         ensures { Decides result (Self.Between ((L.table links.now).entry place) prev (Self.step ((L.table links.now).entry place) prev)) };
 
-    /// Whether the list stores `last` as its last member, if it stores one. It reads no links.
-    fn ends_with<T>(list: &Chain<Self, T>, last: Option<Place>) -> bool
+    /// Returns whether the list stores `last` as its last member, if lists of this kind store their last member. The call reads no links.
+    fn ends_with<T>(list: &LinkList<Self, T>, last: Option<Place>) -> bool
         ensures { Decides result (list.now.tail ≡ Self.kept last) };
 }
 
 /// A kind of lists whose entries alone name the next place, so a walk that ends has met no place twice.
 ///
-/// Doubly and singly linked lists have this property, and XOR lists do not: with another neighbor before it, an entry
-/// leads to another place.
+/// Doubly and singly linked lists have this property, and XOR lists do not: an entry of an XOR list leads to another place if another neighbor is before it.
 pub trait NamesItsNext<L: LinkOps>: TellsNeighbors<L> {
-    // The law: the entry determines the next place, whatever place is before.
+    // The law: the entry of a place determines the next place, whatever place is before.
     ghost tells_after: { (e : L.Entry) (b c : Option Place) → Self.step e b ≡ Self.step e c };
 }
 
@@ -50,7 +49,7 @@ impl<L: LinkedListOps> TellsNeighbors<L> for DoublyLinked {
     }
 
     #[inline]
-    fn ends_with<T>(list: &Chain<DoublyLinked, T>, last: Option<Place>) -> bool {
+    fn ends_with<T>(list: &LinkList<DoublyLinked, T>, last: Option<Place>) -> bool {
         is_same(list.last(), last)
     }
 }
@@ -69,7 +68,7 @@ impl<L: SinglyLinkedListOps> TellsNeighbors<L> for SinglyLinked {
     }
 
     #[inline]
-    fn ends_with<T>(list: &Chain<SinglyLinked, T>, last: Option<Place>) -> bool {
+    fn ends_with<T>(list: &LinkList<SinglyLinked, T>, last: Option<Place>) -> bool {
         let _ = list;
         let _ = last;
         true
@@ -90,12 +89,12 @@ impl<L: JoinsAny> TellsNeighbors<L> for XorLinked {
     }
 
     #[inline]
-    fn ends_with<T>(list: &Chain<XorLinked, T>, last: Option<Place>) -> bool {
+    fn ends_with<T>(list: &LinkList<XorLinked, T>, last: Option<Place>) -> bool {
         is_same(last, list.last())
     }
 }
 
-// Whether two optional places are the same: one comparison of words.
+// Returns whether two ends are the same place or both none. The call makes one comparison of words.
 #[inline]
 pub(crate) fn is_same(a: Option<Place>, b: Option<Place>) -> bool
     ensures { Decides result (a ≡ b) }

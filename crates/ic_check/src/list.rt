@@ -10,12 +10,15 @@ ghost use Rattle.ic_check.specs.Checked.{IsRepresented, RepresentsNone};
 
 use crate::kinds::NamesItsNext;
 use crate::tells::TellsLinks;
-use ic_chain::Chain;
+use ic_chain::LinkList;
 
-/// The number of members that the table represents for the list, `None` if it represents no sequence for it.
+/// Returns the number of members that the table represents for the list, or `None` if it represents no sequence for the list.
 ///
-/// It requires nothing of the words. O(n) for n members, and at most as many steps as the table covers places. It takes no memory.
-pub fn check<K: NamesItsNext<L>, T, L: TellsLinks>(list: &Chain<K, T>, links: &L) -> Option<usize>
+/// The check requires nothing of the words. O(n) for n members, and at most as many steps as the table covers places. The check takes no memory.
+pub fn check<K: NamesItsNext<L>, T, L: TellsLinks>(
+    list: &LinkList<K, T>,
+    links: &L,
+) -> Option<usize>
     ensures { MatchOption result (RepresentsNone (RepresentsChain K.Between K.kept (L.table links.now) list.now))
         (IsRepresented (RepresentsChain K.Between K.kept (L.table links.now) list.now)) }
 {

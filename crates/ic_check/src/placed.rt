@@ -15,7 +15,7 @@ use std::alloc::Allocator;
 ///
 /// Such sources are [`Objects`], a slice or a `Vec` by the index of the place, and plain and lent tables with values beside their links.
 pub trait TellsPlaced<V>: Values<V> {
-    /// Whether `place` has a value. It requires nothing of the place. One look-up, O(1).
+    /// Returns whether `place` has a value. The call requires nothing of the place. One look-up, O(1).
     fn tells_placed(&self, place: Place) -> bool
         ensures { result ≡ is_placed (Self.values self.now) place };
 }
@@ -27,7 +27,7 @@ impl<V, A: Allocator> TellsPlaced<V> for Objects<V, A> {
     }
 }
 
-// Whether the index of the place is in range.
+// Returns whether the slice `values` has an entry for the index of the place.
 #[inline]
 fn is_in_range<V>(values: &[V], place: Place) -> bool
     ensures { result ≡ is_placed (at_indexes values.now) place }

@@ -17,11 +17,10 @@ use ic_rbtree::{KeyAdapter, RBTree};
 use ic_unsafe_ref::Values;
 use std::cmp::Ordering;
 
-/// Whether no member's key is less than that of the member before it. In such a tree `find` returns the first member
-/// with a key.
+/// Returns whether no member's key is less than the key of the member before it. In a tree in this order, `find` returns the first member with a given key.
 ///
-/// It requires that all members are placed. O(n) for n members, with at most n - 1 comparisons, and no memory: two walks advance
-/// together.
+/// The check requires that each member has an object. O(n) for n members, with at most n - 1 comparisons. The check takes no memory, because it makes two walks
+/// that advance together.
 pub fn is_sorted<A: KeyAdapter, L: RBTreeOps, O: Values<A::Value>>(
     tree: &RBTree<A>,
     links: &L,
@@ -47,7 +46,7 @@ pub fn is_sorted<A: KeyAdapter, L: RBTreeOps, O: Values<A::Value>>(
     true
 }
 
-// Whether the key of the second value is less than that of the first.
+// Returns whether the key of the second value is less than the key of the first value.
 fn falls<A: KeyAdapter>(adapter: A, first: &A::Value, second: &A::Value) -> bool
     ensures { Decides result (A.Key.cmp (A.key_of adapter first.now) (A.key_of adapter second.now) ≡ Greater) }
 {

@@ -11,16 +11,15 @@ use ic_link_ops::{LentTable, LinkOps, LinkValue, PlainTable, Words};
 use ic_unsafe_ref::Place;
 use std::alloc::Allocator;
 
-/// A table that can return how many places it covers, and whether any place is linked. A place that it doesn't cover is not
-/// linked.
+/// A table that can return how many places it covers, and whether any place is linked. A place that the table doesn't cover is not linked.
 ///
 /// Plain tables of every kind, lent tables and tables of claimed links have these calls.
 pub trait TellsLinks: LinkOps {
-    /// The number of places that are covered. A place is covered if its index is smaller than this number. O(1).
+    /// Returns the number of places that the table covers. A place is covered if its index is smaller than this number. O(1).
     fn covered_places(&self) -> usize
         ensures { result ≡ (Self.table self.now).extent.places };
 
-    /// Whether the place is linked. It requires nothing of the place. O(1).
+    /// Returns whether the place is linked. The call requires nothing of the place. O(1).
     fn tells_linked(&self, place: Place) -> bool
         ensures { result ≡ Self.linked ((Self.table self.now).entry place) };
 }

@@ -19,12 +19,10 @@ use ic_link_ops::rbtree::RBTreeOps;
 use ic_rbtree::RBTree;
 use ic_unsafe_ref::Place;
 
-// The greatest height of a tree of the right shape: one with n members and height h has 2^h <= (n + 1)^2, and there are fewer
-// than 2^33 places.
+// The greatest height of a red-black tree: a red-black tree with n members and height h has 2^h <= (n + 1)^2, and there are fewer than 2^33 places.
 const HIGHEST: u32 = 66;
 
-// The result for a subtree: the number of its members, the number of black members on each path down, and the color of
-// its root.
+// What the check finds out about a subtree: the number of its members, the number of black members on each path down, and the color of its root.
 #[derive(Clone, Copy, Drop)]
 struct Subtree {
     members: usize,
@@ -32,11 +30,10 @@ struct Subtree {
     color: Color,
 }
 
-/// The number of members that the table represents for the tree, `None` if it represents no tree of the right shape with
-/// this root.
+/// Returns the number of members that the table represents for the tree, or `None` if it represents no red-black tree with this root.
 ///
-/// It requires nothing of the words. Each child has to name the member above it as its parent, so the check visits no place twice:
-/// O(n) for n visited members, with at most 67 nested calls. It takes no memory.
+/// The check requires nothing of the words. Each child has to name the member above it as its parent, so the check visits no place twice. O(n) for n visited
+/// members, with at most 67 nested calls. The check takes no memory.
 pub fn check_tree<A, L: RBTreeOps + TellsLinks>(tree: &RBTree<A>, links: &L) -> Option<usize>
     ensures { MatchOption result (RepresentsNone (Represents L.node (L.table links.now) (root_of tree.now)))
         (IsRepresented (Represents L.node (L.table links.now) (root_of tree.now))) }
@@ -50,8 +47,8 @@ pub fn check_tree<A, L: RBTreeOps + TellsLinks>(tree: &RBTree<A>, links: &L) -> 
     }
 }
 
-// The result for the subtree at `place` below `parent`, `None` if it is not a tree of the right shape with at most this many
-// levels. Each nested call has one level less, so at most 67 calls are nested.
+// Returns the result for the subtree at `place` below `parent`, or `None` if this is not a part of a red-black tree with at most `levels` levels. Each nested
+// call gets one level less, so at most 67 calls are nested.
 fn check_below<L: RBTreeOps + TellsLinks>(
     links: &L,
     place: Option<Place>,
@@ -93,8 +90,7 @@ fn check_below<L: RBTreeOps + TellsLinks>(
     join(links.color(place), left, right)
 }
 
-// The result for a member of this color with these subtrees, `None` if together they are not a subtree of the right
-// shape.
+// Returns the result for a member of the given color with two subtrees, or `None` if the three together are not a part of a red-black tree.
 fn join(color: Color, left: Subtree, right: Subtree) -> Option<Subtree>
     requires few { left.members + right.members ≤ 8589934591 }
     requires low { left.blacks < 4294967295 }
@@ -113,14 +109,14 @@ fn join(color: Color, left: Subtree, right: Subtree) -> Option<Subtree>
     })
 }
 
-// Whether the two ends are not the same place.
+// Returns whether two children are different places, if both exist.
 fn are_apart(left: Option<Place>, right: Option<Place>) -> bool
     ensures { Decides result (AreApart left right) }
 {
     left.is_none() || !is_same(left, right)
 }
 
-// Whether a member of this color may have children of the other two colors.
+// Returns whether a member of the color `color` may have children of the colors `left` and `right`: a red member may not have a red child.
 fn are_no_red_pair(color: Color, left: Color, right: Color) -> bool
     ensures { Decides result (AreNoRedPair color left right) }
 {
@@ -136,7 +132,7 @@ fn are_no_red_pair(color: Color, left: Color, right: Color) -> bool
     }
 }
 
-// 1 for a black member.
+// Returns 1 for a black member, and 0 for a red member.
 fn weight_of(color: Color) -> u32
     ensures { result ≡ weight color }
 {

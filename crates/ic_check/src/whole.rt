@@ -1,4 +1,4 @@
-//! Checks with a mark for each place: of a list of any kind, and of a whole table.
+//! Checks that use a mark for each place: the check of a list of any kind, and the check of a whole table.
 //!
 //! ```text
 //! check_marking(&xor_list, &links, &mut marks)     // Some(3): the table represents three members for the list
@@ -16,20 +16,20 @@ ghost use Rattle.ic_check.specs.WholeTables.{RepresentsAll, RepresentsBoth, Repr
 use crate::gather::Gather;
 use crate::kinds::TellsNeighbors;
 use crate::tells::TellsLinks;
-use ic_chain::Chain;
+use ic_chain::LinkList;
 use ic_unsafe_ref::Place;
 
-// The greatest number of places that have words.
+// The greatest number of places: there are words for this many places.
 const ALL_PLACES: usize = 8_589_934_591;
 
-/// The number of members that the table represents for the list, `None` if it represents no sequence for it: the check of a list of
-/// any kind.
+/// Returns the number of members that the table represents for a list of any kind, or `None` if it represents no sequence for the list.
 ///
-/// If the entries of a list do not name the next place by themselves, a walk may visit a place twice and still end right. So the check takes a
-/// mark for each place that the table covers; the old values of the marks do not matter. If it returns a number, exactly the members are marked
-/// then. If it returns `None`, it has marked only linked places. It requires nothing of the words. O(n) for n places. It takes no memory.
+/// If the entries of a list do not name the next place by themselves, a walk may visit a place twice and still end as the list requires. The check finds such a
+/// repetition because it takes a mark for each place that the table covers. The old values of the marks do not matter. If the check returns a number, exactly
+/// the members are marked afterwards. If the check returns `None`, it has marked only linked places. The check requires nothing of the words. O(n) for n
+/// places. The check takes no memory.
 pub fn check_marking<K: TellsNeighbors<L>, T, L: TellsLinks>(
-    list: &Chain<K, T>,
+    list: &LinkList<K, T>,
     links: &L,
     marks: &mut [bool],
 ) -> Option<usize>
@@ -44,11 +44,11 @@ pub fn check_marking<K: TellsNeighbors<L>, T, L: TellsLinks>(
     list.gather(links, marks)
 }
 
-/// The number of members of all these collections together; `None` if the table represents no sequence for one of them, if two share a place,
-/// or if a place is linked that is not a member.
+/// Returns the number of members of all given collections together. The result is `None` if the table represents no sequence for one of them, if two share a
+/// place, or if a place is linked that is not a member.
 ///
-/// The collections are lists of one kind, or trees. It requires nothing of the words, but a mark for each place that the table covers;
-/// the old values of the marks do not matter. It leaves marks as [`check_marking`] does. O(n) for n places. It takes no memory.
+/// The collections are lists of one kind, or trees. The check requires nothing of the words, but there must be a mark for each place that the table covers. The
+/// old values of the marks do not matter. The check leaves marks as [`check_marking`] does. O(n) for n places. The check takes no memory.
 pub fn check_all<C: Gather<L>, L: TellsLinks>(
     collections: &[C],
     links: &L,
@@ -74,8 +74,8 @@ pub fn check_all<C: Gather<L>, L: TellsLinks>(
     }
 }
 
-/// Checks a table with collections of two kinds, such as lists and trees, as [`check_all`] does. It requires and costs what [`check_all`] does, and
-/// leaves marks in the same way.
+/// Checks a table with collections of two kinds, such as lists and trees, as [`check_all`] does. The call has the requirements and the cost of [`check_all`],
+/// and leaves marks as [`check_all`] does.
 pub fn check_both<C: Gather<L>, D: Gather<L>, L: TellsLinks>(
     first: &[C],
     second: &[D],
@@ -108,8 +108,8 @@ pub fn check_both<C: Gather<L>, D: Gather<L>, L: TellsLinks>(
     }
 }
 
-// Marks the members of all these collections, and returns their number; `None` if the table represents no sequence for one of them, if two share a
-// place, or if one of the members was marked before.
+// Marks the members of all given collections, and returns their number. The result is `None` if the table represents no sequence for one of them, if two of
+// them share a place, or if one of the members was marked before.
 fn gather_each<C: Gather<L>, L: TellsLinks>(
     collections: &[C],
     links: &L,
@@ -146,7 +146,7 @@ fn clear(marks: &mut [bool])
     }
 }
 
-// Whether each linked place is marked.
+// Returns whether each linked place is marked.
 fn are_all_marked<L: TellsLinks>(links: &L, marks: &[bool]) -> bool
     requires room { (L.table links.now).extent.places ≤ length marks.now }
     ensures { Decides result ((p : Place) → IsLinked L.linked (L.table links.now) p → is_marked marks.now p ≡ true) }
@@ -159,7 +159,7 @@ fn are_all_marked<L: TellsLinks>(links: &L, marks: &[bool]) -> bool
     true
 }
 
-// Whether the place with that index is linked, and not marked.
+// Returns whether the place with the given index is linked and not marked.
 fn is_missed<L: TellsLinks>(links: &L, marks: &[bool], index: usize) -> bool
     requires few { index < length marks.now }
     ensures { Decides result (IsMissed L.linked (L.table links.now) marks.now index) }
@@ -173,7 +173,7 @@ fn is_missed<L: TellsLinks>(links: &L, marks: &[bool], index: usize) -> bool
     !marks[index]
 }
 
-// The place with that index, `None` if there is no such place.
+// Returns the place with the given index, or `None` if no place has this index.
 fn place_at(index: usize) -> Option<Place>
     ensures { MatchOption result (8589934591 ≤ index) (λ place. index_of place ≡ index) }
 {

@@ -1,4 +1,4 @@
--- For callers: an edit, out of the clauses of the call that made it.
+-- A caller proves with these lemmas which edit a call has made, from the clauses of the call's contract.
 use Rattle.std.proofs.Common.{◌≡◌, true, Bool, Result, Ok, Err, OnOk, OnErr, Some, List, [], ◌∷◌, ◌++◌, drop, sym, subst, append-nil}
 use Rattle.std.specs.declared.cmp.Ordering.{Ordering}
 use Rattle.ic_link_ops.specs.Prelude.{Place, Cut, first, Table, IsUnlinked, ChangesOnlyIn, KeepsLinked, LinksAlso, Unlinks, HasMember}
@@ -7,7 +7,7 @@ use Rattle.ic_link_ops.proofs.SequenceLemmas.{first_is}
 use Rattle.ic_cursors.specs.Ordered.{InsertsInOrder}
 use Rattle.ic_container.specs.Edited.{HasJoined, HasLeft, HasMoved}
 
--- what follows from what an accepted call did, and from what a refusal says
+-- a fact holds if the call was accepted and its result implies the fact, and it also holds if the refusal gives it
 pub done : {X Y P Q : Type 0} (r : Result X Y) → (P → Q) → OnOk r P → OnOk r Q
 done (Ok x) law h = law h
 done (Err y) law h = h
@@ -17,7 +17,7 @@ refused_linked (Ok x) law h = h
 refused_linked (Err y) law h = (law h, h)
 
 module _ {E H : Type 0} {Represents : Table E → H → List Place → Type 0} {linked : E → Bool} {old new : Table E} {head after : H} {p : Place} (s : List Place) (shown : Represents old head s) where
-  -- A PUSH of what was not linked: `refused`, `inserted`, `acquired` and `frame` are its clauses
+  -- A PUSH of a place that was not linked is an edit in which the place joins. `refused`, `inserted`, `acquired` and `frame` are clauses of the call
   module _ {X Y : Type 0} (Same : Type 0) (r : Result X Y) (off : IsUnlinked linked old p) (refused : OnErr r ((linked (old.entry p) ≡ true) × Same)) where
     pub joined_front : ((s : List Place) → Represents old head s → OnOk r (Represents new after (p ∷ s))) → OnOk r (LinksAlso linked old new p)
         → ((s : List Place) → Represents old head s → ChangesOnlyIn old new (p ∷ s)) → HasJoined Represents linked old new head after [] p s
@@ -32,14 +32,14 @@ module _ {E H : Type 0} {Represents : Table E → H → List Place → Type 0} {
       frame = subst (λ (l : List Place). ChangesOnlyIn old new (p ∷ l)) (sym (append-nil s)) (frame s shown);
     }
 
-    -- AN INSERT in order
+    -- AN INSERT IN ORDER is an edit in which the place joins at some gap
     pub joined_sorted : (at : Place → Ordering) → ((s : List Place) → Represents old head s → OnOk r (InsertsInOrder Represents at old new after s p)) → OnOk r (LinksAlso linked old new p)
         → (gap : Cut) × HasJoined Represents linked old new head after gap.front p gap.back
     joined_sorted at inserted acquired =
         let i = accepted Same r off refused (inserted s shown) in
         (i.gap, record { was = subst (Represents old head) (sym i.same) shown; is = i.inserted.shows; also = accepted Same r off refused acquired; frame = i.inserted.frame })
 
-  -- A POP: `answer`, `removed`, `released` and `frame` are its clauses
+  -- A POP is an edit in which the first member leaves. `answer`, `removed`, `released` and `frame` are clauses of the call
   pub left_front : ((s : List Place) → Represents old head s → Some p ≡ first s) → ((s : List Place) → Represents old head s → Represents new after (drop 1 s)) → Unlinks linked old new p
       → ((s : List Place) → Represents old head s → ChangesOnlyIn old new s) → HasLeft Represents linked old new head after [] p (drop 1 s)
   left_front answer removed off frame =
@@ -47,12 +47,12 @@ module _ {E H : Type 0} {Represents : Table E → H → List Place → Type 0} {
       record { was = subst (Represents old head) begins shown; is = removed s shown; off = off; frame = subst (ChangesOnlyIn old new) begins (frame s shown) }
 
 module _ {E H : Type 0} {Represents : Table E → H → List Place → Type 0} {linked : E → Bool} {old new : Table E} {head after : H} {p : Place} where
-  -- A REMOVAL from anywhere: `removed`, `released` and `frame` are its clauses
+  -- A REMOVAL of any member is an edit in which this member leaves. `removed`, `released` and `frame` are clauses of the call
   pub left : (at : HasMember (Represents old head) p) → ((front back : List Place) → Represents old head (front ++ p ∷ back) → Represents new after (front ++ back)) → Unlinks linked old new p
       → ((s : List Place) → Represents old head s → ChangesOnlyIn old new s) → HasLeft Represents linked old new head after at.front p at.back
   left at removed off frame = record { was = at.shown; is = removed at.front at.back at.shown; off = off; frame = frame (at.front ++ p ∷ at.back) at.shown }
 
-  -- A MOVE of a member, which stays linked: `is`, `keeps` and `frame` are its clauses
+  -- A MOVE is an edit in which a member gets another position and stays linked. `is`, `keeps` and `frame` are clauses of the call
   pub moved_linked : {before following : List Place} (at : HasMember (Represents old head) p) → at.front ++ at.back ≡ before ++ following → Represents new after (before ++ p ∷ following)
       → KeepsLinked linked old new → ((s : List Place) → Represents old head s → ChangesOnlyIn old new s) → HasMoved Represents linked old new head after at.front p at.back before following
   moved_linked at rest is keeps frame = record { was = at.shown; rest = rest; is = is; keeps = keeps; frame = frame (at.front ++ p ∷ at.back) at.shown }

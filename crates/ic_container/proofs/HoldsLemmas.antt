@@ -1,4 +1,4 @@
--- For callers: what a container keeps, after each kind of step.
+-- A container's invariant holds after each kind of step, and its callers prove this by these lemmas.
 use Rattle.std.proofs.Common.{◌≡◌, ◌≢◌, ℕ, Bool, true, false, cond, Option, Some, None, List, [], ◌∷◌, ◌++◌, refl, sym, ap, ◌∙◌, subst, arith, map, slice_index_or}
 use Rattle.std.proofs.Math.ListN.{get_or-map}
 use Rattle.std.proofs.lemmas.Bool.{false_from_ne_true}
@@ -30,12 +30,12 @@ use Rattle.ic_container.specs.Holds.{rows_of, Holds, members_in}
 use Rattle.ic_container.specs.ListReadings.{ReadsLists}
 use Rattle.ic_container.proofs.RowLemmas.{at_row, rows_apart, housed_same, housed_joined, housed_left, housed_moved, joins_from, owner_placed, owners_placed, owner_freed, owners_freed}
 
--- how a container reads its tables: the five facts of a kind, and that the members are what is represented
+-- a container reads its tables by the five laws of a kind of collection, and `members` gives the sequence that a table represents
 pub record Reading {L E H : Type 0} (Represents : Table E → H → List Place → Type 0) (linked : E → Bool) (empty : H) (table : L → Table E) (members : L → H → List Place) : Type 0 where
   pub kind : IsKind Represents linked empty
   pub members_are : (links : L) (head : H) (s : List Place) → Represents (table links) head s → members links head ≡ s
 
--- of a table of lists, of whatever width
+-- a container can read a table of lists, whatever the width of its words is
 module _ {L E : Type 0} {neighbors : E → Neighbors} {linked : E → Bool} {table : L → Table E} (reads : ReadsLists neighbors linked table) where
   pub list_reading : Reading (lists.Represents neighbors) linked no_members table (members_in neighbors table)
   list_reading = record {
@@ -43,11 +43,11 @@ module _ {L E : Type 0} {neighbors : E → Neighbors} {linked : E → Bool} {tab
     members_are = λ links head s shown. members_represented (table links) (neighbors_covered neighbors table reads.covered reads.alike links) head s shown;
   }
 
-  -- A TABLE WITH NO PLACE links nothing
+  -- A TABLE WITH ROOM FOR NO PLACE has no linked place
   pub nothing_linked : (links : L) → (table links).extent.places ≡ 0 → (p : Place) → IsUnlinked linked (table links) p
   nothing_linked links none p = false_from_ne_true _ (λ is. let within = reads.covered links p is in absurd (omega (arith, within, none)))
 
--- A PLAIN TABLE has these laws, of whatever width its words are
+-- A PLAIN TABLE obeys the laws of a table of lists, whatever the width of its words is
 module _ {W A : Type 0} (width : Width) (unlinked : W) (is_linked : W → Bool) (next_word : W → ℕ) (prev : W → Option Place) where
   pub plain_reads : is_linked unlinked ≡ false → ReadsLists (neighbors_of next_word is_linked prev) (linked_by is_linked) (plain.table {A = A} width unlinked)
   plain_reads starts = record {
@@ -55,14 +55,14 @@ module _ {W A : Type 0} (width : Width) (unlinked : W) (is_linked : W → Bool) 
     covered = λ links p is. linked_in_range (linked_by is_linked) (link_of unlinked) starts (nameable width (entries links)) (index_of p) is;
   }
 
--- and one of 8-byte words
+-- a plain table of 8-byte words obeys the laws of a table of lists
 pub wide_reads : {A : Type 0} → ReadsLists doubly.neighbors_of doubly.is_linked (doubly.plain_table {A = A})
 wide_reads = plain_reads wide no_words has_words next_word_of prev_of refl
 
 pub list_off : {A : Type 0} (links : doubly.DoublyLinkOps A) → (doubly.plain_table links).extent.places ≡ 0 → (p : Place) → IsUnlinked doubly.is_linked (doubly.plain_table links) p
 list_off = nothing_linked wide_reads
 
--- the homes without that of p
+-- the place p belongs to no row, and each other place belongs where `owner` says
 pub ownerless : Place → (Place → Option ℕ) → Place → Option ℕ
 ownerless p owner q = cond (is_end (Some p) q) None (owner q)
 
@@ -84,7 +84,7 @@ module _ {L E H : Type 0} {Represents : Table E → H → List Place → Type 0}
   itself : (links : L) (head : H) {s : List Place} → Represents (table links) head s → Represents (table links) head (members links head)
   itself links head {s} shown = subst (Represents (table links) head) (sym (reading.members_are links head s shown)) shown
 
-  -- AT FIRST: nothing has a home, and nothing is linked
+  -- AT FIRST no place belongs to a row, and no place is linked
   module _ (links : L) {heads : ℕ → H} (none : (i : ℕ) → heads i ≡ empty) where
     pub none_stand : (i : ℕ) → rows_of members links heads i ≡ []
     none_stand i = reading.members_are links (heads i) [] (rw (none i) (reading.kind.nothing (table links)))
@@ -99,7 +99,7 @@ module _ {L E H : Type 0} {Represents : Table E → H → List Place → Type 0}
       only = λ p at. off p;
     }
 
-  -- the rows of a list of collections, as a list of sequences
+  -- if a list has the heads of all collections, row i is item i of the list of their sequences
   pub rows_seen : (links : L) (heads : List H) → Stays (rows_of members links (listed empty heads)) (listed [] (map (members links) heads))
   rows_seen links heads i =
       let nothing : members links empty ≡ [] = reading.members_are links empty [] (reading.kind.nothing (table links)) in
@@ -109,7 +109,7 @@ module _ {L E H : Type 0} {Represents : Table E → H → List Place → Type 0}
     abbrev rows : Rows
     rows = rows_of members links heads
 
-    -- a place that is at home in row i stands in it
+    -- a place that belongs to row i is a member of row i
     module _ (i : ℕ) (p : Place) (at : owner p ≡ Some i) where
       pub stands_at : (front : List Place) × (back : List Place) × (rows_of members links heads i ≡ front ++ p ∷ back)
       stands_at = member_split p (rows_of members links heads i) (k.housed.all p i at)
@@ -117,7 +117,7 @@ module _ {L E H : Type 0} {Represents : Table E → H → List Place → Type 0}
       pub stands : HasMember (Represents (table links) (heads i)) p
       stands = has_member (Represents (table links) (heads i)) (rows_of members links heads i) (k.shown i) (k.housed.all p i at)
 
-    -- AFTER `cover`, or `place`, whatever it answered
+    -- AFTER `cover` or `place`, whatever the call returned, the invariant holds for the table that may have grown
     module _ (grown : L) (grows : Grows (table links) (table grown)) where
       still_represented : (i : ℕ) → Represents (table grown) (heads i) (rows_of members links heads i)
       still_represented i = kept_represented reading.kind grows.entries (k.shown i)
@@ -132,11 +132,11 @@ module _ {L E H : Type 0} {Represents : Table E → H → List Place → Type 0}
         only = λ p at. rw (grows.entries p) (k.only p at);
       }
 
-    -- WHERE ALL ARE AT HOME where they were
+    -- IF EACH PLACE BELONGS where it belonged before, the invariant still holds
     pub holds_same : {other : Place → Option ℕ} → ((p : Place) → other p ≡ owner p) → Holds Represents linked table members links heads other
     holds_same same = record { shown = k.shown; housed = housed_same k.housed same; only = λ p at. k.only p (sym (same p) ∙ at) }
 
-    -- AN EDIT of collection j
+    -- ONE EDIT of collection j leaves all other collections as they were
     module _ (j : ℕ) (new : L) {front : List Place} {p : Place} {back : List Place} {after : ℕ → H} (others : (i : ℕ) → i ≢ j → after i ≡ heads i) where
       module _ (e : HasJoined Represents linked (table links) (table new) (heads j) (after j) front p back) where
         joins_was : rows_of members links heads j ≡ front ++ back
@@ -157,7 +157,7 @@ module _ {L E H : Type 0} {Represents : Table E → H → List Place → Type 0}
           others = λ i n. reading.members_are new (after i) (rows_of members links heads i) (joins_still i n);
         }
 
-        -- ONE MORE, that is at home in collection j then
+        -- ONE PLACE MORE has joined collection j, where it belongs now, and the invariant holds
         pub holds_joined : {other : Place → Option ℕ} → other p ≡ Some j → ((q : Place) → q ≢ p → other q ≡ owner q) → Holds Represents linked table members new after other
         holds_joined {other} here beside = record {
           shown = λ i. at_row (λ i. Represents (table new) (after i) (rows_of members new after i)) j i (itself new (after j) e.is) (λ n. itself new (after i) (joins_still i n));
@@ -181,7 +181,7 @@ module _ {L E H : Type 0} {Represents : Table E → H → List Place → Type 0}
           others = λ i n. reading.members_are new (after i) (rows_of members links heads i) (leaves_still i n);
         }
 
-        -- ONE LESS, that is at home nowhere then
+        -- ONE PLACE LESS is in collection j, it belongs to no collection now, and the invariant holds
         pub holds_left : {other : Place → Option ℕ} → other p ≡ None → ((q : Place) → q ≢ p → other q ≡ owner q) → Holds Represents linked table members new after other
         holds_left {other} gone beside = record {
           shown = λ i. at_row (λ i. Represents (table new) (after i) (rows_of members new after i)) j i (itself new (after j) e.is) (λ n. itself new (after i) (leaves_still i n));
@@ -203,7 +203,7 @@ module _ {L E H : Type 0} {Represents : Table E → H → List Place → Type 0}
           others = λ i n. reading.members_are new (after i) (rows_of members links heads i) (moves_still i n);
         }
 
-        -- ONE ELSEWHERE in its collection
+        -- ONE MEMBER HAS MOVED within its collection, and the invariant holds
         pub holds_moved : Holds Represents linked table members new after owner
         holds_moved = record {
           shown = λ i. at_row (λ i. Represents (table new) (after i) (rows_of members new after i)) j i (itself new (after j) e.is) (λ n. itself new (after i) (moves_still i n));
@@ -211,10 +211,10 @@ module _ {L E H : Type 0} {Represents : Table E → H → List Place → Type 0}
           only = λ q at. e.keeps q ∙ k.only q at;
         }
 
-  -- FROM COLLECTION j TO COLLECTION i: taken off the one, and put into the other
+  -- A MEMBER GOES from collection j to collection i: it is removed from collection j, and then inserted into collection i
   module _ {links : L} {heads : ℕ → H} {owner : Place → Option ℕ} (k : Holds Represents linked table members links heads owner) (j : ℕ) (mid : L) {front : List Place} {p : Place} {back : List Place} {between : ℕ → H}
       (others : (i : ℕ) → i ≢ j → between i ≡ heads i) (off : HasLeft Represents linked (table links) (table mid) (heads j) (between j) front p back) where
-    -- it is at home nowhere between the two
+    -- after the removal and before the insert, the place p belongs to no collection, and the invariant holds
     pub holds_off : Holds Represents linked table members mid between (ownerless p owner)
     holds_off = holds_left k j mid others off (ownerless_there p owner) (ownerless_beside p owner)
 
@@ -225,23 +225,23 @@ module _ {L E H : Type 0} {Represents : Table E → H → List Place → Type 0}
       pub transferred : Leaves j front p back (rows_of members links heads) (rows_of members mid between) × Adds i before p following (rows_of members mid between) (rows_of members new after)
       transferred = (left k j mid others off, joined holds_off i new rest on)
 
-  -- BY THE OBJECTS: `belongs` says in which collection an object is, if in any
+  -- THE OBJECTS decide where places belong: `belongs` gives the collection to which an object belongs, or none
   module _ {T : Type 0} (belongs : T → Option ℕ) (objects : Objects T) {links : L} {heads : ℕ → H} (k : Holds Represents linked table members links heads (owner_of belongs objects)) where
-    -- a vacant place is not linked,
+    -- a place without an object is not linked
     pub vacant_off : {p : Place} → object_at objects p ≡ None → IsUnlinked linked (table links) p
     vacant_off {p} none = k.only p (ap (owner_or belongs) none)
 
-    -- and an object stands in the collection where it belongs
+    -- an object is a member of the collection to which it belongs
     pub object_stands : {p : Place} {v : T} {j : ℕ} → object_at objects p ≡ Some v → belongs v ≡ Some j → HasMember (Represents (table links) (heads j)) p
     object_stands {p} {v} {j} there is = stands k j p (ap (owner_or belongs) there ∙ is)
 
-    -- ONE OBJECT MORE, placed and put into collection j
+    -- ONE OBJECT MORE is stored at the place p and inserted into collection j
     module _ {more : Objects T} {p : Place} {v : T} (places : Places objects more p v) (grown : L) (grows : Grows (table links) (table grown)) where
-      -- it is not linked yet
+      -- the place of the new object is not linked yet
       pub new_off : IsUnlinked linked (table grown) p
       new_off = rw (grows.entries p) (vacant_off places.vacant)
 
-      -- and no member
+      -- the place of the new object is no member of any collection yet
       pub new_absent : (i : ℕ) → IsAbsent p (rows_of members links heads i)
       new_absent i = reading.kind.free (table links) (heads i) (rows_of members links heads i) p (k.shown i) (vacant_off places.vacant)
 
@@ -253,11 +253,11 @@ module _ {L E H : Type 0} {Represents : Table E → H → List Place → Type 0}
         pub new_joined : Adds j front p back (rows_of members links heads) (rows_of members new after)
         new_joined = joins_from (rows_grown k grown grows) (joined (holds_grown k grown grows) j new others e)
 
-    -- ONE LESS, taken off collection j and out of the objects
+    -- ONE OBJECT LESS: it is removed from collection j and from the objects, and the invariant holds
     pub holds_freed : {less : Objects T} {p : Place} → Frees objects less p → (j : ℕ) (new : L) {front back : List Place} {after : ℕ → H} → ((i : ℕ) → i ≢ j → after i ≡ heads i)
         → HasLeft Represents linked (table links) (table new) (heads j) (after j) front p back → Holds Represents linked table members new after (owner_of belongs less)
     holds_freed frees j new others e = holds_left k j new others e (owner_freed belongs frees) (owners_freed belongs frees)
 
-    -- ANOTHER VALUE in the place of one, that belongs where that did
+    -- ANOTHER VALUE has replaced the value of an object and belongs to the collection of the old value, so the invariant holds
     pub holds_changed : {new : Objects T} {p : Place} {v : T} → Puts objects new p v → belongs v ≡ owner_of belongs objects p → Holds Represents linked table members links heads (owner_of belongs new)
     holds_changed {new} {p} puts same = holds_same k (λ q. everywhere (λ q. owner_of belongs new q ≡ owner_of belongs objects q) p q (ap (owner_or belongs) (put_there puts) ∙ same) (λ n. ap (owner_or belongs) (put_others puts q n)))

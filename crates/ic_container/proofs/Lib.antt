@@ -3,7 +3,7 @@ pub mod RowLemmas
 pub mod HoldsLemmas
 pub mod ValueLemmas
 pub mod TreeLemmas
-pub mod LaneLemmas
+pub mod ListArrayLemmas
 pub mod CountLemmas
 pub mod ListedLemmas
 pub mod ListedEnds

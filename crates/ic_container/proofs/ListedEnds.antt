@@ -1,4 +1,5 @@
--- For callers: objects that are all in one list, at both ends: how many there are, the first and the last one, and what goes after all others.
+-- All objects of a container are in one list. These lemmas are about the ends of the list: the count, the first and the last object, and inserts at the
+-- back.
 use Rattle.std.proofs.Common.{◌≡◌, Bool, true, Option, None, Some, IfSome, IsSome, List, [], ◌∷◌, ◌++◌, ◌∙◌, ap, sym, refl, subst, length, append-nil, length-append, arith, true≢false}
 use Rattle.std.proofs.lemmas.List.Elements.{filter_map-append}
 use Rattle.std.specs.FinMap as map
@@ -21,7 +22,7 @@ use Rattle.ic_container.proofs.ListedLemmas.{listed_first, listed_last, listed_p
 use Rattle.ic_container.proofs.RowLemmas.{alone_others, no_front, puts_back, without_last}
 use Rattle.ic_container.proofs.ValueLemmas.{as_many, last_is}
 
--- AT THE ENDS of a list of values
+-- AT THE ENDS of a list of values: if there is no first or no last value, the list is empty
 pub no_first : {T : Type 0} (values : List T) → first_value values ≡ None → values ≡ []
 no_first [] e = refl
 no_first (x ∷ values) e = absurd (none_not x (sym e))
@@ -31,7 +32,7 @@ no_last [] e = refl
 no_last (x ∷ []) e = absurd (none_not x (sym e))
 no_last (x ∷ y ∷ values) e = let r = ap length (no_last (y ∷ values) e) in absurd (omega (arith, r))
 
--- the object at the first member is the first value
+-- the object at the first member of a sequence is the first of its values
 pub first_is_there : {T : Type 0} (objects : Objects T) (s : List Place) → ArePlaced objects s → object_there objects (first s) ≡ first_value (values_at objects s)
 first_is_there objects [] placed = refl
 first_is_there {T} objects (x ∷ s) placed = by (object_at objects x) placed.0 where
@@ -39,16 +40,16 @@ first_is_there {T} objects (x ∷ s) placed = by (object_at objects x) placed.0 
   by None h = absurd (true≢false (sym h))
   by (Some value) h = refl
 
--- no member, no value
+-- if there is no last member, there is no value
 pub none_at : {T : Type 0} (objects : Objects T) (s : List Place) → ArePlaced objects s → object_there objects (last s) ≡ None → values_at objects s ≡ []
 none_at objects s placed none = no_last (values_at objects s) (sym (last_is objects s placed) ∙ none)
 
 module _ {T : Type 0} {o : Order T} (w : IsWhole o) where
-  -- there are as many values as places
+  -- an order has as many values as places
   pub whole_count : length (values_of o) ≡ length o.order
   whole_count = as_many o.values o.order w.placed
 
-  -- ONE TAKEN OUT: where it was the first the others stand after it, and where it was the last first of it
+  -- ONE OBJECT IS REMOVED: if it was the first, the others come after it, and if it was the last, the others come before it
   module _ {less : Order T} {p : Place} {out : T} (there : object_at o.values p ≡ Some out) (frees : Frees o.values less.values p) (is : Without p o.order less.order) where
     apart : IsAbsent p (is.front ++ is.back)
     apart = distinct_middle is.front is.back p (subst IsDistinct is.was w.once)
@@ -74,33 +75,33 @@ module _ {T : Type 0} {o : Order T} (w : IsWhole o) where
         ∙ ap (λ (l : List T). l ++ out ∷ []) (sym (same ∙ ap (λ (s : List Place). values_at o.values (is.front ++ s)) none ∙ ap (values_at o.values) (append-nil is.front)))
 
 module _ {L E : Type 0} {neighbors : E → Neighbors} {linked : E → Bool} {table : L → Table E} {T : Type 0} {objects : Objects T} {links : L} {list : Ends} (k : IsListed neighbors linked table objects links list) where
-  -- there are as many values as objects
+  -- the list has as many values as there are objects
   pub listed_count : map.len objects.values ≡ length (values_at objects (members_in neighbors table links list))
   listed_count = k.count ∙ sym (as_many objects (members_in neighbors table links list) (listed_placed k))
 
-  -- the first object is the first value
+  -- the object at the head of the list is the first value
   pub first_there : object_there objects list.head ≡ first_value (values_at objects (members_in neighbors table links list))
   first_there = ap (object_there objects) (k.holds.shown 0).head ∙ first_is_there objects (members_in neighbors table links list) (listed_placed k)
 
-  -- where there is none, there is no value
+  -- if the list has no head, there is no value
   pub none_first : list.head ≡ None → values_at objects (members_in neighbors table links list) ≡ []
   none_first e = no_first (values_at objects (members_in neighbors table links list)) (sym first_there ∙ ap (object_there objects) e)
 
   pub none_last : list.tail ≡ None → values_at objects (members_in neighbors table links list) ≡ []
   none_last e = none_at objects (members_in neighbors table links list) (listed_placed k) (ap (object_there objects) (sym (k.holds.shown 0).tail ∙ e))
 
-  -- and where there is one, it is placed
+  -- if the list has a head, there is an object at the head
   pub first_placed : {p : Place} → list.head ≡ Some p → is_placed objects p ≡ true
   first_placed e = subst (λ (o : Option Place). IfSome o (λ p. is_placed objects p ≡ true)) e (listed_first k)
 
   pub last_is_placed : {p : Place} → list.tail ≡ Some p → is_placed objects p ≡ true
   last_is_placed e = subst (λ (o : Option Place). IfSome o (λ p. is_placed objects p ≡ true)) e (listed_last k)
 
-  -- a walk is over all of them
+  -- a walk over the list can return all objects
   pub all_walked : RepresentsPlaced (Represents neighbors (table links) list) objects
   all_walked = record { members = members_in neighbors table links list; shown = k.holds.shown 0; placed = listed_placed k }
 
-  -- A NEW OBJECT after all others
+  -- A NEW OBJECT is inserted after all other objects
   module _ (grown : L) (grows : Grows (table links) (table grown)) {p : Place} {value : T} {new : Objects T} (places : Places objects new p value) (after : L) (ends : Ends) {s : List Place} (e : ListAdds neighbors linked (table grown) (table after) list ends s p []) where
     pub order_after : members_in neighbors table after ends ≡ members_in neighbors table links list ++ p ∷ []
     order_after = (puts_back (new_joined (list_reading k.reading) to_one objects k.holds places grown grows 0 after (alone_others no_members list ends) refl e)).is
@@ -118,7 +119,7 @@ module _ {L E : Type 0} {neighbors : E → Neighbors} {linked : E → Bool} {tab
         ∙ ap (λ (v : Option T). values_at new (members_in neighbors table links list) ++ cons_option v []) (placed_there places)
         ∙ ap (λ (l : List T). l ++ value ∷ []) (values_beside objects new p (others_placed places) (members_in neighbors table links list) (new_absent (list_reading k.reading) to_one objects k.holds places grown grows 0))
 
-  -- MOVED after all others
+  -- AN OBJECT HAS MOVED to the position after all other objects
   module _ {p : Place} (after : L) (ends : Ends) (e : (front : List Place) × (back : List Place) × (before : List Place) × ListMoves neighbors linked (table links) (table after) list ends front p back before []) where
     pub listed_moved_after : IsListed neighbors linked table objects after ends
     listed_moved_after = record {

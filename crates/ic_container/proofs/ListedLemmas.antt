@@ -1,4 +1,4 @@
--- For callers: objects that are all in one list, after each kind of step, and what the step says of their order and of their values.
+-- All objects of a container are in one list, and these lemmas say what each kind of step keeps and what it does to the order and the values.
 use Rattle.std.proofs.Common.{◌≡◌, ◌≢◌, ◌+◌, ◌-◌, Bool, true, Option, None, Some, IfSome, is_some, List, [], ◌∷◌, ◌++◌, ◌∙◌, ap, sym, refl, subst, length, length-append, arith}
 use Rattle.std.specs.FinMap as map
 use Rattle.std.specs.FinMap.{len-empty}
@@ -19,12 +19,12 @@ use Rattle.ic_container.proofs.HoldsLemmas.{list_reading, nothing_linked, none_s
 use Rattle.ic_container.proofs.RowLemmas.{alone_none, alone_others, owner_one, puts_front, rows_placed}
 use Rattle.ic_container.proofs.ValueLemmas.{last_is, last_placed, value_cut, values_front, values_left, values_moved}
 
--- AN OBJECT is one of the values
+-- AN OBJECT of an order is one of its values
 pub whole_value : {T : Type 0} {o : Order T} → IsWhole o → (p : Place) {value : T} → object_at o.values p ≡ Some value → (rest : List T) × Without value (values_of o) rest
 whole_value {o = o} w p there =
     let at = member_split p o.order (w.all p (ap is_some there)) in value_cut o.values o.values (λ q n. refl) there o.order at.0 at.1 at.2
 
--- AT FIRST
+-- AT FIRST the list is empty, and there is no object
 module _ {L E : Type 0} {neighbors : E → Neighbors} {linked : E → Bool} {table : L → Table E} (reads : ReadsLists neighbors linked table) (links : L) {list : Ends} (none : list ≡ no_members) where
   pub order_none : members_in neighbors table links list ≡ []
   order_none = none_stand (list_reading reads) links (alone_none no_members list none) 0
@@ -37,7 +37,7 @@ module _ {L E : Type 0} {neighbors : E → Neighbors} {linked : E → Bool} {tab
   }
 
 module _ {L E : Type 0} {neighbors : E → Neighbors} {linked : E → Bool} {table : L → Table E} {T : Type 0} {objects : Objects T} {links : L} {list : Ends} (k : IsListed neighbors linked table objects links list) where
-  -- an object is a member,
+  -- an object is a member of the list
   pub listed_stands : {p : Place} → is_placed objects p ≡ true → HasMember (Represents neighbors (table links) list) p
   listed_stands {p} is = stands (list_reading k.reading) k.holds 0 p (owner_one objects p is)
 
@@ -50,7 +50,7 @@ module _ {L E : Type 0} {neighbors : E → Neighbors} {linked : E → Bool} {tab
   pub listed_whole : IsWhole (order_of neighbors table objects links list)
   listed_whole = record { once = listed_distinct; placed = listed_placed; all = λ p is. k.holds.housed.all p 0 (owner_one objects p is) }
 
-  -- and what stands first, or last, is one
+  -- there is an object at the head of the list and one at its tail, if the list is not empty
   pub listed_first : IfSome list.head (λ p. is_placed objects p ≡ true)
   listed_first = by list.head (k.holds.shown 0).head listed_placed where
     by : (o : Option Place) → o ≡ first (members_in neighbors table links list) → ArePlaced objects (members_in neighbors table links list) → IfSome o (λ p. is_placed objects p ≡ true)
@@ -63,11 +63,11 @@ module _ {L E : Type 0} {neighbors : E → Neighbors} {linked : E → Bool} {tab
     by None e = tt
     by (Some p) e = last_placed objects (members_in neighbors table links list) (sym e) listed_placed
 
-  -- the object there is the last value
+  -- the object at the tail of the list is the last value
   pub last_there : object_there objects list.tail ≡ last_value (values_at objects (members_in neighbors table links list))
   last_there = ap (object_there objects) (k.holds.shown 0).tail ∙ last_is objects (members_in neighbors table links list) listed_placed
 
-  -- AFTER `place`, whatever it answered
+  -- AFTER `place`, whatever the call returned, each object is in the list
   module _ (grown : L) (grows : Grows (table links) (table grown)) where
     pub listed_grown : IsListed neighbors linked table objects grown list
     listed_grown = record { reading = k.reading; holds = holds_grown (list_reading k.reading) k.holds grown grows; count = k.count ∙ sym (ap length (rows_grown (list_reading k.reading) k.holds grown grows 0)) }
@@ -75,12 +75,12 @@ module _ {L E : Type 0} {neighbors : E → Neighbors} {linked : E → Bool} {tab
     pub order_grown : order_of neighbors table objects grown list ≡ order_of neighbors table objects links list
     order_grown = ap (λ (s : List Place). record { order = s; values = objects }) (rows_grown (list_reading k.reading) k.holds grown grows 0)
 
-    -- A NEW OBJECT is not linked yet,
+    -- A NEW OBJECT is not linked yet
     module _ {p : Place} {value : T} {new : Objects T} (places : Places objects new p value) where
       pub listed_off : IsUnlinked linked (table grown) p
       listed_off = new_off (list_reading k.reading) to_one objects k.holds places grown grows
 
-      -- and goes before all others
+      -- a new object is inserted before all other objects
       module _ (after : L) (ends : Ends) {s : List Place} (e : ListAdds neighbors linked (table grown) (table after) list ends [] p s) where
         pub order_new : members_in neighbors table after ends ≡ p ∷ members_in neighbors table links list
         order_new = (puts_front (new_joined (list_reading k.reading) to_one objects k.holds places grown grows 0 after (alone_others no_members list ends) refl e)).is
@@ -98,7 +98,7 @@ module _ {L E : Type 0} {neighbors : E → Neighbors} {linked : E → Bool} {tab
             (new_joined (list_reading k.reading) to_one objects k.holds places grown grows 0 after (alone_others no_members list ends) refl e)
             (new_absent (list_reading k.reading) to_one objects k.holds places grown grows 0)
 
-  -- MOVED before all others
+  -- AN OBJECT HAS MOVED to the position before all other objects
   module _ {p : Place} (after : L) (ends : Ends) (e : (front : List Place) × (back : List Place) × (following : List Place) × ListMoves neighbors linked (table links) (table after) list ends front p back [] following) where
     pub listed_moved : IsListed neighbors linked table objects after ends
     listed_moved = record {
@@ -110,17 +110,17 @@ module _ {L E : Type 0} {neighbors : E → Neighbors} {linked : E → Bool} {tab
     pub order_moved : (others : List Place) × Without p (members_in neighbors table links list) others × (members_in neighbors table after ends ≡ p ∷ others)
     order_moved = let t = moved (list_reading k.reading) k.holds 0 after (alone_others no_members list ends) e.3 in (e.2, record { front = e.0; back = e.1; was = t.was; is = sym t.rest }, t.is)
 
-    -- with its value, or another one
+    -- an object moves to the front with its old value or with another value, and the other values keep their order
     pub listed_values_moved : (new : Objects T) → ((q : Place) → q ≢ p → object_at new q ≡ object_at objects q) → {out value : T} → object_at objects p ≡ Some out → object_at new p ≡ Some value
         → (rest : List T) × Without out (values_at objects (members_in neighbors table links list)) rest × (values_at new (members_in neighbors table after ends) ≡ value ∷ rest)
     listed_values_moved new same was there =
         values_moved objects new same was listed_distinct there (moved (list_reading k.reading) k.holds 0 after (alone_others no_members list ends) e.3)
 
-  -- ANOTHER VALUE in the place of one
+  -- ANOTHER VALUE has replaced the value of an object, and each object is still in the list
   pub listed_changed : {new : Objects T} {p : Place} {value : T} → is_placed objects p ≡ true → Puts objects new p value → IsListed neighbors linked table new links list
   listed_changed {p = p} is puts = record { reading = k.reading; holds = holds_changed (list_reading k.reading) to_one objects k.holds puts (sym (owner_one objects p is)); count = count_put is puts ∙ k.count }
 
-  -- TAKEN OFF, and out
+  -- AN OBJECT is removed from the list, and then from the objects
   module _ {p : Place} {less : Objects T} (frees : Frees objects less p) (after : L) (ends : Ends) {front back : List Place} (e : ListLeaves neighbors linked (table links) (table after) list ends front p back) where
     pub order_freed : Without p (members_in neighbors table links list) (members_in neighbors table after ends)
     order_freed = let l = left (list_reading k.reading) k.holds 0 after (alone_others no_members list ends) e in record { front = front; back = back; was = l.was; is = l.is }

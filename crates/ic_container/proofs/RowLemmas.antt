@@ -1,4 +1,4 @@
--- Rows where each place is at home, after one place more or less.
+-- Each place is in the row to which it belongs, and these lemmas say that this still holds after one place is added or removed.
 use Rattle.std.proofs.Common.{◌≡◌, ◌≢◌, ℕ, zero, suc, Option, Some, None, List, [], ◌∷◌, ◌++◌, inl, inr, refl, sym, ap, ◌∙◌, subst, append-nil, true, is_some, IsSome, true≢false}
 use Rattle.std.proofs.lemmas.Bool.Decides.{eqb_tells}
 use Rattle.std.specs.List.{AllByRecursion}
@@ -9,11 +9,11 @@ use Rattle.ic_link_ops.proofs.LinkedSets.{everywhere}
 use Rattle.ic_link_ops.proofs.SequenceLemmas.{absent_with, absent_without, distinct_middle, distinct_right, last_not, last_or-append, none_not, some_same, split_member}
 use Rattle.ic_container.specs.Rows.{Rows, Adds, Leaves, PutsFront, PutsBack, Moves, Stays, EachInItsList, owner_or, owner_of, to_one, alone}
 
--- what holds at k and at every other number holds at each
+-- if a property holds for the number k and for every other number, it holds for each number
 pub at_row : (P : ℕ → Type 0) (k i : ℕ) → P k → (i ≢ k → P i) → P i
 at_row P k i here other = elim (eqb_tells k i) [ inl e ↦ subst P e.1 here | inr n ↦ other (λ e. n.1 (sym e)) ]
 
--- one thing alone was changed
+-- two families of items that are equal except for the item with the number 0 are equal at every other number
 pub alone_others : {X : Type 0} (none x y : X) (i : ℕ) → i ≢ 0 → alone none y i ≡ alone none x i
 alone_others none x y zero other = absurd (other refl)
 alone_others none x y (suc i) other = refl
@@ -22,14 +22,14 @@ pub alone_none : {X : Type 0} (none x : X) → x ≡ none → (i : ℕ) → alon
 alone_none none x is zero = is
 alone_none none x is (suc i) = refl
 
--- an object is at home in the only row
+-- if all objects belong to the only row, an object belongs to row 0
 pub owner_one : {T : Type 0} (objects : Objects T) (p : Place) → is_placed objects p ≡ true → owner_of to_one objects p ≡ Some 0
 owner_one {T} objects p is = by (object_at objects p) is where
   by : (o : Option T) → is_some o ≡ true → owner_or to_one o ≡ Some 0
   by None h = absurd (true≢false (sym h))
   by (Some v) h = refl
 
--- what is at home somewhere is placed
+-- if a place belongs to a row, there is an object at the place
 pub rows_placed : {T : Type 0} (objects : Objects T) (k : ℕ) (s : List Place) → AllByRecursion (λ p. owner_of to_one objects p ≡ Some k) s → ArePlaced objects s
 rows_placed objects k [] own = tt
 rows_placed {T} objects k (x ∷ s) own = (by (object_at objects x) own.0, rows_placed objects k s own.1) where
@@ -37,7 +37,7 @@ rows_placed {T} objects k (x ∷ s) own = (by (object_at objects x) own.0, rows_
   by None h = absurd (none_not k h)
   by (Some v) h = refl
 
--- WHERE PLACES ARE AT HOME after an object was placed, freed or changed: those beside it stay
+-- AFTER AN OBJECT WAS STORED, REMOVED OR CHANGED, its place may belong to another row, and each other place belongs where it did
 module _ {T : Type 0} (belongs : T → Option ℕ) {old new : Objects T} {p : Place} where
   pub owner_placed : {v : T} → Places old new p v → owner_of belongs new p ≡ belongs v
   owner_placed places = ap (owner_or belongs) (placed_there places)
@@ -68,7 +68,7 @@ module _ {owner : Place → Option ℕ} {rows : Rows} (h : EachInItsList owner r
   all_at [] p back own = own.0
   all_at (x ∷ front) p back own = all_at front p back own.1
 
-  -- a member is at home
+  -- a member of row k belongs to row k
   pub member_owner : (k : ℕ) (front : List Place) (p : Place) (back : List Place) → rows k ≡ front ++ p ∷ back → owner p ≡ Some k
   member_owner k front p back was = all_at front p back (subst (AllByRecursion (λ q. owner q ≡ Some k)) was (h.own k))
 
@@ -81,7 +81,7 @@ module _ {owner : Place → Option ℕ} {rows : Rows} (h : EachInItsList owner r
     still i (x ∷ s) out own = (beside x (λ e. out.0 (sym e)) ∙ own.0, still i s out.1 own.1)
 
   module _ {k : ℕ} {front : List Place} {p : Place} {back : List Place} {new : Rows} {other : Place → Option ℕ} (beside : (q : Place) → q ≢ p → other q ≡ owner q) where
-    -- ONE PLACE MORE, that was no member
+    -- ONE PLACE MORE is in row k, where it belongs now and which it was not in before
     pub housed_joined : Adds k front p back rows new → other p ≡ Some k → ((i : ℕ) → IsAbsent p (rows i)) → EachInItsList other new
     housed_joined joins here out = record {
       own = λ i. at_row (λ i. AllByRecursion (λ q. other q ≡ Some i) (new i)) k i
@@ -94,7 +94,7 @@ module _ {owner : Place → Option ℕ} {rows : Rows} (h : EachInItsList owner r
           (λ m was. subst (IsMember q) (sym (joins.others i m)) was) (h.all q i (sym (beside q n) ∙ at)));
     }
 
-    -- ONE PLACE LESS
+    -- ONE PLACE LESS is in row k, and this place belongs to no row now
     pub housed_left : Leaves k front p back rows new → other p ≡ None → IsDistinct (rows k) → EachInItsList other new
     housed_left leaves gone distinct = record {
       own = λ i. at_row (λ i. AllByRecursion (λ q. other q ≡ Some i) (new i)) k i
@@ -108,7 +108,7 @@ module _ {owner : Place → Option ℕ} {rows : Rows} (h : EachInItsList owner r
           (λ m was. subst (IsMember q) (sym (leaves.others i m)) was) (h.all q i (sym (beside q n) ∙ at)));
     }
 
-  -- ONE PLACE ELSEWHERE in its row
+  -- ONE PLACE HAS MOVED within its row
   pub housed_moved : {k : ℕ} {front : List Place} {p : Place} {back before after : List Place} {new : Rows} → Moves k front p back before after rows new → EachInItsList owner new
   housed_moved {k} {front} {p} {back} {before} {after} {new} moves =
       let at = member_owner k front p back moves.was in
@@ -124,18 +124,18 @@ module _ {owner : Place → Option ℕ} {rows : Rows} (h : EachInItsList owner r
             (λ m was. subst (IsMember q) (sym (moves.others i m)) was) (h.all q i is));
       }
 
--- FROM ROWS THAT STAYED
+-- IF ROWS STAYED the same before an edit, the edit is one of the rows before
 pub joins_from : {k : ℕ} {front : List Place} {p : Place} {back : List Place} {a b c : Rows} → Stays a b → Adds k front p back b c → Adds k front p back a c
 joins_from {k} same j = record { was = sym (same k) ∙ j.was; is = j.is; others = λ i n. j.others i n ∙ same i }
 
--- AT AN END of its row
+-- IF A PLACE IS INSERTED between an end of row k and the other members, it is inserted at this end
 pub puts_front : {k : ℕ} {p : Place} {s : List Place} {a b : Rows} → Adds k [] p s a b → PutsFront k p a b
 puts_front {p = p} j = record { is = j.is ∙ ap (λ (l : List Place). p ∷ l) (sym j.was); others = j.others }
 
 pub puts_back : {k : ℕ} {p : Place} {s : List Place} {a b : Rows} → Adds k s p [] a b → PutsBack k p a b
 puts_back {p = p} {s} j = record { is = j.is ∙ ap (λ (l : List Place). l ++ p ∷ []) (sym (append-nil s) ∙ sym j.was); others = j.others }
 
--- ROWS THAT ARE THE SAME, seen as others
+-- IF ROWS ARE EQUAL to other rows, an edit of the one is an edit of the other
 module _ {k : ℕ} {p : Place} {a b : Rows} (x y : Rows) (same : Stays a x) (alike : Stays b y) where
   pub back_seen : PutsBack k p a b → PutsBack k p x y
   back_seen j = record { is = alike k ∙ j.is ∙ ap (λ (l : List Place). l ++ p ∷ []) (sym (same k)); others = λ i n. alike i ∙ j.others i n ∙ sym (same i) }
@@ -146,7 +146,7 @@ module _ {k : ℕ} {p : Place} {a b : Rows} (x y : Rows) (same : Stays a x) (ali
   pub leaves_seen : {front back : List Place} → Leaves k front p back a b → Leaves k front p back x y
   leaves_seen j = record { was = same k ∙ j.was; is = alike k ∙ j.is; others = λ i n. alike i ∙ j.others i n ∙ sym (same i) }
 
--- what stands first has nothing before
+-- no member comes before the first member of a sequence without equal places
 pub no_front : (p : Place) (s : List Place) → IsDistinct s → Some p ≡ first s → (front back : List Place) → s ≡ front ++ p ∷ back → front ≡ []
 no_front p s distinct is [] back same = refl
 no_front p s distinct is (x ∷ front) back same =
@@ -154,7 +154,7 @@ no_front p s distinct is (x ∷ front) back same =
     let one : p ≡ x = some_same (is ∙ ap first same) in
     absurd (split_member front p back (subst (λ (z : Place). IsAbsent z (front ++ p ∷ back)) (sym one) d.0))
 
--- and what stands last nothing after
+-- no member comes after the last member of a sequence without equal places
 pub without_last : {p : Place} (s : List Place) → IsDistinct s → last s ≡ Some p → (front back : List Place) → s ≡ front ++ p ∷ back → back ≡ []
 without_last s distinct is front [] same = refl
 without_last {p} s distinct is front (y ∷ back) same =

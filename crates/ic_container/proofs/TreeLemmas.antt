@@ -1,4 +1,4 @@
--- For callers: a tree that has each object of a container, after each kind of step, and what a search of it finds.
+-- A tree has each object of a container, and these lemmas say what each kind of step keeps and what a search finds.
 use Rattle.std.proofs.Common.{◌≡◌, ◌≢◌, ℕ, Bool, true, false, cond, Option, None, Some, is_some, IsSome, List, [], ◌∷◌, ◌++◌, map, filter, drop, length, ◌<◌, ◌≤◌, inl, inr, refl, sym, ap, ◌∙◌, subst, arith, true≢false}
 use Rattle.std.proofs.lemmas.Bool.Decides.{nat_tests}
 use Rattle.std.proofs.lemmas.Bool.{false_from_ne_true}
@@ -41,14 +41,14 @@ use Rattle.ic_container.specs.Values.{Without}
 use Rattle.ic_container.proofs.RowLemmas.{no_front}
 use Rattle.ic_container.proofs.ValueLemmas.{member_placed, no_more}
 
--- A TABLE WITH NO PLACE links nothing, of whatever width
+-- A TABLE WITH ROOM FOR NO PLACE has no linked place, whatever the width of its words is
 pub nothing_linked : {L E : Type 0} {node : E → Node} {linked : E → Bool} {table : L → Table E} → ReadsTrees node linked table → (links : L) → (table links).extent.places ≡ 0 → (p : Place) → IsUnlinked linked (table links) p
 nothing_linked reads links none p = false_from_ne_true _ (λ is. let within = reads.covered links p is in absurd (omega (arith, within, none)))
 
 pub tree_off : {A : Type 0} (links : TreeLinkOps A) → (plain_table links).extent.places ≡ 0 → (p : Place) → IsUnlinked is_linked (plain_table links) p
 tree_off = nothing_linked wide_reads
 
--- none of what a filter leaves out is its first
+-- if a search for the first member that passes a test finds none, no member of the sequence passes
 none_pass : (test : Place → Bool) (s : List Place) → None ≡ first (filter test s) → (q : Place) → IsMember q s → test q ≡ false
 none_pass test [] none q member = absurd (member tt)
 none_pass test (x ∷ s) none q member = by (test x) refl none (λ none. none_pass test s none q) where
@@ -61,7 +61,7 @@ none_pass test (x ∷ s) none q member = by (test x) refl none (λ none. none_pa
   by false e none rest = other (test q) refl e (rest none)
 
 module _ {T : Type 0} (key : T → ℕ) (objects : Objects T) (k : ℕ) where
-  -- whether an object of the key stands at a place, as a search compares it
+  -- whether there is an object with the key k at the place p, as a search compares keys
   abbrev has_it : Place → Bool
   has_it p = equal_at (compared (order_of nat_cmp key k) objects) p
 
@@ -81,7 +81,7 @@ module _ {T : Type 0} (key : T → ℕ) (objects : Objects T) (k : ℕ) where
       ap (λ (o : Option T). is_eq (answer_at (order_of nat_cmp key k) o)) there ∙ ap (λ (l : ℕ). is_eq (nat_cmp k l)) same ∙ ap is_eq (tied_itself nat_cmp_total k)
 
 module _ {T : Type 0} (key : T → ℕ) (objects : Objects T) where
-  -- what is greater along the values is so at the members
+  -- if all values of a sequence have keys greater than d, the objects at all its members have keys greater than d
   all_later : (d : ℕ) (s : List Place) → ArePlaced objects s → AllByRecursion (λ (x : T). is_lt (nat_cmp d (key x)) ≡ true) (values_at objects s) → AllByRecursion (λ q. d < key_at key objects q) s
   all_later d [] placed h = tt
   all_later d (q ∷ s) placed h = by (object_at objects q) placed.0 (all_later d s placed.1) h where
@@ -94,7 +94,7 @@ module _ {T : Type 0} (key : T → ℕ) (objects : Objects T) where
     by (Some v) here rest h = (less d (key v) h.0, rest h.1)
 
 module _ {L E : Type 0} {node : E → Node} {linked : E → Bool} {table : L → Table E} {T : Type 0} (key : T → ℕ) (objects : Objects T) where
-  -- AT FIRST
+  -- AT FIRST the tree is empty, and there is no object
   pub all_none : ReadsTrees node linked table → (links : L) (root : Option Place) → (table links).extent.places ≡ 0 → root ≡ None → ((p : Place) → object_at objects p ≡ None) → HasAllIn node linked table key links root objects
   all_none reads links root none empty vacant = record { values = []; each = each_first reads (nothing_linked reads links none) empty vacant }
 
@@ -105,7 +105,7 @@ module _ {L E : Type 0} {node : E → Node} {linked : E → Bool} {table : L →
     are_members : (links : L) {root : Option Place} {s : List Place} → Represents node (table links) root s → members node (table links) root ≡ s
     are_members links {root} {s} shown = members_represented (table links) (λ q is. a.each.reads.covered links q (sym (a.each.reads.alike _) ∙ is)) root s shown
 
-    -- an object is a member, and members are placed
+    -- an object is a member of the tree, and each member of the tree has an object
     pub all_stands : (p : Place) {v : T} → object_at objects p ≡ Some v → HasMember (Represents node (table links) root) p
     all_stands p there = has_member (Represents node (table links) root) a.each.sorted.members a.each.sorted.shown (λ absent. true≢false (sym (each_linked a.each p there) ∙ a.each.sorted.only p absent))
 
@@ -115,7 +115,7 @@ module _ {L E : Type 0} {node : E → Node} {linked : E → Bool} {table : L →
       by None e h = absurd (true≢false (sym h))
       by (Some v) e h = all_stands p e
 
-    -- what was taken off is covered still: `frame` is the call's clause
+    -- after an edit of the tree, the table of links still covers the place of an object. `frame` is a clause of the call
     pub all_covered : (p : Place) {v : T} (new : L) → object_at objects p ≡ Some v → ((s : List Place) → Represents node (table links) root s → ChangesOnlyIn (table links) (table new) s) → IsCovered (table new) p
     all_covered p new there frame = still_covered p (frame a.each.sorted.members a.each.sorted.shown) (a.each.reads.covered links p (each_linked a.each p there))
 
@@ -125,7 +125,7 @@ module _ {L E : Type 0} {node : E → Node} {linked : E → Bool} {table : L →
     pub all_placed : RepresentsPlaced (Represents node (table links) root) objects
     all_placed = record { members = a.each.sorted.members; shown = a.each.sorted.shown; placed = a.each.sorted.stand.placed }
 
-    -- THE MEMBERS, in the order of their keys
+    -- THE MEMBERS OF THE TREE are in the order of their keys
     pub all_members : members node (table links) root ≡ a.each.sorted.members
     all_members = are_members links a.each.sorted.shown
 
@@ -148,7 +148,7 @@ module _ {L E : Type 0} {node : E → Node} {linked : E → Bool} {table : L →
     pub members_grown : (grown : L) → Grows (table links) (table grown) → members node (table grown) root ≡ members node (table links) root
     members_grown grown grows = are_members grown (kept_represented kind grows.entries all_represented)
 
-    -- WHAT A SEARCH FINDS: `found` is its clause
+    -- A SEARCH FINDS an object with the key k, if there is one. `found` is a clause of the call
     pub all_found : (k : ℕ) (position : Option Place) → ((s : List Place) → Represents node (table links) root s → Finds (compared (order_of nat_cmp key k) objects) s position) → IsFound key objects k position
     all_found k position found = by position refl where
       f : Finds (compared (order_of nat_cmp key k) objects) a.each.sorted.members position
@@ -162,7 +162,7 @@ module _ {L E : Type 0} {node : E → Node} {linked : E → Bool} {table : L →
           true≢false (sym (by_there key objects k p v there same) ∙ none_pass (has_it key objects k) a.each.sorted.members (sym e ∙ is) p
           (λ absent. true≢false (sym (each_linked a.each p there) ∙ a.each.sorted.only p absent)))
 
-    -- THE TREE HAS AS MANY MEMBERS as an order has places
+    -- THE TREE HAS AS MANY MEMBERS as an order of the objects has places
     pub as_many_keys : (s : List Place) → IsWhole (record { order = s; values = objects }) → length (members node (table links) root) ≡ length s
     as_many_keys s w = omega (arith, ap length (are_members links a.each.sorted.shown), up, down) where
       up : length a.each.sorted.members ≤ length s
@@ -172,7 +172,7 @@ module _ {L E : Type 0} {node : E → Node} {linked : E → Bool} {table : L →
       down : length s ≤ length a.each.sorted.members
       down = no_more s a.each.sorted.members w.once (λ q member absent. true≢false (sym (member_placed objects s w.placed q member) ∙ sym (a.each.exact q) ∙ a.each.sorted.only q absent))
 
-    -- A NEW OBJECT: members are placed still, it is not linked,
+    -- A NEW OBJECT IS STORED: each member of the tree still has an object, and the new object is not linked
     module _ {more : Objects T} {p : Place} {v : T} (places : Places objects more p v) where
       pub all_ready : RepresentsPlaced (Represents node (table links) root) more
       all_ready = each_ready a.each places
@@ -180,12 +180,12 @@ module _ {L E : Type 0} {node : E → Node} {linked : E → Bool} {table : L →
       pub all_off : IsUnlinked linked (table links) p
       all_off = vacant_free a.each p places.vacant
 
-      -- and is inserted: `inserted` and `acquired` are the clauses of its call
+      -- the new object is inserted, and the tree has each object. `inserted` and `acquired` are clauses of the call
       pub all_new : (new : L) (top : Option Place) → ((s : List Place) → Represents node (table links) root s → InsertsInOrder (Represents node) (compared (own_order nat_cmp key more p) more) (table links) (table new) top s p)
           → LinksAlso linked (table links) (table new) p → HasAllIn node linked table key new top more
       all_new new top inserted acquired = let n = each_new a.each places inserted acquired in record { values = n.0; each = n.2 }
 
-      -- after all that have its key or a lower one
+      -- the new object comes after all objects with an equal or a lower key
       pub order_new : (new : L) (top : Option Place) → ((s : List Place) → Represents node (table links) root s → InsertsInOrder (Represents node) (compared (own_order nat_cmp key more p) more) (table links) (table new) top s p)
           → PutsInOrder key more (members node (table links) root) (members node (table new) top) p
       order_new new top inserted =
@@ -203,7 +203,7 @@ module _ {L E : Type 0} {node : E → Node} {linked : E → Bool} {table : L →
                 (all_later key more (key v) x.gap.back (all_back (λ q. IsSome (object_at more q)) x.gap.front x.gap.back stood.placed) (greater_after nat_cmp_total key more (key v) x.gap stood.placed rises border));
           }
 
-    -- AN OBJECT taken off, and out
+    -- AN OBJECT is removed from the tree, and then from the objects
     module _ {p : Place} {out : T} (there : object_at objects p ≡ Some out) where
       pub all_freed : (new : L) (top : Option Place) {less : Objects T} → ((front back : List Place) → Represents node (table links) root (front ++ p ∷ back) → Represents node (table new) top (front ++ back))
           → Unlinks linked (table links) (table new) p → Frees objects less p → HasAllIn node linked table key new top less
@@ -214,28 +214,29 @@ module _ {L E : Type 0} {node : E → Node} {linked : E → Bool} {table : L →
           let m = all_stands p there in
           record { front = m.front; back = m.back; was = are_members links m.shown; is = are_members new (removed m.front m.back m.shown) }
 
-      -- ANOTHER VALUE with any key in its place: taken off, changed, and inserted where it belongs
+      -- ANOTHER VALUE with any key replaces the value of an object. The object is removed from the tree, its value is changed, and the object is inserted
+      -- where the new key belongs
       pub all_less : (new : L) (top : Option Place) (value : T) → ((front back : List Place) → Represents node (table links) root (front ++ p ∷ back) → Represents node (table new) top (front ++ back))
           → Unlinks linked (table links) (table new) p → HasAllIn node linked table key new top (without objects p value)
       all_less new top value removed off = all_freed new top removed off (leaves objects p value)
 
-    -- a removal of the first is one from anywhere: `popped` says that all but the first are represented
+    -- a removal of the first member is a removal of a member at any position. `popped` says that all but the first member are represented
     pub first_removed : (new : L) (top : Option Place) {p : Place} → Some p ≡ first (members node (table links) root) → ((s : List Place) → Represents node (table links) root s → Represents node (table new) top (drop 1 s))
         → (front back : List Place) → Represents node (table links) root (front ++ p ∷ back) → Represents node (table new) top (front ++ back)
     first_removed new top is popped [] back shown = popped (_ ∷ back) shown
     first_removed new top {p} is popped (x ∷ front) back shown =
         let never : x ∷ front ≡ [] = no_front p (members node (table links) root) all_distinct is (x ∷ front) back (are_members links shown) in absurd (cc)
 
-    -- WITH A NEW OBJECT, and the table that may have grown, it has all but that one
+    -- AFTER A NEW OBJECT WAS STORED, and the table may have grown, the tree has all objects except the new one
     pub all_lacks : {more : Objects T} {p : Place} {v : T} (grown : L) → Grows (table links) (table grown) → Places objects more p v → LacksOne (HasAllIn node linked table key grown root) more p
     all_lacks grown grows places = record { less = objects; value = _; places = places; all = all_grown key objects a grown grows }
 
--- at first, over a plain table of 8-byte words
+-- at first the tree is empty and there is no object, over a plain table of 8-byte words
 pub all_first : {T A : Type 0} (key : T → ℕ) (objects : Objects T) (links : TreeLinkOps A) (root : Option Place) → (plain_table links).extent.places ≡ 0 → root ≡ None → ((p : Place) → object_at objects p ≡ None) → HasAll key links root objects
 all_first key objects = all_none key objects wide_reads
 
 module _ {T : Type 0} (key : T → ℕ) (objects : Objects T) where
-  -- an object was found, or none
+  -- a search has found an object, or there is no object with the key
   pub found_some : (k : ℕ) (o : Option (Bor T)) → is_some o ≡ true → IsFoundObject key objects k (option_copied o) → (value : T) × IsFoundObject key objects k (Some value)
   found_some k None is found = absurd (true≢false (sym is))
   found_some k (Some lent) is found = (lent.now, found)
@@ -244,12 +245,12 @@ module _ {T : Type 0} (key : T → ℕ) (objects : Objects T) where
   found_none k None is found = found
   found_none k (Some lent) is found = absurd (true≢false is)
 
-  -- NO TWO OBJECTS HAVE ONE KEY: at first,
+  -- NO TWO OBJECTS HAVE EQUAL KEYS at first, because there is no object
   pub unique_first : ((p : Place) → object_at objects p ≡ None) → IsUnique key objects
   unique_first vacant p q v w there at same = absurd (none_not v (sym (vacant p) ∙ there))
 
   module _ (unique : IsUnique key objects) where
-    -- with a new object, of whose key there was none,
+    -- no two objects have equal keys after a new object is stored whose key no object had
     pub unique_new : {more : Objects T} {p : Place} {value : T} → Places objects more p value → IsFound key objects (key value) None → IsUnique key more
     unique_new {more} {p} {value} places none q r v w there at same = elim (same_or_not q p) [
       | inl e ↦ elim (same_or_not r p) [ inl f ↦ e ∙ sym f | inr n ↦ absurd (none r w (was r w n at) (sym same ∙ here q v e there)) ]
@@ -261,7 +262,7 @@ module _ {T : Type 0} (key : T → ℕ) (objects : Objects T) where
       here : (s : Place) (u : T) → s ≡ p → object_at more s ≡ Some u → key u ≡ key value
       here s u e at = ap key (some_same (sym at ∙ ap (object_at more) e ∙ placed_there places))
 
-    -- and without one
+    -- no two objects have equal keys after an object is removed
     pub unique_freed : {less : Objects T} {p : Place} → Frees objects less p → IsUnique key less
     unique_freed {less} {p} frees q r v w there at same = unique q r v w (was q v there) (was r w at) same where
       was : (s : Place) (u : T) → object_at less s ≡ Some u → object_at objects s ≡ Some u

@@ -1,4 +1,4 @@
--- For callers: the values of a row, after one place more, less or elsewhere.
+-- These lemmas are about the values of a row after one place was added or removed, or has moved.
 use Rattle.std.proofs.Common.{◌≡◌, ◌≢◌, ℕ, Option, Some, List, [], ◌∷◌, ◌++◌, refl, sym, ap, ◌∙◌, subst, Bool, true, false, is_some, IsSome, None, length, ◌≤◌, arith, length-append, true≢false, inl, inr}
 use Rattle.std.proofs.lemmas.List.Elements.{filter_map-append}
 use Rattle.std.specs.List.{cons_option}
@@ -10,7 +10,7 @@ use Rattle.ic_container.specs.Rows.{Rows, Adds, Leaves, Moves}
 use Rattle.ic_container.specs.Values.{last_value, Without}
 
 module _ {T : Type 0} (objects new : Objects T) {p : Place} (same : (q : Place) → q ≢ p → object_at new q ≡ object_at objects q) where
-  -- a value before those of the row
+  -- after a place was added at the front of a row, its value comes before the values that the row had
   pub values_front : {k : ℕ} {back : List Place} {old after : Rows} {v : T} → object_at new p ≡ Some v → Adds k [] p back old after → IsAbsent p (old k) → values_at new (after k) ≡ v ∷ values_at objects (old k)
   values_front {k} {back} {old} {after} {v} there j out =
       ap (values_at new) (j.is ∙ ap (λ (l : List Place). p ∷ l) (sym j.was)) ∙ ap (λ (o : Option T). cons_option o (values_at new (old k))) there
@@ -21,12 +21,12 @@ module _ {T : Type 0} (objects new : Objects T) {p : Place} (same : (q : Place) 
     values_cut s front back is =
         ap (values_at objects) is ∙ filter_map-append (object_at objects) front (p ∷ back) ∙ ap (λ (o : Option T). values_at objects front ++ cons_option o (values_at objects back)) was
 
-    -- it is one of the values
+    -- the value of a member is one of the values of the sequence
     pub value_cut : (s front back : List Place) → s ≡ front ++ p ∷ back → (rest : List T) × Without out (values_at objects s) rest
     value_cut s front back is =
         (values_at objects front ++ values_at objects back, record { front = values_at objects front; back = values_at objects back; was = values_cut s front back is; is = refl })
 
-    -- the values without one
+    -- after a place was removed from a row, its value is removed from the values
     pub values_left : {k : ℕ} {front back : List Place} {old after : Rows} → IsDistinct (old k) → Leaves k front p back old after → Without out (values_at objects (old k)) (values_at new (after k))
     values_left {k} {front} {back} {old} distinct j = record {
       front = values_at objects front;
@@ -35,7 +35,7 @@ module _ {T : Type 0} (objects new : Objects T) {p : Place} (same : (q : Place) 
       is = ap (values_at new) j.is ∙ values_beside objects new p same (front ++ back) (distinct_middle front back p (subst IsDistinct j.was distinct)) ∙ filter_map-append (object_at objects) front back;
     }
 
-    -- the value, or another one in its place, before the others
+    -- after a place has moved to the front of a row, its value, or another value in its place, comes before the other values
     pub values_moved : {k : ℕ} {front back following : List Place} {old after : Rows} {v : T} → IsDistinct (old k) → object_at new p ≡ Some v → Moves k front p back [] following old after
         → (rest : List T) × Without out (values_at objects (old k)) rest × (values_at new (after k) ≡ v ∷ rest)
     values_moved {k} {front} {back} {following} {old} {v = v} distinct there j = (
@@ -46,7 +46,7 @@ module _ {T : Type 0} (objects new : Objects T) {p : Place} (same : (q : Place) 
     )
 
 module _ {T : Type 0} (objects : Objects T) where
-  -- there are as many values as members that are placed
+  -- if each member of a sequence has an object, there are as many values as members
   pub as_many : (s : List Place) → ArePlaced objects s → length (values_at objects s) ≡ length s
   as_many [] placed = refl
   as_many (x ∷ s) placed = by (object_at objects x) placed.0 (as_many s placed.1) where
@@ -54,14 +54,14 @@ module _ {T : Type 0} (objects : Objects T) where
     by None h rest = absurd (true≢false (sym h))
     by (Some v) h rest = omega (arith, rest)
 
-  -- what is placed stands there
+  -- if an object is stored at the place p, some value is at the place p
   pub there_is : (p : Place) → is_placed objects p ≡ true → (value : T) × (object_at objects p ≡ Some value)
   there_is p is = by (object_at objects p) refl is where
     by : (o : Option T) → object_at objects p ≡ o → is_some o ≡ true → (value : T) × (object_at objects p ≡ Some value)
     by None e h = absurd (true≢false (sym h))
     by (Some value) e h = (value, e)
 
-  -- a member is placed
+  -- if each member of a sequence has an object, the member q has one
   pub member_placed : (s : List Place) → ArePlaced objects s → (q : Place) → IsMember q s → is_placed objects q ≡ true
   member_placed s placed q member = by (is_placed objects q) refl where
     out : is_placed objects q ≡ false → (s : List Place) → ArePlaced objects s → IsAbsent q s
@@ -72,7 +72,7 @@ module _ {T : Type 0} (objects : Objects T) where
     by true e = refl
     by false e = absurd (member (out e s placed))
 
-  -- the object at the last member is the last value
+  -- the object at the last member of a sequence is the last of its values
   pub last_is : (s : List Place) → ArePlaced objects s → object_there objects (last s) ≡ last_value (values_at objects s)
   last_is [] placed = refl
   last_is (x ∷ []) placed = by (object_at objects x) where
@@ -85,13 +85,13 @@ module _ {T : Type 0} (objects : Objects T) where
     by None (Some v) h = refl
     by (Some u) (Some v) h = refl
 
-  -- the last of them is placed
+  -- if each member of a sequence has an object, the last member has one
   pub last_placed : {p : Place} (s : List Place) → last s ≡ Some p → ArePlaced objects s → is_placed objects p ≡ true
   last_placed {p} [] e placed = absurd (none_not p e)
   last_placed (x ∷ []) e placed = ap (is_placed objects) (sym (some_same e)) ∙ placed.0
   last_placed (x ∷ y ∷ s) e placed = last_placed (y ∷ s) e placed.1
 
--- DISTINCT MEMBERS of another sequence are no more than its own
+-- A SEQUENCE WITHOUT EQUAL PLACES whose members are all in another sequence is no longer than the other
 pub no_more : (s t : List Place) → IsDistinct s → ((q : Place) → IsMember q s → IsMember q t) → length s ≤ length t
 no_more [] t distinct among = omega arith
 no_more (x ∷ s) t distinct among =

@@ -1,4 +1,4 @@
--- Laws of a tree that has each object, after each kind of step, over links of either width.
+-- A tree has each object of a container, and these lemmas say that each kind of step keeps this. They hold for links of either width.
 use Rattle.std.proofs.Common.{◌≡◌, ◌≢◌, ℕ, Bool, Option, Some, None, IsSome, is_some, List, [], ◌∷◌, ◌++◌, map, refl, sym, ap, ◌∙◌, subst, false, true≢false}
 use Rattle.std.proofs.lemmas.Cmp.{nat_cmp_total}
 use Rattle.std.proofs.lemmas.List.Elements.{filter_map-append}
@@ -29,7 +29,7 @@ use Rattle.ic_container.specs.EachObject.{HasEachIn, ReadsTrees}
 use Rattle.ic_rbtree.proofs.SortedKeys.{sorted_without}
 
 module _ {L E V : Type 0} {node : E → Node} {linked : E → Bool} {table : L → Table E} {key_of : V → ℕ} {w : L} {root : Option Place} {objects : Objects V} where
-  -- AT FIRST
+  -- AT FIRST the tree has each object: there is no object, the root is none, and no place is linked
   pub each_first : ReadsTrees node linked table → ((p : Place) → IsUnlinked linked (table w) p) → root ≡ None → ((p : Place) → object_at objects p ≡ None) → HasEachIn node linked table key_of w root objects []
   each_first reads free none vacant = record {
     reads = reads;
@@ -41,11 +41,11 @@ module _ {L E V : Type 0} {node : E → Node} {linked : E → Bool} {table : L �
     abbrev kind : IsKind (Represents node) linked None
     kind = red_black_trees each.reads.alike
 
-    -- AFTER `cover`
+    -- AFTER `cover`, which keeps each entry and makes room for more, the tree still has each object
     pub each_covered : (v : L) → ((q : Place) → (table v).entry q ≡ (table w).entry q) → HasEachIn node linked table key_of v root objects values
     each_covered v stays = record { reads = each.reads; sorted = has_covered kind nat_cmp_total each.sorted stays; exact = λ p. ap linked (stays p) ∙ each.exact p }
 
-    -- a vacant place is not linked, and members are still placed after another object was placed
+    -- a place without an object is not linked. If another object is stored, each member of the tree still has an object
     pub vacant_free : (p : Place) → object_at objects p ≡ None → IsUnlinked linked (table w) p
     vacant_free p vacant = each.exact p ∙ ap is_some vacant
 
@@ -53,7 +53,7 @@ module _ {L E V : Type 0} {node : E → Node} {linked : E → Bool} {table : L �
     each_ready {more} {p} places =
         let has = has_beside kind nat_cmp_total each.sorted {new = more} (vacant_free p places.vacant) (others_placed places) in record { members = has.members; shown = has.shown; placed = has.stand.placed }
 
-    -- A NEW OBJECT, inserted in order
+    -- A NEW OBJECT is stored and inserted in order, and the tree has each object afterwards
     pub each_new : {more : Objects V} {p : Place} {r : V} {v : L} {top : Option Place} → Places objects more p r
         → ((s : List Place) → Represents node (table w) root s → InsertsInOrder (Represents node) (compared (own_order nat_cmp key_of more p) more) (table w) (table v) top s p)
         → LinksAlso linked (table w) (table v) p → (all : List V) × InsertsValue nat_cmp key_of values r all × HasEachIn node linked table key_of v top more all
@@ -69,7 +69,7 @@ module _ {L E V : Type 0} {node : E → Node} {linked : E → Bool} {table : L �
           },
         )
 
-    -- THE POSITION OF AN OBJECT among the members, and that of its value among the values
+    -- AN OBJECT HAS A POSITION among the members, and its value has the same position among the values
     module _ (p : Place) {out : V} (there : object_at objects p ≡ Some out) where
       pub each_linked : IsLinked linked (table w) p
       each_linked = each.exact p ∙ ap is_some there
@@ -81,11 +81,11 @@ module _ {L E V : Type 0} {node : E → Node} {linked : E → Bool} {table : L �
       each_value front back at = sym each.sorted.stand.are ∙ ap (values_at objects) at ∙ filter_map-append (object_at objects) front (p ∷ back)
           ∙ ap (λ (o : Option V). values_at objects front ++ cons_option o (values_at objects back)) there
 
-      -- a property of every value holds of each single one
+      -- if each value has a property, the value of the object at the place p has the property
       pub at_each : (P : V → Type 0) → AllByRecursion P values → P out
       at_each P all = let m = each_member in (all_back P (values_at objects m.0) (out ∷ values_at objects m.1) (subst (AllByRecursion P) (each_value m.0 m.1 m.2) all)).0
 
-      -- AFTER A REMOVAL
+      -- AFTER A REMOVAL of the object at the place p, the tree has each object that is left
       module _ {new : Objects V} {v : L} {top : Option Place} (removed : (front back : List Place) → Represents node (table w) root (front ++ p ∷ back) → Represents node (table v) top (front ++ back))
           (off : Unlinks linked (table w) (table v) p) (frees : Frees objects new p) where
         pub each_taken : (front : List V) × (back : List V) × (values ≡ front ++ out ∷ back) × HasEachIn node linked table key_of v top new (front ++ back)
@@ -118,7 +118,7 @@ module _ {L E V : Type 0} {node : E → Node} {linked : E → Bool} {table : L �
                   (λ n absent. off.others q n ∙ each.sorted.only q (subst (IsAbsent q) (sym at) (absent_with front back p q n absent)));
             }
 
-      -- AFTER ANOTHER VALUE has replaced an object's, if the keys still rise
+      -- AFTER ANOTHER VALUE has replaced the value of an object, the tree still has each object, if the keys are still in order
       module _ {new : Objects V} {r : V} (is : object_at new p ≡ Some r) (others : (q : Place) → q ≢ p → object_at new q ≡ object_at objects q) where
         pub each_changed : (front : List V) × (back : List V) × (values ≡ front ++ out ∷ back) × (IsSorted nat_cmp (map key_of (front ++ r ∷ back)) → HasEachIn node linked table key_of w root new (front ++ r ∷ back))
         each_changed = by each_member.0 each_member.1 each_member.2 where
@@ -147,7 +147,7 @@ module _ {L E V : Type 0} {node : E → Node} {linked : E → Bool} {table : L �
             placed : ArePlaced new (front ++ back)
             placed = all_beside objects new p others IsSome (front ++ back) out_of (all_without (λ q. IsSome (object_at objects q)) front p back (subst (ArePlaced objects) at each.sorted.stand.placed))
 
--- A PLAIN TABLE has the laws of a table of trees, for words of any width
+-- A PLAIN TABLE obeys the laws of a table of trees, for words of any width
 module _ {W A : Type 0} (width : Width) (unlinked : W) (is_linked : W → Bool) (node : W → Node) where
   pub plain_reads : is_linked unlinked ≡ false → ((w : W) → (node w).linked ≡ is_linked w) → ReadsTrees (node_by node) (linked_by is_linked) (plain.table {A = A} width unlinked)
   plain_reads starts alike = record {
@@ -155,6 +155,6 @@ module _ {W A : Type 0} (width : Width) (unlinked : W) (is_linked : W → Bool) 
     covered = λ links p is. linked_in_range (linked_by is_linked) (link_of unlinked) starts (nameable width (entries links)) (index_of p) is;
   }
 
--- the same for a table of 8-byte words
+-- a plain table of 8-byte words obeys the laws of a table of trees
 pub wide_reads : {A : Type 0} → ReadsTrees node_of is_linked (plain_table {A = A})
 wide_reads = plain_reads wide no_words has_link node_in refl (λ w. refl)

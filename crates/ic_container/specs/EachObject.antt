@@ -1,4 +1,4 @@
--- A tree that has each of the objects, over links of either width.
+-- A container has a tree with each of its objects, over links of either width.
 use Rattle.std.specs.Prelude.{◌≡◌, ℕ, Bool, Option, List}
 use Rattle.std.specs.Ordering.{nat_cmp}
 use Rattle.ic_link_ops.specs.Prelude.{Place, Objects, is_placed, Table, IsCovered, IsLinked}
@@ -6,13 +6,12 @@ use Rattle.ic_link_ops.specs.RedBlackTree.{Node, Represents}
 use Rattle.ic_rbtree.specs.SortedValues.{HasSorted}
 
 module _ {L E : Type 0} (node : E → Node) (linked : E → Bool) (table : L → Table E) where
-  -- THE LAWS of a table of trees, of whatever width: both ways to read an entry agree on whether its place is linked, and every linked place is
-  -- covered
+  -- THE LAWS OF A TABLE OF TREES of any width: both ways to read an entry agree on whether its place is linked, and every linked place is covered
   pub record ReadsTrees : Type 0 where
     pub alike : (e : E) → (node e).linked ≡ linked e
     pub covered : (links : L) (p : Place) → IsLinked linked (table links) p → IsCovered (table links) p
 
-  -- THE TREE HAS EACH OBJECT: the objects, as these values, by a key; and exactly the places of objects are linked
+  -- THE TREE HAS EACH OBJECT: its members have the given values, in the order of a key, and exactly the places of objects are linked
   pub record HasEachIn {V : Type 0} (key_of : V → ℕ) (links : L) (root : Option Place) (objects : Objects V) (values : List V) : Type 0 where
     pub reads : ReadsTrees
     pub sorted : HasSorted nat_cmp key_of (Represents node) linked (table links) root objects values

@@ -1,4 +1,4 @@
--- What a container maintains for one table: each place is linked in the collection to which it belongs, and nothing else is linked.
+-- A container maintains for its table that each place is linked in the collection to which it belongs, and that no other place is linked.
 use Rattle.std.specs.Prelude.{◌≡◌, ℕ, Bool, Option, None, List}
 use Rattle.ic_link_ops.specs.Prelude.{Place, Table, IsUnlinked}
 use Rattle.ic_link_ops.specs.Chains.{Ends}
@@ -7,7 +7,7 @@ use Rattle.ic_link_ops.specs.LinkedList.{Neighbors}
 use Rattle.ic_container.specs.Edited.{HasJoined, HasLeft, HasMoved}
 use Rattle.ic_container.specs.Rows.{Rows, EachInItsList}
 
--- the members of each collection: `heads` are the collections, and `members` the sequences that the table represents for them
+-- row i has the members of collection i: `heads` gives the collections, and `members` gives the sequence that the table represents for a collection
 abbrev pub rows_of : {L H : Type 0} → (L → H → List Place) → L → (ℕ → H) → Rows
 rows_of members links heads i = members links (heads i)
 
@@ -17,7 +17,7 @@ module _ {L E H : Type 0} (Represents : Table E → H → List Place → Type 0)
     pub housed : EachInItsList owner (rows_of members links heads)
     pub only : (p : Place) → owner p ≡ None → IsUnlinked linked (table links) p
 
--- the same for lists, over links of any width: their members, as the table represents them
+-- `members_in` gives the members of a list, as the table represents them, and `list_rows` the members of each list, over links of any width
 module _ {L E : Type 0} (neighbors : E → Neighbors) (table : L → Table E) where
   abbrev pub members_in : L → Ends → List Place
   members_in links list = lists.members neighbors (table links) list
@@ -28,7 +28,7 @@ module _ {L E : Type 0} (neighbors : E → Neighbors) (table : L → Table E) wh
 abbrev pub HoldsLists : {L E : Type 0} → (E → Neighbors) → (E → Bool) → (L → Table E) → L → (ℕ → Ends) → (Place → Option ℕ) → Type 0
 HoldsLists neighbors linked table = Holds (lists.Represents neighbors) linked table (members_in neighbors table)
 
--- one edit of a list
+-- one edit of a list: a place joins the list (`ListAdds`), leaves it (`ListLeaves`), or moves in it (`ListMoves`)
 module _ {E : Type 0} (neighbors : E → Neighbors) (linked : E → Bool) (old new : Table E) (head after : Ends) where
   abbrev pub ListAdds : List Place → Place → List Place → Type 0
   ListAdds = HasJoined (lists.Represents neighbors) linked old new head after

@@ -1,9 +1,9 @@
--- How a container reads the table of its lists, for words of any width.
+-- A container can read an entry of its lists in two ways, for words of any width.
 use Rattle.std.specs.Prelude.{◌≡◌, Bool}
 use Rattle.ic_link_ops.specs.Prelude.{Place, Table, IsCovered, IsLinked}
 use Rattle.ic_link_ops.specs.LinkedList.{Neighbors}
 
--- THE LAWS of such a table: both ways to read an entry agree on whether its place is linked, and every linked place is covered
+-- THE LAWS OF A TABLE OF LISTS: both ways to read an entry agree on whether its place is linked, and the table covers every linked place
 pub record ReadsLists {L E : Type 0} (neighbors : E → Neighbors) (linked : E → Bool) (table : L → Table E) : Type 0 where
   pub alike : (e : E) → (neighbors e).linked ≡ linked e
   pub covered : (links : L) (p : Place) → IsLinked linked (table links) p → IsCovered (table links) p

@@ -1,4 +1,4 @@
--- Walks over the objects of a container, in their order.
+-- A walk returns the objects of a container in their order.
 use Rattle.std.specs.Prelude.{true, List}
 use Rattle.ic_link_ops.specs.Prelude.{Objects, Table}
 use Rattle.ic_link_ops.specs.LinkedList.{Neighbors, IsBetween, next_of}
@@ -10,6 +10,6 @@ module _ {L E : Type 0} (neighbors : E → Neighbors) (table : L → Table E) {K
   abbrev pub left_of : Iter K T L (Objects T) → List T
   left_of t = objects_left (next_of neighbors) table (λ (o : Objects T). o) t
 
-  -- the walk returns its first or its last object
+  -- the walk can return the first or the last of the objects that are left
   abbrev pub CanWalkOn : Iter K T L (Objects T) → Type 0
   CanWalkOn t = CanWalk true (IsBetween neighbors) table (λ (o : Objects T). o) t

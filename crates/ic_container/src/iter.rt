@@ -1,4 +1,4 @@
-//! A walk over the objects of a container, in their order.
+//! A walk returns the objects of a container in their order.
 //!
 //! ```text
 //! for job in listed.iter() {
@@ -16,9 +16,9 @@ use ic_unsafe_ref::Objects;
 use std::alloc::Allocator;
 use std::marker::Model;
 
-/// A walk over objects in their order. `next` returns the first of those that it has not returned yet, and `next_back` the last.
+/// A walk over objects in their order. `next` returns the first object that the walk has not returned yet, and `next_back` the last such object.
 ///
-/// A contract sees the list of the objects that it has not returned. `W` is the type of the links' words, as in the container.
+/// A contract speaks of the list of the objects that the walk has not returned. `W` is the type of the words of the container's links.
 #[derive(Drop)]
 pub struct Iter<'a, T, A: Allocator, W: PrevPlace = TwoWords> {
     walk: ic_linked_list::Iter<'a, T, PlainTable<W, A>, Objects<T, A>>,
@@ -66,7 +66,7 @@ impl<'a, T, A: Allocator, W: PrevPlace> Iterator for Iter<'a, T, A, W> {
 
     ghost remaining = { item_count (λ (left : List T). left) };
 
-    /// Returns the next object. O(1).
+    /// Returns the first object that the walk has not returned yet. O(1).
     fn next(&mut self) -> Option<&'a T> {
         self.walk.next()
     }
@@ -79,7 +79,7 @@ impl<'a, T, A: Allocator, W: PrevPlace> DoubleEndedIterator for Iter<'a, T, A, W
 
     ghost next_back_gives = { GivesLast (λ (left : List T). left) };
 
-    /// Returns the next object from the back. O(1).
+    /// Returns the last object that the walk has not returned yet. O(1).
     fn next_back(&mut self) -> Option<&'a T> {
         self.walk.next_back()
     }

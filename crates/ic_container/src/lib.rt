@@ -1,4 +1,4 @@
-//! What a container maintains: its objects, and the collections in which they are linked.
+//! A container has objects, and the collections in which the objects are linked.
 //!
 //! ```text
 //! let mut listed = Listed::new(rt.alloc());
@@ -6,12 +6,12 @@
 //! listed.move_to_front(job.place());
 //! ```
 //!
-//! For containers of your own there is a record for the invariant, `Holds` (specs/Holds.antt), with lemmas that prove it again after each edit
-//! (proofs/HoldsLemmas.antt), and there is `lists`, whose calls state an edit as one value and are never refused.
+//! For containers of your own there is a record for the invariant, `Holds` (specs/Holds.antt). Lemmas prove the invariant again after each edit
+//! (proofs/HoldsLemmas.antt). The calls of `lists` state an edit as one value, and are never refused.
 #![tactic(auto)]
 
 mod iter;
-pub mod lanes;
+pub mod list_array;
 mod listed;
 pub mod lists;
 pub mod trees;

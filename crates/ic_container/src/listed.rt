@@ -1,4 +1,4 @@
-//! Objects that are all in one list: a pool, its table and the list, as one value.
+//! A container has objects that are all in one list. It is a pool, its table of links and the list, as one value.
 //!
 //! ```text
 //! let object = listed.place_front(10)?;
@@ -25,8 +25,8 @@ use std::mem;
 
 /// Objects that are all in one list.
 ///
-/// A contract sees their places from the front, and the object at each (`Order`). `W` is the type of the links' words, which have 8 bytes unless
-/// another type is named.
+/// A contract speaks of the objects' places from the front, and of the object at each place (`Order`). `W` is the type of the links' words, which have 8
+/// bytes unless another type is named.
 #[derive(Drop)]
 pub struct Listed<T, A: Allocator = Global, W: PrevPlace = TwoWords> {
     pool: Pool<T, PlainTable<W, A>, A>,
@@ -63,7 +63,7 @@ impl<T, A: Allocator> Listed<T, A> {
 }
 
 impl<T, A: Allocator, W: PrevPlace> Listed<T, A, W> {
-    /// Makes an empty container over links with words of this type: `NarrowListed::with_words(rt.alloc())`. It takes no memory. O(1).
+    /// Makes an empty container over links with words of the type `W`, for example: `NarrowListed::with_words(rt.alloc())`. It takes no memory. O(1).
     pub fn with_words(alloc: A) -> Listed<T, A, W>
     where
         A: Copy,
@@ -78,8 +78,9 @@ impl<T, A: Allocator, W: PrevPlace> Listed<T, A, W> {
 
     /// Adds an object at the front. O(1), and at most two requests for memory.
     ///
-    /// If it is refused, the caller gets the value back, and nothing has changed. The error is `NoPlaceLeft` exactly if all 4,294,967,296 places are
-    /// in use. Otherwise it is `OutOfMemory`, also if the links have 4-byte words and all 536,870,911 places that these can name are in use.
+    /// If the call is refused, the caller gets the value back, and nothing has changed. The error is `NoPlaceLeft` exactly if all 4,294,967,296 places are
+    /// in use. Every other error is `OutOfMemory`. It is also the error if the links have 4-byte words, and all 536,870,911 places are in use that such
+    /// words can name.
     pub fn place_front(&mut self, value: T) -> Result<UnsafeRef<T>, PlaceError<T>>
         ensures placed { IfOk result (λ object. Places self.old.values self.new.values object value) }
         ensures front { IfOk result (λ object. self.new.order ≡ object ∷ self.old.order) }
@@ -94,7 +95,7 @@ impl<T, A: Allocator, W: PrevPlace> Listed<T, A, W> {
         Ok(object)
     }
 
-    /// Adds an object at the back. Everything else is as for `place_front`. O(1).
+    /// Adds an object at the back. In all other respects the call does what `place_front` does. O(1).
     pub fn place_back(&mut self, value: T) -> Result<UnsafeRef<T>, PlaceError<T>>
         ensures placed { IfOk result (λ object. Places self.old.values self.new.values object value) }
         ensures back { IfOk result (λ object. self.new.order ≡ self.old.order ++ object ∷ []) }
@@ -109,8 +110,8 @@ impl<T, A: Allocator, W: PrevPlace> Listed<T, A, W> {
         Ok(object)
     }
 
-    /// Moves the object at a place to the front. The others keep their order. It requires that there is an object at the place. O(1), and it takes no
-    /// memory.
+    /// Moves the object at a place to the front. The other objects keep their order. It requires that there is an object at the place. O(1), and it takes
+    /// no memory.
     pub fn move_to_front(&mut self, place: Place)
         requires placed { is_placed self.old.values place ≡ true }
         ensures moved { (others : List Place) × Without place self.old.order others × (self.new.order ≡ place ∷ others) }
@@ -119,7 +120,7 @@ impl<T, A: Allocator, W: PrevPlace> Listed<T, A, W> {
         lists::move_to_front(&mut self.list, &mut self.pool.links, place);
     }
 
-    /// Moves the object at a place to the back. Everything else is as for `move_to_front`. O(1).
+    /// Moves the object at a place to the back. In all other respects the call does what `move_to_front` does. O(1).
     pub fn move_to_back(&mut self, place: Place)
         requires placed { is_placed self.old.values place ≡ true }
         ensures moved { (others : List Place) × Without place self.old.order others × (self.new.order ≡ others ++ place ∷ []) }
@@ -139,7 +140,7 @@ impl<T, A: Allocator, W: PrevPlace> Listed<T, A, W> {
         mem::replace(self.pool.objects.get_mut(place).unwrap(), value) // proved: one stands there
     }
 
-    /// Removes the object and returns it. It requires that there is an object at the place. The others keep their order. O(1), and it takes no
+    /// Removes the object and returns it. It requires that there is an object at the place. The other objects keep their order. O(1), and it takes no
     /// memory.
     pub fn remove(&mut self, place: Place) -> T
         requires placed { is_placed self.old.values place ≡ true }
@@ -151,7 +152,7 @@ impl<T, A: Allocator, W: PrevPlace> Listed<T, A, W> {
         self.pool.remove(UnsafeRef::new(place))
     }
 
-    /// Removes the first object and returns it, or returns `None` if there is no object. The others keep their order. O(1), and it takes no memory.
+    /// Removes the first object and returns it, or returns `None` if there is no object. The other objects keep their order. O(1), and it takes no memory.
     pub fn pop_first(&mut self) -> Option<T>
         ensures { MatchOption result ((values_of self.old ≡ []) × (self.new ≡ self.old)) (λ first. values_of self.old ≡ first ∷ values_of self.new) }
     {
@@ -159,7 +160,7 @@ impl<T, A: Allocator, W: PrevPlace> Listed<T, A, W> {
         Some(self.remove(place))
     }
 
-    /// Removes the last object and returns it, or returns `None` if there is no object. The others keep their order. O(1), and it takes no memory.
+    /// Removes the last object and returns it, or returns `None` if there is no object. The other objects keep their order. O(1), and it takes no memory.
     pub fn pop_last(&mut self) -> Option<T>
         ensures { MatchOption result ((values_of self.old ≡ []) × (self.new ≡ self.old)) (λ last. values_of self.old ≡ values_of self.new ++ last ∷ []) }
     {
@@ -190,7 +191,7 @@ impl<T, A: Allocator, W: PrevPlace> Listed<T, A, W> {
         Iter::new(self.list.iter(&self.pool.links, &self.pool.objects))
     }
 
-    /// Returns the object that a reference names, or `None` if there is none at its place. O(1).
+    /// Returns the object that a reference names, or `None` if there is no object at the reference's place. O(1).
     pub fn get(&self, object: &UnsafeRef<T>) -> Option<&T>
         ensures { option_copied result ≡ object_at self.now.values object.now }
     {

@@ -1,4 +1,5 @@
-//! Lists over links of either width. The contract of each call states one edit, in the form in which a container's lemmas use it.
+//! These calls edit lists, over links whose words have either width. The contract of each call states one edit, in the form in which a container's lemmas
+//! use it.
 //!
 //! ```text
 //! lists::push_front(&mut self.order, &mut self.pool.links, place);
@@ -15,7 +16,7 @@ use ic_link_ops::linked_list::LinkedListOps;
 use ic_linked_list::LinkedList;
 use ic_unsafe_ref::{Place, UnsafeRef};
 
-/// Inserts the object at the front. It requires that the table covers its place, and that it is not linked. O(1), and it takes no memory.
+/// Inserts the object at the front. It requires that the table covers the object's place, and that the object is not linked. O(1), and it takes no memory.
 #[inline]
 pub fn push_front<T, L: LinkedListOps + AcceptsUnlinked>(
     list: &mut LinkedList<T>,
@@ -30,7 +31,7 @@ pub fn push_front<T, L: LinkedListOps + AcceptsUnlinked>(
     let _ = list.push_front(links, UnsafeRef::new(place)); // proved: it is not linked
 }
 
-/// Inserts the object at the back. It requires that the table covers its place, and that it is not linked. O(1), and it takes no memory.
+/// Inserts the object at the back. It requires that the table covers the object's place, and that the object is not linked. O(1), and it takes no memory.
 #[inline]
 pub fn push_back<T, L: LinkedListOps + AcceptsUnlinked>(
     list: &mut LinkedList<T>,
@@ -58,8 +59,8 @@ pub fn remove<T, L: LinkedListOps + AcceptsUnlinked>(
     list.remove(links, &UnsafeRef::new(place));
 }
 
-/// Moves a member to the front. The others keep their order, and it stays linked. It requires that the object is a member. O(1), and it takes no
-/// memory.
+/// Moves a member to the front. The other members keep their order, and the moved member stays linked. It requires that the object is a member. O(1), and
+/// it takes no memory.
 #[inline]
 pub fn move_to_front<T, L: LinkedListOps>(list: &mut LinkedList<T>, links: &mut L, place: Place)
     requires member { HasMember (Represents L.neighbors (L.table links.old) list.old) place }
@@ -69,8 +70,8 @@ pub fn move_to_front<T, L: LinkedListOps>(list: &mut LinkedList<T>, links: &mut 
     list.move_to_front(links, &UnsafeRef::new(place));
 }
 
-/// Moves a member to the back. The others keep their order, and it stays linked. It requires that the object is a member. O(1), and it takes no
-/// memory.
+/// Moves a member to the back. The other members keep their order, and the moved member stays linked. It requires that the object is a member. O(1), and
+/// it takes no memory.
 #[inline]
 pub fn move_to_back<T, L: LinkedListOps>(list: &mut LinkedList<T>, links: &mut L, place: Place)
     requires member { HasMember (Represents L.neighbors (L.table links.old) list.old) place }

@@ -1,4 +1,5 @@
-//! Trees over links of either width. Each has all objects of a container, in the order of a number that its adapter returns for each.
+//! A container can have its objects in trees, over links of either width. Each tree has all objects, in the order of a number that the tree's adapter
+//! returns for each object.
 //!
 //! ```text
 //! trees::insert(&mut self.by_number, &mut self.pool.links.0, &self.pool.objects, object.place());
@@ -20,7 +21,7 @@ use ic_rbtree::{KeyAdapter, RBTree};
 use ic_unsafe_ref::{Objects, Place, UnsafeRef};
 use std::alloc::Allocator;
 
-/// Returns the place of an object with this key, or `None` if no object has it. It requires that the tree has all objects. O(log n).
+/// Returns the place of an object with this key, or `None` if no object has this key. It requires that the tree has all objects. O(log n).
 pub fn find<K: KeyAdapter<Key = u64>, L: RBTreeOps, B: Allocator>(
     tree: &RBTree<K>,
     links: &L,
@@ -33,7 +34,7 @@ pub fn find<K: KeyAdapter<Key = u64>, L: RBTreeOps, B: Allocator>(
     tree.find(links, objects, &key).get_ptr()
 }
 
-/// Returns an object with this key, or `None` if none has it. It requires that the tree has all objects. O(log n).
+/// Returns an object with this key, or `None` if no object has this key. It requires that the tree has all objects. O(log n).
 pub fn get<'o, K: KeyAdapter<Key = u64>, L: RBTreeOps, B: Allocator>(
     tree: &RBTree<K>,
     links: &L,
@@ -64,8 +65,8 @@ pub fn insert<K: KeyAdapter<Key = u64>, L: RBTreeOps + AcceptsUnlinked, B: Alloc
     let _ = tree.insert(links, objects, UnsafeRef::new(place)); // proved: it is not linked
 }
 
-/// Removes an object from the tree, before it leaves its place. It requires that the tree has all objects, and that there is an object at the place.
-/// O(log n), and it takes no memory.
+/// Removes an object from the tree, before the object is taken from its place. It requires that the tree has all objects, and that there is an object at
+/// the place. O(log n), and it takes no memory.
 pub fn remove<K: KeyAdapter<Key = u64>, L: RBTreeOps, B: Allocator>(
     tree: &mut RBTree<K>,
     links: &mut L,

@@ -1,4 +1,4 @@
--- What an edit at a position gives, by whether the link was acquired.
+-- What an edit at a position changes, if the object's link was acquired and if it was refused.
 use Rattle.std.proofs.Common.{◌≡◌, List, [], ◌∷◌, Bool, true, false, Result, Ok, Err, OnOk, OnErr, IfErr, Option, Some, refl, sym, subst}
 use Rattle.std.specs.Bool.{OnTrue, OnFalse}
 use Rattle.ic_link_ops.specs.Prelude.{Place, Cut, join, IsAfter, IsBefore, Table, CursorState, RepresentsAt, IsValidCursor, LinkStep, acquires}
@@ -8,7 +8,8 @@ use Rattle.ic_link_ops.specs.EditsAt.{InsertsBeside, ReplacesThere}
 use Rattle.ic_link_ops.proofs.Positions.{inserts_after, inserts_before}
 use Rattle.ic_cursors.specs.Answers.{inserted, replaced}
 
--- WHAT AN INSERT BESIDE A POSITION SAYS, by whether the link was acquired, of the gaps alone
+-- AN INSERT BESIDE A POSITION meets its contract if the given facts hold. They say whether the object's link was acquired (`b`), and into which gap
+-- the object was inserted if it was
 module _ {L E H : Type 0} (Represents : Table E → H → List Place → Type 0) (table : L → Table E) (Trace : L → L → List LinkStep → Type 0) (Refused : L → L → Place → Type 0)
     (old new : CursorState L H) (p : Place) (T : Type 0) (IsBeside : Cut → Option Place → Type 0) where
   abbrev pub Puts : Type 0
@@ -23,7 +24,7 @@ module _ {L E H : Type 0} (Represents : Table E → H → List Place → Type 0)
   by_result says true acquired refused unchanged puts = says (Ok tt) acquired tt tt puts
   by_result says false acquired refused unchanged puts = says (Err (record { 0 = p })) tt refused (refl, unchanged) (λ _ _ _. tt)
 
--- `keeps`: the law that a refusal changes no entry
+-- `keeps`: the law that a refused link leaves all entries of the table as they were
 module _ {L E H : Type 0} {Represents : Table E → H → List Place → Type 0} {table : L → Table E} {Trace : L → L → List LinkStep → Type 0} {Refused : L → L → Place → Type 0}
     (keeps : (a b : L) (q : Place) → Refused a b q → table b ≡ table a) {old new : CursorState L H} (p : Place) (stands : IsValidCursor Represents table old)
     (position : new.position ≡ old.position) {T : Type 0} where

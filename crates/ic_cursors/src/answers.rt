@@ -1,4 +1,4 @@
-//! What a cursor returns, given that its kind returned whether a link was acquired.
+//! What a call of a cursor returns, given whether the object's link was acquired. The cursor's kind of collection returns that boolean.
 //!
 //! ```text
 //! replaced(None, object, false) // Err(ReplaceError::Null(object))
@@ -10,8 +10,8 @@ ghost use Rattle.ic_cursors.specs.Answers as answer;
 use ic_link_ops::ReplaceError;
 use ic_unsafe_ref::{Place, UnsafeRef};
 
-/// The result of replacing the member `out` by the object: `out` is none at null, and the object's link was acquired or
-/// not.
+/// The result of a call that replaces the member `out` by the object. It is an error if `out` is none, because then no member is replaced, or if the
+/// object's link was refused (`is_acquired` is false).
 #[inline]
 pub(crate) fn replaced<T>(
     out: Option<Place>,

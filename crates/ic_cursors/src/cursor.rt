@@ -1,4 +1,4 @@
-//! A cursor that reads.
+//! A cursor that reads a collection.
 //!
 //! ```text
 //! let mut cursor = list.cursor(&links); // null
@@ -15,7 +15,7 @@ use ic_link_ops::LinkOps;
 use ic_unsafe_ref::{Objects, Place, UnsafeRef};
 use std::alloc::{AllocError, Allocator};
 
-/// A position in a collection: on a member, or at null, which is between the last member and the first.
+/// A cursor that reads a collection. It is on a member, or at null, which is between the last member and the first.
 pub struct Cursor<'a, C: Collection, L> {
     list: &'a C,
     links: &'a L,
@@ -35,7 +35,8 @@ impl<C: Collection, L> Drop for Cursor<'_, C, L> {
 impl<'a, C: Collection, L> Cursor<'a, C, L> {
     ghost use Rattle.ic_cursors.specs.Cursor.{list_of, links_of, place_of, position};
 
-    /// A cursor at that position of the collection. The calls of each kind that make cursors call this function. O(1).
+    /// Makes a cursor at the position `current` of the collection `list`. Each kind of collection has calls that make cursors, and these calls use
+    /// this function. O(1).
     #[inline]
     pub fn new(list: &'a C, links: &'a L, current: C::Position) -> Cursor<'a, C, L>
         ensures list { list_of result ≡ list.now }
@@ -57,7 +58,7 @@ impl<'a, C: Collection, L> Cursor<'a, C, L> {
         self.current.get().is_none()
     }
 
-    /// The place of the member that the cursor is on, `None` at null. O(1).
+    /// The place of the member that the cursor is on, or `None` if the cursor is on no member. O(1).
     #[inline]
     pub fn get_ptr(&self) -> Option<Place>
         ensures { result ≡ position C.Position.member self.now }
@@ -65,7 +66,7 @@ impl<'a, C: Collection, L> Cursor<'a, C, L> {
         self.current.get()
     }
 
-    /// The object that the cursor is on, `None` at null. One look-up, O(1).
+    /// The object that the cursor is on, or `None` if the cursor is on no member. The call makes one look-up, O(1).
     #[inline]
     pub fn get<'b, A: Allocator>(&self, objects: &'b Objects<C::Object, A>) -> Option<&'b C::Object>
         ensures { option_copied result ≡ object_there objects.now (position C.Position.member self.now) }
@@ -73,7 +74,7 @@ impl<'a, C: Collection, L> Cursor<'a, C, L> {
         objects.get(self.current.get()?)
     }
 
-    /// A reference to the object that the cursor is on, `None` at null. O(1).
+    /// A reference to the object that the cursor is on, or `None` if the cursor is on no member. O(1).
     #[inline]
     pub fn clone_pointer(&self) -> Option<UnsafeRef<C::Object>>
         ensures { result ≡ position C.Position.member self.now }
@@ -86,9 +87,10 @@ impl<'a, C: Collection, L> Cursor<'a, C, L> {
 impl<'a, L: LinkOps, C: CursorOps<L>> Cursor<'a, C, L> {
     ghost use Rattle.ic_cursors.specs.Cursor.{list_of, links_of, position, site_of, IsValid};
 
-    /// Moves to the next member, from null to the first one, and from the last one to null.
+    /// Moves the cursor to the next member, or from the last member to null (no member), or from null to the first member.
     ///
-    /// The gap that was after the cursor is before it afterwards. O(1) in a list and O(log n) in a tree, where a walk over all members is O(n).
+    /// The gap between two neighbors that was right after the cursor is right before the cursor after the move. The call takes O(1) in a list and
+    /// O(log n) in a tree. A walk over all members of a tree takes O(n).
     #[inline]
     pub fn move_next(&mut self)
         requires stands { IsValid C.IsValidAt self.old }
@@ -101,7 +103,7 @@ impl<'a, L: LinkOps, C: CursorOps<L>> Cursor<'a, C, L> {
     }
 
     /// A cursor at the position to which [`Cursor::move_next`] would move.
-    /// O(1) in a list and O(log n) in a tree, where a walk over all members is O(n).
+    /// The call takes O(1) in a list and O(log n) in a tree. A walk over all members of a tree takes O(n).
     #[inline]
     pub fn peek_next(&self) -> Cursor<'a, C, L>
         requires stands { IsValid C.IsValidAt self.now }
@@ -121,9 +123,10 @@ impl<'a, L: LinkOps, C: CursorOps<L>> Cursor<'a, C, L> {
 impl<'a, L: LinkOps, C: Bidirectional<L>> Cursor<'a, C, L> {
     ghost use Rattle.ic_cursors.specs.Cursor.{list_of, links_of, position, site_of, IsValid};
 
-    /// Moves to the previous member, from null to the last one, and from the first one to null.
+    /// Moves the cursor to the previous member, or from the first member to null (no member), or from null to the last member.
     ///
-    /// The gap that was before the cursor is after it afterwards. O(1) in a list and O(log n) in a tree, where a walk over all members is O(n).
+    /// The gap between two neighbors that was right before the cursor is right after the cursor after the move. The call takes O(1) in a list and
+    /// O(log n) in a tree. A walk over all members of a tree takes O(n).
     #[inline]
     pub fn move_prev(&mut self)
         requires stands { IsValid C.IsValidAt self.old }
@@ -136,7 +139,7 @@ impl<'a, L: LinkOps, C: Bidirectional<L>> Cursor<'a, C, L> {
     }
 
     /// A cursor at the position to which [`Cursor::move_prev`] would move.
-    /// O(1) in a list and O(log n) in a tree, where a walk over all members is O(n).
+    /// The call takes O(1) in a list and O(log n) in a tree. A walk over all members of a tree takes O(n).
     #[inline]
     pub fn peek_prev(&self) -> Cursor<'a, C, L>
         requires stands { IsValid C.IsValidAt self.now }
@@ -158,7 +161,7 @@ impl<C: Collection, L> Clone for Cursor<'_, C, L> {
 
     ghost is_infallible = { λ _. ⊤ };
 
-    /// A cursor at the same position. It never fails.
+    /// A second cursor at the position of this cursor. The call never fails.
     fn clone(&self) -> Result<Self, AllocError> {
         Ok(Cursor {
             list: self.list,

@@ -1,4 +1,4 @@
-//! A cursor that edits.
+//! A cursor that edits a collection.
 //!
 //! ```text
 //! let mut cursor = list.front_mut(&mut links);
@@ -21,7 +21,7 @@ use ic_link_ops::{AlreadyLinked, LinkOps, ReplaceError};
 use ic_unsafe_ref::{Objects, Place, UnsafeRef, Values};
 use std::alloc::Allocator;
 
-/// A cursor that edits. It borrows the collection and the table of its links.
+/// A cursor that edits a collection. The cursor borrows the collection and the table of its links.
 pub struct CursorMut<'a, C: Collection, L> {
     list: &'a mut C,
     links: &'a mut L,
@@ -45,7 +45,8 @@ impl<'a, C: Collection, L> CursorMut<'a, C, L> {
     ghost use Rattle.ic_cursors.specs.CursorMut.{list_of, links_of, place_of, position, IsBorrowed};
     ghost use Rattle.ic_cursors.specs.Cursor as reading;
 
-    /// A cursor at that position of the collection. The calls of each kind that make cursors call this function. O(1).
+    /// Makes a cursor at the position `current` of the collection `list`. Each kind of collection has calls that make cursors, and these calls use
+    /// this function. O(1).
     #[inline]
     pub fn new(list: &'a mut C, links: &'a mut L, current: C::Position) -> CursorMut<'a, C, L>
         ensures borrows { IsBorrowed list.entry links.entry result }
@@ -66,7 +67,7 @@ impl<'a, C: Collection, L> CursorMut<'a, C, L> {
         self.current.get().is_none()
     }
 
-    /// The place of the member that the cursor is on, `None` at null. O(1).
+    /// The place of the member that the cursor is on, or `None` if the cursor is on no member. O(1).
     #[inline]
     pub fn get_ptr(&self) -> Option<Place>
         ensures { result ≡ position C.Position.member self.now }
@@ -74,7 +75,7 @@ impl<'a, C: Collection, L> CursorMut<'a, C, L> {
         self.current.get()
     }
 
-    /// The object that the cursor is on, `None` at null. One look-up, O(1).
+    /// The object that the cursor is on, or `None` if the cursor is on no member. The call makes one look-up, O(1).
     #[inline]
     pub fn get<'b, A: Allocator>(&self, objects: &'b Objects<C::Object, A>) -> Option<&'b C::Object>
         ensures { option_copied result ≡ object_there objects.now (position C.Position.member self.now) }
@@ -82,8 +83,8 @@ impl<'a, C: Collection, L> CursorMut<'a, C, L> {
         objects.get(self.current.get()?)
     }
 
-    /// Ends the cursor and returns the object that it is on, as [`CursorMut::get`] does. The collection and the table
-    /// stay as they are. O(1).
+    /// Ends the cursor and returns the object that the cursor is on, or `None` if it is on no member. The collection and the table stay as they are.
+    /// O(1).
     #[inline]
     pub fn into_ref<'b, A: Allocator>(
         self,
@@ -96,7 +97,7 @@ impl<'a, C: Collection, L> CursorMut<'a, C, L> {
         self.get(objects)
     }
 
-    /// A cursor that reads, at the same position. O(1).
+    /// A reading cursor at the position of this cursor. O(1).
     #[inline]
     pub fn as_cursor(&self) -> Cursor<'_, C, L>
         ensures list { reading.list_of result ≡ list_of self.now }
@@ -111,9 +112,10 @@ impl<'a, L: LinkOps, C: CursorOps<L>> CursorMut<'a, C, L> {
     ghost use Rattle.ic_cursors.specs.CursorMut.{list_of, links_of, position, site_of, IsValid, Stays, Edited};
     ghost use Rattle.ic_cursors.specs.Cursor as reading;
 
-    /// Moves to the next member, from null to the first one, and from the last one to null.
+    /// Moves the cursor to the next member, or from the last member to null (no member), or from null to the first member.
     ///
-    /// The gap that was after the cursor is before it afterwards. O(1) in a list and O(log n) in a tree, where a walk over all members is O(n).
+    /// The gap between two neighbors that was right after the cursor is right before the cursor after the move. The call takes O(1) in a list and
+    /// O(log n) in a tree. A walk over all members of a tree takes O(n).
     #[inline]
     pub fn move_next(&mut self)
         requires stands { IsValid C.IsValidAt self.old }
@@ -124,8 +126,8 @@ impl<'a, L: LinkOps, C: CursorOps<L>> CursorMut<'a, C, L> {
         self.current = self.list.next_of(&*self.links, &self.current);
     }
 
-    /// A cursor that reads, at the position to which [`CursorMut::move_next`] would move.
-    /// O(1) in a list and O(log n) in a tree, where a walk over all members is O(n).
+    /// A reading cursor at the position to which [`CursorMut::move_next`] would move. The call takes O(1) in a list and O(log n) in a tree. A walk
+    /// over all members of a tree takes O(n).
     #[inline]
     pub fn peek_next(&self) -> Cursor<'_, C, L>
         requires stands { IsValid C.IsValidAt self.now }
@@ -138,9 +140,10 @@ impl<'a, L: LinkOps, C: CursorOps<L>> CursorMut<'a, C, L> {
         cursor.peek_next()
     }
 
-    /// Inserts the object after the cursor, or before the first member at null, unless its link is refused.
+    /// Inserts the object after the cursor, or before the first member if the cursor is on no member, unless the object's link is refused.
     ///
-    /// It requires that the object's place is covered. The cursor stays where it is. O(1) in a list, O(log n) in a tree.
+    /// The call requires that the table covers the object's place. The cursor stays where it is. An insert takes O(1) in a list and O(log n) in a
+    /// tree.
     #[inline]
     pub fn insert_after(
         &mut self,
@@ -166,9 +169,10 @@ impl<'a, L: LinkOps, C: Bidirectional<L>> CursorMut<'a, C, L> {
     ghost use Rattle.ic_cursors.specs.CursorMut.{list_of, links_of, position, site_of, IsValid, Stays, Edited};
     ghost use Rattle.ic_cursors.specs.Cursor as reading;
 
-    /// Moves to the previous member, from null to the last one, and from the first one to null.
+    /// Moves the cursor to the previous member, or from the first member to null (no member), or from null to the last member.
     ///
-    /// The gap that was before the cursor is after it afterwards. O(1) in a list and O(log n) in a tree, where a walk over all members is O(n).
+    /// The gap between two neighbors that was right before the cursor is right after the cursor after the move. The call takes O(1) in a list and
+    /// O(log n) in a tree. A walk over all members of a tree takes O(n).
     #[inline]
     pub fn move_prev(&mut self)
         requires stands { IsValid C.IsValidAt self.old }
@@ -179,8 +183,8 @@ impl<'a, L: LinkOps, C: Bidirectional<L>> CursorMut<'a, C, L> {
         self.current = self.list.prev_of(&*self.links, &self.current);
     }
 
-    /// A cursor that reads, at the position to which [`CursorMut::move_prev`] would move.
-    /// O(1) in a list and O(log n) in a tree, where a walk over all members is O(n).
+    /// A reading cursor at the position to which [`CursorMut::move_prev`] would move. The call takes O(1) in a list and O(log n) in a tree. A walk
+    /// over all members of a tree takes O(n).
     #[inline]
     pub fn peek_prev(&self) -> Cursor<'_, C, L>
         requires stands { IsValid C.IsValidAt self.now }
@@ -193,9 +197,10 @@ impl<'a, L: LinkOps, C: Bidirectional<L>> CursorMut<'a, C, L> {
         cursor.peek_prev()
     }
 
-    /// Inserts the object before the cursor, or after the last member at null, unless its link is refused.
+    /// Inserts the object before the cursor, or after the last member if the cursor is on no member, unless the object's link is refused.
     ///
-    /// It requires that the object's place is covered. The cursor stays where it is. O(1) in a list, O(log n) in a tree.
+    /// The call requires that the table covers the object's place. The cursor stays where it is. An insert takes O(1) in a list and O(log n) in a
+    /// tree.
     #[inline]
     pub fn insert_before(
         &mut self,
@@ -216,9 +221,9 @@ impl<'a, L: LinkOps, C: Bidirectional<L>> CursorMut<'a, C, L> {
         Ok(())
     }
 
-    /// Removes the member that the cursor is on and returns it, `None` at null.
+    /// Removes the member that the cursor is on and returns this member, or `None` if the cursor is on no member.
     ///
-    /// The cursor moves to the next member, or to null if there is none. O(1) in a list, O(log n) in a tree.
+    /// The cursor moves to the next member, or to null if there is no next member. A removal takes O(1) in a list and O(log n) in a tree.
     #[inline]
     pub fn remove(&mut self) -> Option<UnsafeRef<C::Object>>
         requires stands { IsValid C.IsValidAt self.old }
@@ -229,10 +234,10 @@ impl<'a, L: LinkOps, C: Bidirectional<L>> CursorMut<'a, C, L> {
         Some(UnsafeRef::new(place))
     }
 
-    /// Replaces the member that the cursor is on by the object, and returns that member.
+    /// Replaces the member that the cursor is on by the object, and returns the replaced member.
     ///
-    /// It requires that the object's place is covered. The cursor is on the object then. At null the call returns
-    /// [`ReplaceError::Null`], whether or not the object is linked. O(1).
+    /// The call requires that the table covers the object's place. Afterwards the cursor is on the object. If the cursor is on no member, the call
+    /// returns [`ReplaceError::Null`], whether or not the object is linked. O(1).
     #[inline]
     pub fn replace_with(
         &mut self,
@@ -253,10 +258,10 @@ impl<'a, L: LinkOps, C: Bidirectional<L>> CursorMut<'a, C, L> {
 impl<'a, L: LinkOps, C: Ordered<L>> CursorMut<'a, C, L> {
     ghost use Rattle.ic_cursors.specs.CursorMut.{list_of, links_of, site_of, IsValid, Edited};
 
-    /// Inserts the object where its key belongs, after the members that are not greater, unless its link is refused.
+    /// Inserts the object in the order of the keys, after the members whose keys are not greater, unless the object's link is refused.
     ///
-    /// It requires that the object and all members are placed, and that the object's place is covered. The cursor stays where it
-    /// is. If the link is refused, the object is returned and nothing else has changed. O(log n).
+    /// The call requires that an object is at the object's place and at each member, and that the table covers the object's place. The cursor stays
+    /// where it is. If the link is refused, the object is returned and nothing else has changed. O(log n).
     #[inline]
     pub fn insert<O: Values<C::Object>>(
         &mut self,
@@ -284,7 +289,8 @@ impl<'a, L: LinkOps, C: Ordered<L>> CursorMut<'a, C, L> {
 impl<'a, L: LinkOps, C: ForwardOnly<L>> CursorMut<'a, C, L> {
     ghost use Rattle.ic_cursors.specs.CursorMut.{links_of, site_of, IsValid, Edited};
 
-    /// Removes the member after the cursor, or the first one at null, and returns it; `None` if there is none.
+    /// Removes the member after the cursor, or the first member if the cursor is on no member, and returns it. If there is no such member, the result
+    /// is `None`.
     ///
     /// The cursor stays where it is. O(1).
     #[inline]
@@ -297,10 +303,10 @@ impl<'a, L: LinkOps, C: ForwardOnly<L>> CursorMut<'a, C, L> {
         Some(UnsafeRef::new(place))
     }
 
-    /// Replaces the member after the cursor, or the first one at null, by the object, and returns that member.
+    /// Replaces the member after the cursor, or the first member if the cursor is on no member, by the object. Returns the replaced member.
     ///
-    /// It requires that the object's place is covered. If there is no such member, it returns [`ReplaceError::Null`], whether or
-    /// not the object is linked. The cursor stays where it is. O(1).
+    /// The call requires that the table covers the object's place. If there is no member to replace, the call returns [`ReplaceError::Null`], whether
+    /// or not the object is linked. The cursor stays where it is. O(1).
     #[inline]
     pub fn replace_next_with(
         &mut self,
@@ -323,10 +329,10 @@ impl<'a, L: LinkOps, C: ForwardOnly<L>> CursorMut<'a, C, L> {
 impl<'a, L: LinkOps, C: Splice<L>> CursorMut<'a, C, L> {
     ghost use Rattle.ic_cursors.specs.CursorMut.{list_of, links_of, site_of, IsValid, SameBorrows, Edited};
 
-    /// Inserts all members of the given collection after the cursor, or before the first member at null.
+    /// Inserts all members of the given collection after the cursor, or before the first member if the cursor is on no member.
     ///
-    /// It requires that the table represents the given collection too, and that the two share no member. The cursor stays
-    /// where it is. O(1).
+    /// The call requires that the table also represents the given collection, and that the two collections share no member. The cursor stays where it
+    /// is. O(1).
     #[inline]
     pub fn splice_after(&mut self, given: C)
         requires stands { IsValid C.IsValidAt self.old }
@@ -341,7 +347,7 @@ impl<'a, L: LinkOps, C: Splice<L>> CursorMut<'a, C, L> {
             .splice_after_at(self.links, &mut self.current, given);
     }
 
-    /// Removes the members after the cursor, or all members at null, and returns them as a collection.
+    /// Removes the members after the cursor, or all members if the cursor is on no member, and returns them as a collection.
     ///
     /// The cursor stays where it is. O(1).
     #[inline]
@@ -357,10 +363,10 @@ impl<'a, L: LinkOps, C: Splice<L>> CursorMut<'a, C, L> {
 impl<'a, L: LinkOps, C: BidirectionalSplice<L>> CursorMut<'a, C, L> {
     ghost use Rattle.ic_cursors.specs.CursorMut.{list_of, links_of, site_of, IsValid, SameBorrows, Edited};
 
-    /// Inserts all members of the given collection before the cursor, or after the last member at null.
+    /// Inserts all members of the given collection before the cursor, or after the last member if the cursor is on no member.
     ///
-    /// It requires that the table represents the given collection too, and that the two share no member. The cursor stays
-    /// where it is. O(1).
+    /// The call requires that the table also represents the given collection, and that the two collections share no member. The cursor stays where it
+    /// is. O(1).
     #[inline]
     pub fn splice_before(&mut self, given: C)
         requires stands { IsValid C.IsValidAt self.old }
@@ -375,7 +381,7 @@ impl<'a, L: LinkOps, C: BidirectionalSplice<L>> CursorMut<'a, C, L> {
             .splice_before_at(self.links, &mut self.current, given);
     }
 
-    /// Removes the members before the cursor, or all members at null, and returns them as a collection.
+    /// Removes the members before the cursor, or all members if the cursor is on no member, and returns them as a collection.
     ///
     /// The cursor stays where it is. O(1).
     #[inline]

@@ -1,4 +1,4 @@
-//! A cursor that owns its collection, and borrows nothing.
+//! A cursor that owns its collection and borrows nothing.
 //!
 //! ```text
 //! let mut cursor = list.cursor_owning(); // null
@@ -20,7 +20,7 @@ use crate::{
 use ic_link_ops::{AlreadyLinked, LinkOps, ReplaceError};
 use ic_unsafe_ref::{Place, UnsafeRef, Values};
 
-/// A cursor that owns its collection. Each call takes the table of the collection's links.
+/// A cursor that owns its collection. Each of its calls takes the table of the collection's links.
 pub struct CursorOwning<C: Collection> {
     list: C,
     current: C::Position,
@@ -39,7 +39,8 @@ impl<C: Collection> CursorOwning<C> {
     ghost use Rattle.ic_cursors.specs.CursorOwning.{list_of, place_of, position};
     ghost use Rattle.ic_cursors.specs.Cursor as reading;
 
-    /// A cursor at that position of the collection. The calls of each kind that make cursors call this function. O(1).
+    /// Makes a cursor at the position `current` of the collection `list`. Each kind of collection has calls that make cursors, and these calls use
+    /// this function. O(1).
     #[inline]
     pub fn new(list: C, current: C::Position) -> CursorOwning<C>
         ensures list { list_of result ≡ list }
@@ -57,7 +58,7 @@ impl<C: Collection> CursorOwning<C> {
         list
     }
 
-    /// A cursor that reads, at the same position. O(1).
+    /// A reading cursor at the position of this cursor. O(1).
     #[inline]
     pub fn as_cursor<'a, L>(&'a self, links: &'a L) -> Cursor<'a, C, L>
         ensures list { reading.list_of result ≡ list_of self.now }
@@ -67,7 +68,7 @@ impl<C: Collection> CursorOwning<C> {
         Cursor::new(&self.list, links, self.current.again())
     }
 
-    /// The collection that the cursor owns, to be read while the cursor stays where it is. O(1).
+    /// Lends the collection that the cursor owns, so that a caller can read it. The cursor stays where it is. O(1).
     #[inline]
     pub fn list(&self) -> &C
         ensures { result.now ≡ list_of self.now }
@@ -75,7 +76,7 @@ impl<C: Collection> CursorOwning<C> {
         &self.list
     }
 
-    /// The place of the member that the cursor is on, `None` at null. O(1).
+    /// The place of the member that the cursor is on, or `None` if the cursor is on no member. O(1).
     #[inline]
     pub fn get_ptr(&self) -> Option<Place>
         ensures { result ≡ position C.Position.member self.now }
@@ -83,7 +84,7 @@ impl<C: Collection> CursorOwning<C> {
         self.current.get()
     }
 
-    /// Moves to null from any position. It reads no entry, and requires nothing. O(1).
+    /// Moves the cursor to null (no member) from any position. The call reads no entry, and requires nothing. O(1).
     #[inline]
     pub fn go_null(&mut self)
         ensures list { list_of self.new ≡ list_of self.old }
@@ -97,9 +98,10 @@ impl<C: Collection> CursorOwning<C> {
 impl<C: Collection> CursorOwning<C> {
     ghost use Rattle.ic_cursors.specs.CursorOwning.{list_of, position, site_of, IsValid, Edited};
 
-    /// Moves to the next member, from null to the first one, and from the last one to null.
+    /// Moves the cursor to the next member, or from the last member to null (no member), or from null to the first member.
     ///
-    /// The gap that was after the cursor is before it afterwards. O(1) in a list and O(log n) in a tree, where a walk over all members is O(n).
+    /// The gap between two neighbors that was right after the cursor is right before the cursor after the move. The call takes O(1) in a list and
+    /// O(log n) in a tree. A walk over all members of a tree takes O(n).
     #[inline]
     pub fn move_next<L: LinkOps>(&mut self, links: &L)
     where
@@ -112,9 +114,10 @@ impl<C: Collection> CursorOwning<C> {
         self.current = self.list.next_of(links, &self.current);
     }
 
-    /// Inserts the object after the cursor, or before the first member at null, unless its link is refused.
+    /// Inserts the object after the cursor, or before the first member if the cursor is on no member, unless the object's link is refused.
     ///
-    /// It requires that the object's place is covered. The cursor stays where it is. O(1) in a list, O(log n) in a tree.
+    /// The call requires that the table covers the object's place. The cursor stays where it is. An insert takes O(1) in a list and O(log n) in a
+    /// tree.
     #[inline]
     pub fn insert_after<L: LinkOps>(
         &mut self,
@@ -138,9 +141,10 @@ impl<C: Collection> CursorOwning<C> {
         Ok(())
     }
 
-    /// Moves to the previous member, from null to the last one, and from the first one to null.
+    /// Moves the cursor to the previous member, or from the first member to null (no member), or from null to the last member.
     ///
-    /// The gap that was before the cursor is after it afterwards. O(1) in a list and O(log n) in a tree, where a walk over all members is O(n).
+    /// The gap between two neighbors that was right before the cursor is right after the cursor after the move. The call takes O(1) in a list and
+    /// O(log n) in a tree. A walk over all members of a tree takes O(n).
     #[inline]
     pub fn move_prev<L: LinkOps>(&mut self, links: &L)
     where
@@ -153,9 +157,10 @@ impl<C: Collection> CursorOwning<C> {
         self.current = self.list.prev_of(links, &self.current);
     }
 
-    /// Inserts the object before the cursor, or after the last member at null, unless its link is refused.
+    /// Inserts the object before the cursor, or after the last member if the cursor is on no member, unless the object's link is refused.
     ///
-    /// It requires that the object's place is covered. The cursor stays where it is. O(1) in a list, O(log n) in a tree.
+    /// The call requires that the table covers the object's place. The cursor stays where it is. An insert takes O(1) in a list and O(log n) in a
+    /// tree.
     #[inline]
     pub fn insert_before<L: LinkOps>(
         &mut self,
@@ -179,9 +184,9 @@ impl<C: Collection> CursorOwning<C> {
         Ok(())
     }
 
-    /// Removes the member that the cursor is on and returns it, `None` at null.
+    /// Removes the member that the cursor is on and returns this member, or `None` if the cursor is on no member.
     ///
-    /// The cursor moves to the next member, or to null if there is none. O(1) in a list, O(log n) in a tree.
+    /// The cursor moves to the next member, or to null if there is no next member. A removal takes O(1) in a list and O(log n) in a tree.
     #[inline]
     pub fn remove<L: LinkOps>(&mut self, links: &mut L) -> Option<UnsafeRef<C::Object>>
     where
@@ -194,10 +199,10 @@ impl<C: Collection> CursorOwning<C> {
         Some(UnsafeRef::new(place))
     }
 
-    /// Replaces the member that the cursor is on by the object, and returns that member.
+    /// Replaces the member that the cursor is on by the object, and returns the replaced member.
     ///
-    /// It requires that the object's place is covered. The cursor is on the object then. At null the call returns
-    /// [`ReplaceError::Null`], whether or not the object is linked. O(1).
+    /// The call requires that the table covers the object's place. Afterwards the cursor is on the object. If the cursor is on no member, the call
+    /// returns [`ReplaceError::Null`], whether or not the object is linked. O(1).
     #[inline]
     pub fn replace_with<L: LinkOps>(
         &mut self,
@@ -217,10 +222,10 @@ impl<C: Collection> CursorOwning<C> {
         replaced(out, object, is_acquired)
     }
 
-    /// Inserts the object where its key belongs, after the members that are not greater, unless its link is refused.
+    /// Inserts the object in the order of the keys, after the members whose keys are not greater, unless the object's link is refused.
     ///
-    /// It requires that the object and all members are placed, and that the object's place is covered. The cursor stays where it
-    /// is. If the link is refused, the object is returned and nothing else has changed. O(log n).
+    /// The call requires that an object is at the object's place and at each member, and that the table covers the object's place. The cursor stays
+    /// where it is. If the link is refused, the object is returned and nothing else has changed. O(log n).
     #[inline]
     pub fn insert<L: LinkOps, O: Values<C::Object>>(
         &mut self,
@@ -247,7 +252,8 @@ impl<C: Collection> CursorOwning<C> {
         Ok(())
     }
 
-    /// Removes the member after the cursor, or the first one at null, and returns it; `None` if there is none.
+    /// Removes the member after the cursor, or the first member if the cursor is on no member, and returns it. If there is no such member, the result
+    /// is `None`.
     ///
     /// The cursor stays where it is. O(1).
     #[inline]
@@ -262,10 +268,10 @@ impl<C: Collection> CursorOwning<C> {
         Some(UnsafeRef::new(place))
     }
 
-    /// Replaces the member after the cursor, or the first one at null, by the object, and returns that member.
+    /// Replaces the member after the cursor, or the first member if the cursor is on no member, by the object. Returns the replaced member.
     ///
-    /// It requires that the object's place is covered. If there is no such member, it returns [`ReplaceError::Null`], whether or
-    /// not the object is linked. The cursor stays where it is. O(1).
+    /// The call requires that the table covers the object's place. If there is no member to replace, the call returns [`ReplaceError::Null`], whether
+    /// or not the object is linked. The cursor stays where it is. O(1).
     #[inline]
     pub fn replace_next_with<L: LinkOps>(
         &mut self,
@@ -285,10 +291,10 @@ impl<C: Collection> CursorOwning<C> {
         replaced(out, object, is_acquired)
     }
 
-    /// Inserts all members of the given collection after the cursor, or before the first member at null.
+    /// Inserts all members of the given collection after the cursor, or before the first member if the cursor is on no member.
     ///
-    /// It requires that the table represents the given collection too, and that the two share no member. The cursor stays
-    /// where it is. O(1).
+    /// The call requires that the table also represents the given collection, and that the two collections share no member. The cursor stays where it
+    /// is. O(1).
     #[inline]
     pub fn splice_after<L: LinkOps>(&mut self, links: &mut L, given: C)
     where
@@ -304,7 +310,7 @@ impl<C: Collection> CursorOwning<C> {
         self.list.splice_after_at(links, &mut self.current, given);
     }
 
-    /// Removes the members after the cursor, or all members at null, and returns them as a collection.
+    /// Removes the members after the cursor, or all members if the cursor is on no member, and returns them as a collection.
     ///
     /// The cursor stays where it is. O(1).
     #[inline]
@@ -318,10 +324,10 @@ impl<C: Collection> CursorOwning<C> {
         self.list.split_after_at(links, &mut self.current)
     }
 
-    /// Inserts all members of the given collection before the cursor, or after the last member at null.
+    /// Inserts all members of the given collection before the cursor, or after the last member if the cursor is on no member.
     ///
-    /// It requires that the table represents the given collection too, and that the two share no member. The cursor stays
-    /// where it is. O(1).
+    /// The call requires that the table also represents the given collection, and that the two collections share no member. The cursor stays where it
+    /// is. O(1).
     #[inline]
     pub fn splice_before<L: LinkOps>(&mut self, links: &mut L, given: C)
     where
@@ -337,7 +343,7 @@ impl<C: Collection> CursorOwning<C> {
         self.list.splice_before_at(links, &mut self.current, given);
     }
 
-    /// Removes the members before the cursor, or all members at null, and returns them as a collection.
+    /// Removes the members before the cursor, or all members if the cursor is on no member, and returns them as a collection.
     ///
     /// The cursor stays where it is. O(1).
     #[inline]

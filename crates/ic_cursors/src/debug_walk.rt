@@ -10,7 +10,7 @@ ghost use Rattle.std.specs.Iterator.{IsFiniteIterable};
 use std::fmt;
 use std::marker::Model;
 
-/// A walk over objects as a value that can be printed. Its `Debug` uses a copy of the walk, so it prints the same each time.
+/// A walk over objects as a value that can be printed. Each print walks over a copy of the walk, so every print gives the same text.
 pub struct DebugWalk<I: Iterator + Clone> {
     walk: I,
 }
@@ -32,8 +32,8 @@ impl<I: Iterator + Clone> Drop for DebugWalk<I> {
 }
 
 impl<I: Iterator + Clone> DebugWalk<I> {
-    /// A value that prints the objects that the walk has not returned yet. It requires that every copy of the walk can be walked to its
-    /// end. O(1), and no memory.
+    /// A value that prints the objects that the walk has not returned yet. The call requires that every copy of the walk can be walked to its end. It
+    /// takes O(1) and no memory.
     #[inline]
     pub fn new(walk: I) -> DebugWalk<I>
         requires copied { I.is_infallible walk }
@@ -44,7 +44,7 @@ impl<I: Iterator + Clone> DebugWalk<I> {
     }
 }
 
-/// Prints the objects in brackets, in order, as `[10, 20]`, and with `{:#?}` each on lines of its own. One walk.
+/// Prints the objects in brackets, in order, for example `[10, 20]`. With `{:#?}` each object is printed on lines of its own. A print makes one walk.
 impl<I: Iterator + Clone> fmt::Debug for DebugWalk<I>
 where
     I::Item: fmt::Debug + Drop,

@@ -1,17 +1,16 @@
-//! The cursors of every kind of collection: each move and each edit is written once.
+//! The cursors of every kind of collection. Each move and each edit of a cursor is written once, for all kinds.
 //!
-//! A kind implements these traits for its cursors:
+//! A kind of collection implements the following traits, so that cursors work on it:
 //!
-//! - [`Collection`]: the type of its members' objects, and what a position is.
-//! - [`CursorOps`]: the move to the next member, and the insert after a position.
-//! - [`Bidirectional`]: the move to the previous member, the insert before a position, the removal and the replacement.
-//! - [`ForwardOnly`]: the removal and the replacement after a position, for a kind without moves to the previous
-//!   member.
-//! - [`Splice`], [`BidirectionalSplice`]: splices and splits, after a position and before it.
-//! - [`Ordered`]: the insert where a key belongs.
+//! - [`Collection`] names the type of the objects in the collection, and the type of a cursor's position.
+//! - [`CursorOps`] has the move to the next member, and the insert after a position.
+//! - [`Bidirectional`] has the move to the previous member, the insert before a position, the removal and the replacement.
+//! - [`ForwardOnly`] has the removal and the replacement of the member after a position, for a kind without moves to the previous member.
+//! - [`Splice`] has the splice and the split after a position, and [`BidirectionalSplice`] has both before a position.
+//! - [`Ordered`] has the insert of an object in the order of the keys.
 //!
 //! [`Cursor`] reads, [`CursorMut`] edits, and [`CursorOwning`] edits and owns its collection. [`DebugWalk`] prints the
-//! objects of a walk. Each kind has calls that make these values.
+//! objects of a walk. Each kind of collection has calls that make cursors and walks.
 //!
 //! ```text
 //! let mut cursor = list.cursor_mut(&mut links); // null

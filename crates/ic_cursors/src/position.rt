@@ -1,4 +1,4 @@
-//! What a cursor stores of its position.
+//! What a cursor stores about its position.
 //!
 //! ```text
 //! position.get()   // the member that it is on, `None` at null
@@ -11,12 +11,12 @@ ghost use Rattle.ic_unsafe_ref.specs.declared.place.Place.{Place};
 use ic_link_ops::PlaceWord;
 use ic_unsafe_ref::Place;
 
-/// A position: on a member, or at null. A kind may store more in it than the member.
+/// A position: on a member, or at null. A kind of collection may store more in a position than the member, for example the next member.
 pub trait Position: Drop {
-    // The member, none at null.
+    // The member that the position is on, or none if the position is null.
     ghost member: { Self → Option Place };
 
-    /// The member, `None` at null.
+    /// The member that the position is on, or `None` if the position is null.
     fn get(&self) -> Option<Place>
         ensures { result ≡ member self.now };
 

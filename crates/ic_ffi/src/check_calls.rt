@@ -1,4 +1,4 @@
-//! Checks that the words represent a list, a tree or a hash table, and counts its members.
+//! The calls that check whether the words represent a list, a tree or a hash table, and that count its members.
 //!
 //! ```text
 //! uint64_t members;
@@ -14,10 +14,10 @@ ghost use Rattle.ic_raw.specs.CheckCalls.{CheckCall, HashCheckCall};
 
 use ic_raw::{RawEnds, RawFront, RawOne, RawRoot, RawThree, RawTwo, check_calls};
 
-/// Checks that the words represent a doubly linked list, and stores the number of its members in `members`, or returns [`BROKEN`](crate::BROKEN) if
-/// they do not represent one. O(n).
+/// Checks that the words of `table` and `list` represent a doubly linked list, and stores the number of its members in `members`, or returns
+/// [`BROKEN`](crate::BROKEN) if they do not represent one. O(n).
 ///
-/// It writes nothing else. If it returns [`OK`](crate::OK), every other call does with this list what its own comment says.
+/// The call writes nothing except `members`. If it returns [`OK`](crate::OK), every other call on this list does what the comment of that call says.
 #[unsafe(no_mangle)]
 pub extern "C" fn ic_list_check(table: &mut [RawTwo], list: &RawEnds, members: &mut u64) -> u32
     ensures { CheckCall table.old table.new result (doubly.RepresentsList wide_words table.old list.now) members.old members.new }
@@ -25,10 +25,10 @@ pub extern "C" fn ic_list_check(table: &mut [RawTwo], list: &RawEnds, members: &
     check_calls::check_list(table, list, members)
 }
 
-/// Checks that the words represent a singly linked list, and stores the number of its members in `members`, or returns [`BROKEN`](crate::BROKEN) if
-/// they do not represent one. O(n).
+/// Checks that the words of `table` and `list` represent a singly linked list, and stores the number of its members in `members`, or returns
+/// [`BROKEN`](crate::BROKEN) if they do not represent one. O(n).
 ///
-/// It writes nothing else. If it returns [`OK`](crate::OK), every other call does with this list what its own comment says.
+/// The call writes nothing except `members`. If it returns [`OK`](crate::OK), every other call on this list does what the comment of that call says.
 #[unsafe(no_mangle)]
 pub extern "C" fn ic_stack_check(table: &mut [RawOne], list: &RawFront, members: &mut u64) -> u32
     ensures { CheckCall table.old table.new result (singly.RepresentsList table.old list.now) members.old members.new }
@@ -36,10 +36,11 @@ pub extern "C" fn ic_stack_check(table: &mut [RawOne], list: &RawFront, members:
     check_calls::check_stack(table, list, members)
 }
 
-/// Checks that the words represent a tree, and stores the number of its members in `members`, or returns [`BROKEN`](crate::BROKEN) if they do not
-/// represent a red-black tree. O(n).
+/// Checks that the words of `table` and `tree` represent a red-black tree, and stores the number of its members in `members`, or returns
+/// [`BROKEN`](crate::BROKEN) if they do not represent one. O(n).
 ///
-/// It writes nothing else, and requires no keys. If it returns [`OK`](crate::OK), every other call does with this tree what its own comment says.
+/// The call writes nothing except `members`, and requires no keys. If it returns [`OK`](crate::OK), every other call on this tree does what the
+/// comment of that call says.
 #[unsafe(no_mangle)]
 pub extern "C" fn ic_tree_check(table: &mut [RawThree], tree: &RawRoot, members: &mut u64) -> u32
     ensures { CheckCall table.old table.new result (RepresentsTree table.old tree.now) members.old members.new }
@@ -47,11 +48,12 @@ pub extern "C" fn ic_tree_check(table: &mut [RawThree], tree: &RawRoot, members:
     check_calls::check_tree(table, tree, members)
 }
 
-/// Checks that the words represent a hash table, and stores the number of its members in `members`, or returns [`BROKEN`](crate::BROKEN) if they do
-/// not: if a chain has no end, or a member is not in the bucket to which its hash leads. O(b + n) for b buckets and n places.
+/// Checks that the words of `table` and `buckets` represent a hash table, and stores the number of its members in `members`, or returns
+/// [`BROKEN`](crate::BROKEN) if they do not. The words represent no hash table if a chain has no end, or if a member is not in the bucket to which its
+/// hash leads. O(b + n) for b buckets and n places.
 ///
-/// It writes nothing else. There must be a hash for each place of the table, and at least one bucket. If it returns [`OK`](crate::OK), no place is in
-/// two chains, and every other call does with each chain what its own comment says.
+/// The call writes nothing except `members`. There must be a hash for each place of the table, and at least one bucket. If it returns
+/// [`OK`](crate::OK), no place is in two chains, and every other call on a chain does what the comment of that call says.
 #[unsafe(no_mangle)]
 pub extern "C" fn ic_hash_check(
     table: &mut [RawOne],

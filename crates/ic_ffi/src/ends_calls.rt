@@ -37,8 +37,8 @@ pub extern "C" fn ic_tree_ends_insert(
 
 /// Inserts a place as the left child of the member `at`, or as the only member if `at` is [`NONE`](crate::NONE). O(log n).
 ///
-/// The place must belong to the table and must not be linked. If the member already has a left child, or if `at` is none and the tree has members, it
-/// returns [`BROKEN`](crate::BROKEN).
+/// The place must belong to the table and must not be linked. If the member already has a left child, or if `at` is [`NONE`](crate::NONE) and the tree
+/// has members, the call returns [`BROKEN`](crate::BROKEN).
 #[unsafe(no_mangle)]
 pub extern "C" fn ic_tree_ends_insert_left(
     table: &mut [RawThree],
@@ -54,8 +54,8 @@ pub extern "C" fn ic_tree_ends_insert_left(
 
 /// Inserts a place as the right child of the member `at`, or as the only member if `at` is [`NONE`](crate::NONE). O(log n).
 ///
-/// The place must belong to the table and must not be linked. If the member already has a right child, or if `at` is none and the tree has members,
-/// it returns [`BROKEN`](crate::BROKEN).
+/// The place must belong to the table and must not be linked. If the member already has a right child, or if `at` is [`NONE`](crate::NONE) and the tree
+/// has members, the call returns [`BROKEN`](crate::BROKEN).
 #[unsafe(no_mangle)]
 pub extern "C" fn ic_tree_ends_insert_right(
     table: &mut [RawThree],
@@ -98,7 +98,8 @@ pub extern "C" fn ic_tree_ends_replace(
     ends_calls::replace(table, tree, ends, at, place)
 }
 
-/// Removes the first member and stores its number in `popped`, or returns [`NULL`](crate::NULL) if the word of the first member is none. O(log n).
+/// Removes the first member and stores its number in `popped`, or returns [`NULL`](crate::NULL) if the word of the first member names no place.
+/// O(log n).
 #[unsafe(no_mangle)]
 pub extern "C" fn ic_tree_ends_pop_first(
     table: &mut [RawThree],

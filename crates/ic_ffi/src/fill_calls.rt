@@ -15,7 +15,7 @@ use ic_raw::{RawEnds, RawFront, RawOne, RawTwo, fill_calls};
 
 /// Inserts the `count` places `first`, `first + 1` and so on at the back, in this order. O(count).
 ///
-/// Each of them must belong to the table and must not be linked. If the last member does not belong to the table, it returns
+/// Each of these places must belong to the table and must not be linked. If the last member does not belong to the table, the call returns
 /// [`BROKEN`](crate::BROKEN). If `count` is 0, nothing changes.
 #[unsafe(no_mangle)]
 pub extern "C" fn ic_list_fill(
@@ -31,8 +31,8 @@ pub extern "C" fn ic_list_fill(
 
 /// Inserts the `count` places `first`, `first + 1` and so on at the front, in this order. O(count).
 ///
-/// Each of them must belong to the table and must not be linked. If the first member is not linked, it returns [`BROKEN`](crate::BROKEN). If `count`
-/// is 0, nothing changes.
+/// Each of these places must belong to the table and must not be linked. If the first member is not linked, the call returns [`BROKEN`](crate::BROKEN).
+/// If `count` is 0, nothing changes.
 #[unsafe(no_mangle)]
 pub extern "C" fn ic_stack_fill(
     table: &mut [RawOne],
@@ -47,7 +47,7 @@ pub extern "C" fn ic_stack_fill(
 
 /// Inserts the `count` places `first`, `first + 1` and so on at the back, in this order. O(count).
 ///
-/// Each of them must belong to the table and must not be linked. If the last member does not belong to the table, it returns
+/// Each of these places must belong to the table and must not be linked. If the last member does not belong to the table, the call returns
 /// [`BROKEN`](crate::BROKEN). If `count` is 0, nothing changes.
 #[unsafe(no_mangle)]
 pub extern "C" fn ic_xor_fill(

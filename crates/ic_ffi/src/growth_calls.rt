@@ -1,4 +1,4 @@
-//! The call by which a hash table grows, or shrinks: it moves the members of one chain to the buckets of another array.
+//! The call by which a hash table grows or shrinks. The call moves the members of one chain to the buckets of another array.
 //!
 //! ```text
 //! struct ic_link1 links[64] = {0};
@@ -14,10 +14,10 @@ use ic_raw::{RawFront, RawOne};
 use ic_raw_keyed::growth_calls;
 
 /// Moves each member of a chain to the front of bucket `hash % buckets` of another array, and leaves the chain empty. Each place stays linked, and
-/// members that go to the same bucket keep their order. It reads three entries of the table for each member.
+/// members that go to the same bucket keep their order. The call reads three entries of the table for each member.
 ///
-/// There must be a hash for each place of the table, and at least one bucket. It returns [`BROKEN`](crate::BROKEN) if the links of the chain lead to
-/// no end or out of the table, or if the bucket of a member begins with a place that is not linked.
+/// There must be a hash for each place of the table, and at least one bucket. The call returns [`BROKEN`](crate::BROKEN) if the links of the chain lead
+/// to no end or out of the table. The call also returns [`BROKEN`](crate::BROKEN) if the bucket of a member begins with a place that is not linked.
 #[unsafe(no_mangle)]
 pub extern "C" fn ic_hash_move_chain(
     table: &mut [RawOne],

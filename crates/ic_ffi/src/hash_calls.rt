@@ -18,7 +18,7 @@ use ic_raw::{RawFront, RawOne, hash_calls};
 /// Inserts a place at the front of its chain, which is the list in bucket `hash % buckets`. O(1).
 ///
 /// The place must belong to the table and must not be linked, and there must be at least one bucket. If the first member of the chain is not linked,
-/// it returns [`BROKEN`](crate::BROKEN).
+/// the call returns [`BROKEN`](crate::BROKEN).
 #[unsafe(no_mangle)]
 pub extern "C" fn ic_hash_insert(
     table: &mut [RawOne],
@@ -31,10 +31,10 @@ pub extern "C" fn ic_hash_insert(
     hash_calls::insert(table, buckets, hash, place)
 }
 
-/// Removes a place from its chain, at whichever position it is there, or returns [`NULL`](crate::NULL) if the argument is [`NONE`](crate::NONE). It
-/// reads one entry of the table for each member up to that one.
+/// Removes a place from its chain, whatever its position in the chain is, or returns [`NULL`](crate::NULL) if the argument is [`NONE`](crate::NONE).
+/// The call reads one entry of the table for each member from the first one up to the removed one.
 ///
-/// If the chain has no such member, it returns [`BROKEN`](crate::BROKEN).
+/// If the place is not a member of the chain, the call returns [`BROKEN`](crate::BROKEN).
 #[unsafe(no_mangle)]
 pub extern "C" fn ic_hash_remove(
     table: &mut [RawOne],
@@ -47,11 +47,11 @@ pub extern "C" fn ic_hash_remove(
     hash_calls::remove(table, buckets, hash, place)
 }
 
-/// Stores the number of the first member of the chain with this key in `found`, or returns [`NULL`](crate::NULL) if there is none. It writes nothing
-/// else. It reads one entry of the table for each member up to that one.
+/// Stores in `found` the number of the first member of the chain that has the key `key`, or returns [`NULL`](crate::NULL) if no member has the key. The
+/// call writes nothing except `found`. The call reads one entry of the table for each member up to the found one.
 ///
-/// There must be a key for each place of the table, and at least one bucket. If the links of the chain lead to no end or out of the table, it returns
-/// [`BROKEN`](crate::BROKEN).
+/// There must be a key for each place of the table, and at least one bucket. If the links of the chain lead to no end or out of the table, the call
+/// returns [`BROKEN`](crate::BROKEN).
 #[unsafe(no_mangle)]
 pub extern "C" fn ic_hash_find(
     table: &mut [RawOne],
@@ -66,10 +66,11 @@ pub extern "C" fn ic_hash_find(
     hash_calls::find(table, keys, buckets, hash, key, found)
 }
 
-/// Stores the number of the next member after `at` that has the same key in `found`, or returns [`NULL`](crate::NULL) if there is none, or if `at` is
-/// [`NONE`](crate::NONE). It writes nothing else. It reads one entry of the table for each member up to that one.
+/// Stores in `found` the number of the next member after `at` that has the same key as `at`, or returns [`NULL`](crate::NULL) if no such member exists,
+/// or if `at` is [`NONE`](crate::NONE). The call writes nothing except `found`. The call reads one entry of the table for each member up to the
+/// found one.
 ///
-/// There must be a key for each place of the table. If the links lead to no end or out of the table, it returns [`BROKEN`](crate::BROKEN).
+/// There must be a key for each place of the table. If the links lead to no end or out of the table, the call returns [`BROKEN`](crate::BROKEN).
 #[unsafe(no_mangle)]
 pub extern "C" fn ic_hash_next_equal(
     table: &mut [RawOne],

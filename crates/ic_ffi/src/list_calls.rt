@@ -9,12 +9,12 @@
 //! ```
 
 ghost use Rattle.std.specs.Prelude.{None};
-ghost use Rattle.ic_raw.specs.declared.gap.Side.TheVariants.{After, Before};
+ghost use Rattle.ic_raw.specs.declared.gap.GapSide.TheVariants.{After, Before};
 ghost use Rattle.ic_raw.specs.LinkWords.{wide_words};
 ghost use Rattle.ic_raw.specs.Words.{place_of};
 ghost use Rattle.ic_raw.specs.ListCalls.{ClearCall, InsertCall, PopCall, RemoveCall, ReplaceCall, SpliceCall, SplitCall};
 
-use ic_raw::{NONE, RawEnds, RawTwo, Side, list_calls};
+use ic_raw::{GapSide, NONE, RawEnds, RawTwo, list_calls};
 
 /// Inserts a place at the front. O(1).
 ///
@@ -23,7 +23,7 @@ use ic_raw::{NONE, RawEnds, RawTwo, Side, list_calls};
 pub extern "C" fn ic_list_push_front(table: &mut [RawTwo], list: &mut RawEnds, place: u32) -> u32
     ensures { InsertCall wide_words table.old table.new list.old list.new result After None (place_of place) }
 {
-    list_calls::insert_at(table, list, Side::After, NONE, place)
+    list_calls::insert_at(table, list, GapSide::After, NONE, place)
 }
 
 /// Inserts a place at the back. O(1).
@@ -57,7 +57,7 @@ pub extern "C" fn ic_list_pop_back(
 ) -> u32
     ensures { PopCall wide_words table.old table.new list.old list.new result Before popped.old popped.new }
 {
-    list_calls::pop(table, list, Side::Before, popped)
+    list_calls::pop(table, list, GapSide::Before, popped)
 }
 
 /// Inserts a place after the member `at`, or at the front if `at` is [`NONE`](crate::NONE). O(1).
@@ -72,7 +72,7 @@ pub extern "C" fn ic_list_insert_after(
 ) -> u32
     ensures { InsertCall wide_words table.old table.new list.old list.new result After (place_of at) (place_of place) }
 {
-    list_calls::insert_at(table, list, Side::After, at, place)
+    list_calls::insert_at(table, list, GapSide::After, at, place)
 }
 
 /// Inserts a place before the member `at`, or at the back if `at` is [`NONE`](crate::NONE). O(1).
@@ -87,7 +87,7 @@ pub extern "C" fn ic_list_insert_before(
 ) -> u32
     ensures { InsertCall wide_words table.old table.new list.old list.new result Before (place_of at) (place_of place) }
 {
-    list_calls::insert_at(table, list, Side::Before, at, place)
+    list_calls::insert_at(table, list, GapSide::Before, at, place)
 }
 
 /// Removes the member `at`, or returns [`NULL`](crate::NULL) if `at` is [`NONE`](crate::NONE). O(1).
@@ -115,7 +115,7 @@ pub extern "C" fn ic_list_replace(
 
 /// Moves all members of `given` after the member `at`, or to the front if `at` is [`NONE`](crate::NONE), and leaves `given` empty. O(1).
 ///
-/// If both lists begin with the same member, as if `given` is the list itself, it returns [`BROKEN`](crate::BROKEN).
+/// If both lists begin with the same member, for example because `given` is the list itself, the call returns [`BROKEN`](crate::BROKEN).
 #[unsafe(no_mangle)]
 pub extern "C" fn ic_list_splice_after(
     table: &mut [RawTwo],
@@ -125,12 +125,12 @@ pub extern "C" fn ic_list_splice_after(
 ) -> u32
     ensures { SpliceCall wide_words table.old table.new list.old list.new result After (place_of at) given.old given.new }
 {
-    list_calls::splice_at(table, list, at, given, Side::After)
+    list_calls::splice_at(table, list, at, given, GapSide::After)
 }
 
 /// Moves all members of `given` before the member `at`, or to the back if `at` is [`NONE`](crate::NONE), and leaves `given` empty. O(1).
 ///
-/// If both lists begin with the same member, as if `given` is the list itself, it returns [`BROKEN`](crate::BROKEN).
+/// If both lists begin with the same member, for example because `given` is the list itself, the call returns [`BROKEN`](crate::BROKEN).
 #[unsafe(no_mangle)]
 pub extern "C" fn ic_list_splice_before(
     table: &mut [RawTwo],
@@ -140,12 +140,12 @@ pub extern "C" fn ic_list_splice_before(
 ) -> u32
     ensures { SpliceCall wide_words table.old table.new list.old list.new result Before (place_of at) given.old given.new }
 {
-    list_calls::splice_at(table, list, at, given, Side::Before)
+    list_calls::splice_at(table, list, at, given, GapSide::Before)
 }
 
 /// Moves all members of `given` to the back of the list, and leaves `given` empty. O(1).
 ///
-/// If both lists begin with the same member, as if `given` is the list itself, it returns [`BROKEN`](crate::BROKEN).
+/// If both lists begin with the same member, for example because `given` is the list itself, the call returns [`BROKEN`](crate::BROKEN).
 #[unsafe(no_mangle)]
 pub extern "C" fn ic_list_append(
     table: &mut [RawTwo],
@@ -154,12 +154,12 @@ pub extern "C" fn ic_list_append(
 ) -> u32
     ensures { SpliceCall wide_words table.old table.new list.old list.new result Before None given.old given.new }
 {
-    list_calls::splice_at(table, list, NONE, given, Side::Before)
+    list_calls::splice_at(table, list, NONE, given, GapSide::Before)
 }
 
 /// Moves all members after the member `at` to `rest`, or all members of the list if `at` is [`NONE`](crate::NONE). O(1).
 ///
-/// If `rest` is not empty, it returns [`BROKEN`](crate::BROKEN).
+/// If `rest` is not empty, the call returns [`BROKEN`](crate::BROKEN).
 #[unsafe(no_mangle)]
 pub extern "C" fn ic_list_split_after(
     table: &mut [RawTwo],
@@ -169,12 +169,12 @@ pub extern "C" fn ic_list_split_after(
 ) -> u32
     ensures { SplitCall wide_words table.old table.new list.old list.new result After (place_of at) rest.old rest.new }
 {
-    list_calls::split_at(table, list, at, rest, Side::After)
+    list_calls::split_at(table, list, at, rest, GapSide::After)
 }
 
 /// Moves all members before the member `at` to `rest`, or all members of the list if `at` is [`NONE`](crate::NONE). O(1).
 ///
-/// If `rest` is not empty, it returns [`BROKEN`](crate::BROKEN).
+/// If `rest` is not empty, the call returns [`BROKEN`](crate::BROKEN).
 #[unsafe(no_mangle)]
 pub extern "C" fn ic_list_split_before(
     table: &mut [RawTwo],
@@ -184,12 +184,12 @@ pub extern "C" fn ic_list_split_before(
 ) -> u32
     ensures { SplitCall wide_words table.old table.new list.old list.new result Before (place_of at) rest.old rest.new }
 {
-    list_calls::split_at(table, list, at, rest, Side::Before)
+    list_calls::split_at(table, list, at, rest, GapSide::Before)
 }
 
 /// Removes and unlinks all members. O(n).
 ///
-/// If the links do not lead from the first member to the last, and back, it returns [`BROKEN`](crate::BROKEN).
+/// If the links do not lead from the first member to the last, and back, the call returns [`BROKEN`](crate::BROKEN).
 #[unsafe(no_mangle)]
 pub extern "C" fn ic_list_clear(table: &mut [RawTwo], list: &mut RawEnds) -> u32
     ensures { ClearCall wide_words table.old table.new list.old list.new result }

@@ -5,17 +5,17 @@
 //! ic_list_move_after(links, 64, &list, 9, 7); // IC_OK: and now it is after 9
 //! ```
 
-ghost use Rattle.ic_raw.specs.declared.gap.Side.TheVariants.{After, Before};
+ghost use Rattle.ic_raw.specs.declared.gap.GapSide.TheVariants.{After, Before};
 ghost use Rattle.ic_raw.specs.LinkWords.{wide_words};
 ghost use Rattle.ic_raw.specs.Words.{place_of};
 ghost use Rattle.ic_raw.specs.ListCalls.{MoveCall, MoveToEndCall};
 
-use ic_raw::{RawEnds, RawTwo, Side, move_calls};
+use ic_raw::{GapSide, RawEnds, RawTwo, move_calls};
 
 /// Moves the member `place` after the member `at`, or to the front if `at` is [`NONE`](crate::NONE), or returns [`NULL`](crate::NULL) if `place` is
 /// [`NONE`](crate::NONE). The member stays linked during the call. O(1).
 ///
-/// If the member is already there, or if `at` is the member itself, nothing changes.
+/// If the member is already at that position, or if `at` is the member itself, nothing changes.
 #[unsafe(no_mangle)]
 pub extern "C" fn ic_list_move_after(
     table: &mut [RawTwo],
@@ -25,13 +25,13 @@ pub extern "C" fn ic_list_move_after(
 ) -> u32
     ensures { MoveCall wide_words table.old table.new list.old list.new result After (place_of at) (place_of place) }
 {
-    move_calls::move_at(table, list, Side::After, at, place)
+    move_calls::move_at(table, list, GapSide::After, at, place)
 }
 
 /// Moves the member `place` before the member `at`, or to the back if `at` is [`NONE`](crate::NONE), or returns [`NULL`](crate::NULL) if `place` is
 /// [`NONE`](crate::NONE). The member stays linked during the call. O(1).
 ///
-/// If the member is already there, or if `at` is the member itself, nothing changes.
+/// If the member is already at that position, or if `at` is the member itself, nothing changes.
 #[unsafe(no_mangle)]
 pub extern "C" fn ic_list_move_before(
     table: &mut [RawTwo],
@@ -41,27 +41,27 @@ pub extern "C" fn ic_list_move_before(
 ) -> u32
     ensures { MoveCall wide_words table.old table.new list.old list.new result Before (place_of at) (place_of place) }
 {
-    move_calls::move_at(table, list, Side::Before, at, place)
+    move_calls::move_at(table, list, GapSide::Before, at, place)
 }
 
 /// Moves a member to the front, or returns [`NULL`](crate::NULL) if the argument is [`NONE`](crate::NONE). The member stays linked during the call.
 /// O(1).
 ///
-/// If it is already the first member, nothing changes.
+/// If the member is already the first one, nothing changes.
 #[unsafe(no_mangle)]
 pub extern "C" fn ic_list_move_to_front(table: &mut [RawTwo], list: &mut RawEnds, place: u32) -> u32
     ensures { MoveToEndCall wide_words table.old table.new list.old list.new result After (place_of place) }
 {
-    move_calls::move_to_end(table, list, Side::After, place)
+    move_calls::move_to_end(table, list, GapSide::After, place)
 }
 
 /// Moves a member to the back, or returns [`NULL`](crate::NULL) if the argument is [`NONE`](crate::NONE). The member stays linked during the call.
 /// O(1).
 ///
-/// If it is already the last member, nothing changes.
+/// If the member is already the last one, nothing changes.
 #[unsafe(no_mangle)]
 pub extern "C" fn ic_list_move_to_back(table: &mut [RawTwo], list: &mut RawEnds, place: u32) -> u32
     ensures { MoveToEndCall wide_words table.old table.new list.old list.new result Before (place_of place) }
 {
-    move_calls::move_to_end(table, list, Side::Before, place)
+    move_calls::move_to_end(table, list, GapSide::Before, place)
 }

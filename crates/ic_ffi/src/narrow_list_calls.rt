@@ -1,6 +1,6 @@
 //! The calls of doubly linked lists whose links have words of 4 bytes, which take 8 bytes for each place. Each call does what the call with the same
-//! name without the number `32` does, in `list_calls`, `move_calls`, `check_calls` or `transfer_calls`. Places from 536,870,911 on are out of range,
-//! because such words cannot name them. The two words of a list itself always have 8 bytes each.
+//! name without the number `32` does, which is in `list_calls`, `move_calls`, `check_calls` or `transfer_calls`. Places from 536,870,911 on are out of
+//! range, because words of 4 bytes have no numbers for them. The two words of a list, for its first and its last member, always have 8 bytes each.
 //!
 //! ```text
 //! struct ic_link2_32 links[64] = {0};
@@ -12,7 +12,7 @@
 
 ghost use Rattle.std.specs.Prelude.{None};
 ghost use Rattle.ic_raw.specs.CheckCalls.{CheckCall};
-ghost use Rattle.ic_raw.specs.declared.gap.Side.TheVariants.{After, Before};
+ghost use Rattle.ic_raw.specs.declared.gap.GapSide.TheVariants.{After, Before};
 ghost use Rattle.ic_raw.specs.Doubly.{RepresentsList};
 ghost use Rattle.ic_raw.specs.LinkWords.{narrow_words};
 ghost use Rattle.ic_raw.specs.ListCalls.{ClearCall, InsertCall, MoveCall, MoveToEndCall};
@@ -20,7 +20,7 @@ ghost use Rattle.ic_raw.specs.ListCalls.{PopCall, RemoveCall, ReplaceCall, Splic
 ghost use Rattle.ic_raw.specs.Words.{place_of};
 ghost use Rattle.ic_raw_lists.specs.TransferCalls.{TransferCall};
 
-use ic_raw::{NONE, RawEnds, RawNarrowTwo, Side, check_calls, list_calls, move_calls};
+use ic_raw::{GapSide, NONE, RawEnds, RawNarrowTwo, check_calls, list_calls, move_calls};
 use ic_raw_lists::transfer_calls;
 
 /// Inserts a place at the front. O(1).
@@ -34,7 +34,7 @@ pub extern "C" fn ic_list32_push_front(
 ) -> u32
     ensures { InsertCall narrow_words table.old table.new list.old list.new result After None (place_of place) }
 {
-    list_calls::insert_at(table, list, Side::After, NONE, place)
+    list_calls::insert_at(table, list, GapSide::After, NONE, place)
 }
 
 /// Inserts a place at the back. O(1).
@@ -72,7 +72,7 @@ pub extern "C" fn ic_list32_pop_back(
 ) -> u32
     ensures { PopCall narrow_words table.old table.new list.old list.new result Before popped.old popped.new }
 {
-    list_calls::pop(table, list, Side::Before, popped)
+    list_calls::pop(table, list, GapSide::Before, popped)
 }
 
 /// Inserts a place after the member `at`, or at the front if `at` is [`NONE`](crate::NONE). O(1).
@@ -87,7 +87,7 @@ pub extern "C" fn ic_list32_insert_after(
 ) -> u32
     ensures { InsertCall narrow_words table.old table.new list.old list.new result After (place_of at) (place_of place) }
 {
-    list_calls::insert_at(table, list, Side::After, at, place)
+    list_calls::insert_at(table, list, GapSide::After, at, place)
 }
 
 /// Inserts a place before the member `at`, or at the back if `at` is [`NONE`](crate::NONE). O(1).
@@ -102,7 +102,7 @@ pub extern "C" fn ic_list32_insert_before(
 ) -> u32
     ensures { InsertCall narrow_words table.old table.new list.old list.new result Before (place_of at) (place_of place) }
 {
-    list_calls::insert_at(table, list, Side::Before, at, place)
+    list_calls::insert_at(table, list, GapSide::Before, at, place)
 }
 
 /// Removes the member `at`, or returns [`NULL`](crate::NULL) if `at` is [`NONE`](crate::NONE). O(1).
@@ -130,7 +130,7 @@ pub extern "C" fn ic_list32_replace(
 
 /// Moves all members of `given` after the member `at`, or to the front if `at` is [`NONE`](crate::NONE), and leaves `given` empty. O(1).
 ///
-/// If both lists begin with the same member, as if `given` is the list itself, it returns [`BROKEN`](crate::BROKEN).
+/// If both lists begin with the same member, for example because `given` is the list itself, the call returns [`BROKEN`](crate::BROKEN).
 #[unsafe(no_mangle)]
 pub extern "C" fn ic_list32_splice_after(
     table: &mut [RawNarrowTwo],
@@ -140,12 +140,12 @@ pub extern "C" fn ic_list32_splice_after(
 ) -> u32
     ensures { SpliceCall narrow_words table.old table.new list.old list.new result After (place_of at) given.old given.new }
 {
-    list_calls::splice_at(table, list, at, given, Side::After)
+    list_calls::splice_at(table, list, at, given, GapSide::After)
 }
 
 /// Moves all members of `given` before the member `at`, or to the back if `at` is [`NONE`](crate::NONE), and leaves `given` empty. O(1).
 ///
-/// If both lists begin with the same member, as if `given` is the list itself, it returns [`BROKEN`](crate::BROKEN).
+/// If both lists begin with the same member, for example because `given` is the list itself, the call returns [`BROKEN`](crate::BROKEN).
 #[unsafe(no_mangle)]
 pub extern "C" fn ic_list32_splice_before(
     table: &mut [RawNarrowTwo],
@@ -155,12 +155,12 @@ pub extern "C" fn ic_list32_splice_before(
 ) -> u32
     ensures { SpliceCall narrow_words table.old table.new list.old list.new result Before (place_of at) given.old given.new }
 {
-    list_calls::splice_at(table, list, at, given, Side::Before)
+    list_calls::splice_at(table, list, at, given, GapSide::Before)
 }
 
 /// Moves all members of `given` to the back of the list, and leaves `given` empty. O(1).
 ///
-/// If both lists begin with the same member, as if `given` is the list itself, it returns [`BROKEN`](crate::BROKEN).
+/// If both lists begin with the same member, for example because `given` is the list itself, the call returns [`BROKEN`](crate::BROKEN).
 #[unsafe(no_mangle)]
 pub extern "C" fn ic_list32_append(
     table: &mut [RawNarrowTwo],
@@ -169,12 +169,12 @@ pub extern "C" fn ic_list32_append(
 ) -> u32
     ensures { SpliceCall narrow_words table.old table.new list.old list.new result Before None given.old given.new }
 {
-    list_calls::splice_at(table, list, NONE, given, Side::Before)
+    list_calls::splice_at(table, list, NONE, given, GapSide::Before)
 }
 
 /// Moves all members after the member `at` to `rest`, or all members of the list if `at` is [`NONE`](crate::NONE). O(1).
 ///
-/// If `rest` is not empty, it returns [`BROKEN`](crate::BROKEN).
+/// If `rest` is not empty, the call returns [`BROKEN`](crate::BROKEN).
 #[unsafe(no_mangle)]
 pub extern "C" fn ic_list32_split_after(
     table: &mut [RawNarrowTwo],
@@ -184,12 +184,12 @@ pub extern "C" fn ic_list32_split_after(
 ) -> u32
     ensures { SplitCall narrow_words table.old table.new list.old list.new result After (place_of at) rest.old rest.new }
 {
-    list_calls::split_at(table, list, at, rest, Side::After)
+    list_calls::split_at(table, list, at, rest, GapSide::After)
 }
 
 /// Moves all members before the member `at` to `rest`, or all members of the list if `at` is [`NONE`](crate::NONE). O(1).
 ///
-/// If `rest` is not empty, it returns [`BROKEN`](crate::BROKEN).
+/// If `rest` is not empty, the call returns [`BROKEN`](crate::BROKEN).
 #[unsafe(no_mangle)]
 pub extern "C" fn ic_list32_split_before(
     table: &mut [RawNarrowTwo],
@@ -199,12 +199,12 @@ pub extern "C" fn ic_list32_split_before(
 ) -> u32
     ensures { SplitCall narrow_words table.old table.new list.old list.new result Before (place_of at) rest.old rest.new }
 {
-    list_calls::split_at(table, list, at, rest, Side::Before)
+    list_calls::split_at(table, list, at, rest, GapSide::Before)
 }
 
 /// Removes and unlinks all members. O(n).
 ///
-/// If the links do not lead from the first member to the last, and back, it returns [`BROKEN`](crate::BROKEN).
+/// If the links do not lead from the first member to the last, and back, the call returns [`BROKEN`](crate::BROKEN).
 #[unsafe(no_mangle)]
 pub extern "C" fn ic_list32_clear(table: &mut [RawNarrowTwo], list: &mut RawEnds) -> u32
     ensures { ClearCall narrow_words table.old table.new list.old list.new result }
@@ -215,7 +215,7 @@ pub extern "C" fn ic_list32_clear(table: &mut [RawNarrowTwo], list: &mut RawEnds
 /// Moves the member `place` after the member `at`, or to the front if `at` is [`NONE`](crate::NONE), or returns [`NULL`](crate::NULL) if `place` is
 /// [`NONE`](crate::NONE). The member stays linked during the call. O(1).
 ///
-/// If the member is already there, or if `at` is the member itself, nothing changes.
+/// If the member is already at that position, or if `at` is the member itself, nothing changes.
 #[unsafe(no_mangle)]
 pub extern "C" fn ic_list32_move_after(
     table: &mut [RawNarrowTwo],
@@ -225,13 +225,13 @@ pub extern "C" fn ic_list32_move_after(
 ) -> u32
     ensures { MoveCall narrow_words table.old table.new list.old list.new result After (place_of at) (place_of place) }
 {
-    move_calls::move_at(table, list, Side::After, at, place)
+    move_calls::move_at(table, list, GapSide::After, at, place)
 }
 
 /// Moves the member `place` before the member `at`, or to the back if `at` is [`NONE`](crate::NONE), or returns [`NULL`](crate::NULL) if `place` is
 /// [`NONE`](crate::NONE). The member stays linked during the call. O(1).
 ///
-/// If the member is already there, or if `at` is the member itself, nothing changes.
+/// If the member is already at that position, or if `at` is the member itself, nothing changes.
 #[unsafe(no_mangle)]
 pub extern "C" fn ic_list32_move_before(
     table: &mut [RawNarrowTwo],
@@ -241,13 +241,13 @@ pub extern "C" fn ic_list32_move_before(
 ) -> u32
     ensures { MoveCall narrow_words table.old table.new list.old list.new result Before (place_of at) (place_of place) }
 {
-    move_calls::move_at(table, list, Side::Before, at, place)
+    move_calls::move_at(table, list, GapSide::Before, at, place)
 }
 
 /// Moves a member to the front, or returns [`NULL`](crate::NULL) if the argument is [`NONE`](crate::NONE). The member stays linked during the call.
 /// O(1).
 ///
-/// If it is already the first member, nothing changes.
+/// If the member is already the first one, nothing changes.
 #[unsafe(no_mangle)]
 pub extern "C" fn ic_list32_move_to_front(
     table: &mut [RawNarrowTwo],
@@ -256,13 +256,13 @@ pub extern "C" fn ic_list32_move_to_front(
 ) -> u32
     ensures { MoveToEndCall narrow_words table.old table.new list.old list.new result After (place_of place) }
 {
-    move_calls::move_to_end(table, list, Side::After, place)
+    move_calls::move_to_end(table, list, GapSide::After, place)
 }
 
 /// Moves a member to the back, or returns [`NULL`](crate::NULL) if the argument is [`NONE`](crate::NONE). The member stays linked during the call.
 /// O(1).
 ///
-/// If it is already the last member, nothing changes.
+/// If the member is already the last one, nothing changes.
 #[unsafe(no_mangle)]
 pub extern "C" fn ic_list32_move_to_back(
     table: &mut [RawNarrowTwo],
@@ -271,13 +271,13 @@ pub extern "C" fn ic_list32_move_to_back(
 ) -> u32
     ensures { MoveToEndCall narrow_words table.old table.new list.old list.new result Before (place_of place) }
 {
-    move_calls::move_to_end(table, list, Side::Before, place)
+    move_calls::move_to_end(table, list, GapSide::Before, place)
 }
 
-/// Checks that the words represent a doubly linked list, and stores the number of its members in `members`, or returns [`BROKEN`](crate::BROKEN) if
-/// they do not represent one. O(n).
+/// Checks that the words of `table` and `list` represent a doubly linked list, and stores the number of its members in `members`, or returns
+/// [`BROKEN`](crate::BROKEN) if they do not represent one. O(n).
 ///
-/// It writes nothing else. If it returns [`OK`](crate::OK), every other call does with this list what its own comment says.
+/// The call writes nothing except `members`. If it returns [`OK`](crate::OK), every other call on this list does what the comment of that call says.
 #[unsafe(no_mangle)]
 pub extern "C" fn ic_list32_check(
     table: &mut [RawNarrowTwo],
@@ -289,11 +289,12 @@ pub extern "C" fn ic_list32_check(
     check_calls::check_list(table, list, members)
 }
 
-/// Moves the member `place` of the given list after the member `at` of the list, or to the front if `at` is [`NONE`](crate::NONE). The member stays
-/// linked during the call. O(1).
+/// Moves the member `place` of the list `given` after the member `at` of the list `list`, or to the front of `list` if `at` is [`NONE`](crate::NONE).
+/// The member stays linked during the call. O(1).
 ///
-/// It returns [`NULL`](crate::NULL) if `place` is [`NONE`](crate::NONE), else the first fault of the two places, or else [`BROKEN`](crate::BROKEN),
-/// for example if both lists begin with the same member.
+/// The call returns [`NULL`](crate::NULL) if `place` is [`NONE`](crate::NONE). Otherwise the call returns the first fault of the two places. If neither
+/// place has a fault but the links do not fit together, the call returns [`BROKEN`](crate::BROKEN), for example if both lists begin with the same
+/// member.
 #[unsafe(no_mangle)]
 pub extern "C" fn ic_list32_transfer_after(
     table: &mut [RawNarrowTwo],
@@ -304,14 +305,15 @@ pub extern "C" fn ic_list32_transfer_after(
 ) -> u32
     ensures { TransferCall narrow_words table.old table.new list.old list.new result After (place_of at) given.old given.new (place_of place) }
 {
-    transfer_calls::transfer_at(table, list, Side::After, at, given, place)
+    transfer_calls::transfer_at(table, list, GapSide::After, at, given, place)
 }
 
-/// Moves the member `place` of the given list before the member `at` of the list, or to the back if `at` is [`NONE`](crate::NONE). The member stays
-/// linked during the call. O(1).
+/// Moves the member `place` of the list `given` before the member `at` of the list `list`, or to the back of `list` if `at` is [`NONE`](crate::NONE).
+/// The member stays linked during the call. O(1).
 ///
-/// It returns [`NULL`](crate::NULL) if `place` is [`NONE`](crate::NONE), else the first fault of the two places, or else [`BROKEN`](crate::BROKEN),
-/// for example if both lists begin with the same member.
+/// The call returns [`NULL`](crate::NULL) if `place` is [`NONE`](crate::NONE). Otherwise the call returns the first fault of the two places. If neither
+/// place has a fault but the links do not fit together, the call returns [`BROKEN`](crate::BROKEN), for example if both lists begin with the same
+/// member.
 #[unsafe(no_mangle)]
 pub extern "C" fn ic_list32_transfer_before(
     table: &mut [RawNarrowTwo],
@@ -322,5 +324,5 @@ pub extern "C" fn ic_list32_transfer_before(
 ) -> u32
     ensures { TransferCall narrow_words table.old table.new list.old list.new result Before (place_of at) given.old given.new (place_of place) }
 {
-    transfer_calls::transfer_at(table, list, Side::Before, at, given, place)
+    transfer_calls::transfer_at(table, list, GapSide::Before, at, given, place)
 }

@@ -1,5 +1,5 @@
-//! The calls of rings whose links have words of 4 bytes, which take 8 bytes for each place. Each call does what the call of `ring_calls` with the
-//! same name without the number `32` does. Places from 536,870,911 on are out of range, because such words cannot name them.
+//! The calls of rings whose links have words of 4 bytes, which take 8 bytes for each place. Each call does what the call of `ring_calls` with the same
+//! name without the number `32` does. Places from 536,870,911 on are out of range, because words of 4 bytes have no numbers for them.
 //!
 //! ```text
 //! struct ic_link2_32 links[65] = {0};         // 64 objects, and a head at 64
@@ -8,13 +8,13 @@
 //! ic_ring32_remove(links, 65, 7);            // IC_OK, from whichever ring it is in
 //! ```
 
-ghost use Rattle.ic_raw.specs.declared.gap.Side.TheVariants.{After, Before};
+ghost use Rattle.ic_raw.specs.declared.gap.GapSide.TheVariants.{After, Before};
 ghost use Rattle.ic_raw.specs.LinkWords.{narrow_words};
 ghost use Rattle.ic_raw.specs.RingCalls.{PopCall, ReplaceCall, MoveCall, SpliceCall};
 ghost use Rattle.ic_raw.specs.Words.{place_of};
 ghost use Rattle.ic_raw.specs.RingCalls.{ExchangeCall, InitCall, InsertCall, RemoveCall};
 
-use ic_raw::{RawNarrowTwo, Side, ring_calls};
+use ic_raw::{GapSide, RawNarrowTwo, ring_calls};
 
 /// Makes a place the head of a ring with no members. O(1).
 ///
@@ -26,29 +26,29 @@ pub extern "C" fn ic_ring32_init(table: &mut [RawNarrowTwo], head: u32) -> u32
     ring_calls::init(table, head)
 }
 
-/// Inserts a place after another place of a ring. After the head, it is the first member. O(1).
+/// Inserts the place `place` after the place `at` of a ring. If `at` is the head, the inserted place becomes the first member. O(1).
 ///
 /// The place must belong to the table and must not be linked. Linux: `list_add`.
 #[unsafe(no_mangle)]
 pub extern "C" fn ic_ring32_insert_after(table: &mut [RawNarrowTwo], at: u32, place: u32) -> u32
     ensures { InsertCall narrow_words table.old table.new result After (place_of at) (place_of place) }
 {
-    ring_calls::insert(table, Side::After, at, place)
+    ring_calls::insert(table, GapSide::After, at, place)
 }
 
-/// Inserts a place before another place of a ring. Before the head, it is the last member. O(1).
+/// Inserts the place `place` before the place `at` of a ring. If `at` is the head, the inserted place becomes the last member. O(1).
 ///
 /// The place must belong to the table and must not be linked. Linux: `list_add_tail`.
 #[unsafe(no_mangle)]
 pub extern "C" fn ic_ring32_insert_before(table: &mut [RawNarrowTwo], at: u32, place: u32) -> u32
     ensures { InsertCall narrow_words table.old table.new result Before (place_of at) (place_of place) }
 {
-    ring_calls::insert(table, Side::Before, at, place)
+    ring_calls::insert(table, GapSide::Before, at, place)
 }
 
 /// Removes a place from the ring in which it is. O(1).
 ///
-/// If the place is a head without members, it is unlinked, and its ring no longer exists. Linux: `list_del`.
+/// If the place is a head without members, the place is unlinked, and its ring no longer exists. Linux: `list_del`.
 #[unsafe(no_mangle)]
 pub extern "C" fn ic_ring32_remove(table: &mut [RawNarrowTwo], place: u32) -> u32
     ensures { RemoveCall narrow_words table.old table.new result (place_of place) }
@@ -56,10 +56,11 @@ pub extern "C" fn ic_ring32_remove(table: &mut [RawNarrowTwo], place: u32) -> u3
     ring_calls::remove(table, place)
 }
 
-/// Exchanges the successors of two places. If they are in two rings, the rings become one. If they are in one ring, it becomes two. O(1).
+/// Exchanges the successors of two places. If the two places are in two rings, the rings become one. If the two places are in one ring, the ring
+/// becomes two. O(1).
 ///
-/// For the last member of one ring and the head of another, it moves all members of the second ring to the back of the first. A second call with the
-/// same arguments undoes the first.
+/// If `one` is the last member of a ring and `other` the head of a second ring, all members of the second ring move to the back of the first. A second
+/// call with the same arguments undoes the first call.
 #[unsafe(no_mangle)]
 pub extern "C" fn ic_ring32_exchange(table: &mut [RawNarrowTwo], one: u32, other: u32) -> u32
     ensures { ExchangeCall narrow_words table.old table.new result (place_of one) (place_of other) }
@@ -67,7 +68,7 @@ pub extern "C" fn ic_ring32_exchange(table: &mut [RawNarrowTwo], one: u32, other
     ring_calls::exchange(table, one, other)
 }
 
-/// Removes the first member of the ring with this head, and stores its number in `popped`. O(1).
+/// Removes the first member of the ring with the head `head`, and stores its number in `popped`. O(1).
 #[unsafe(no_mangle)]
 pub extern "C" fn ic_ring32_pop_front(
     table: &mut [RawNarrowTwo],
@@ -76,18 +77,18 @@ pub extern "C" fn ic_ring32_pop_front(
 ) -> u32
     ensures { PopCall narrow_words table.old table.new result popped.old popped.new After (place_of head) }
 {
-    ring_calls::pop(table, Side::After, head, popped)
+    ring_calls::pop(table, GapSide::After, head, popped)
 }
 
-/// Removes the last member of the ring with this head, and stores its number in `popped`. O(1).
+/// Removes the last member of the ring with the head `head`, and stores its number in `popped`. O(1).
 #[unsafe(no_mangle)]
 pub extern "C" fn ic_ring32_pop_back(table: &mut [RawNarrowTwo], head: u32, popped: &mut u32) -> u32
     ensures { PopCall narrow_words table.old table.new result popped.old popped.new Before (place_of head) }
 {
-    ring_calls::pop(table, Side::Before, head, popped)
+    ring_calls::pop(table, GapSide::Before, head, popped)
 }
 
-/// Inserts a place where another place is in a ring, and removes that one. O(1).
+/// Inserts the place `place` into a ring at the position of the place `at`, and removes `at`. O(1).
 ///
 /// The place must belong to the table and must not be linked. Linux: `list_replace`.
 #[unsafe(no_mangle)]
@@ -97,42 +98,44 @@ pub extern "C" fn ic_ring32_replace(table: &mut [RawNarrowTwo], at: u32, place: 
     ring_calls::replace(table, at, place)
 }
 
-/// Moves a place after another place, out of any ring of the table. After a head, it is the first member. O(1).
+/// Moves the place `place`, from whichever ring of the table it is in, after the place `at`. If `at` is a head, the moved place becomes the first
+/// member. O(1).
 ///
 /// If both places are the same, nothing changes. Linux: `list_move`.
 #[unsafe(no_mangle)]
 pub extern "C" fn ic_ring32_move_after(table: &mut [RawNarrowTwo], at: u32, place: u32) -> u32
     ensures { MoveCall narrow_words table.old table.new result After (place_of at) (place_of place) }
 {
-    ring_calls::move_beside(table, Side::After, at, place)
+    ring_calls::move_beside(table, GapSide::After, at, place)
 }
 
-/// Moves a place before another place, out of any ring of the table. Before a head, it is the last member. O(1).
+/// Moves the place `place`, from whichever ring of the table it is in, before the place `at`. If `at` is a head, the moved place becomes the last
+/// member. O(1).
 ///
 /// If both places are the same, nothing changes. Linux: `list_move_tail`.
 #[unsafe(no_mangle)]
 pub extern "C" fn ic_ring32_move_before(table: &mut [RawNarrowTwo], at: u32, place: u32) -> u32
     ensures { MoveCall narrow_words table.old table.new result Before (place_of at) (place_of place) }
 {
-    ring_calls::move_beside(table, Side::Before, at, place)
+    ring_calls::move_beside(table, GapSide::Before, at, place)
 }
 
-/// Moves all members of a ring after a place of another ring. O(1).
+/// Moves all members of the ring with the head `head` after the place `at` of another ring. O(1).
 ///
-/// Their head is then without members. Linux: `list_splice_init`.
+/// The ring of `head` then has no members. Linux: `list_splice_init`.
 #[unsafe(no_mangle)]
 pub extern "C" fn ic_ring32_splice_after(table: &mut [RawNarrowTwo], at: u32, head: u32) -> u32
     ensures { SpliceCall narrow_words table.old table.new result After (place_of at) (place_of head) }
 {
-    ring_calls::splice(table, Side::After, at, head)
+    ring_calls::splice(table, GapSide::After, at, head)
 }
 
-/// Moves all members of a ring before a place of another ring. O(1).
+/// Moves all members of the ring with the head `head` before the place `at` of another ring. O(1).
 ///
-/// Their head is then without members. Linux: `list_splice_tail_init`.
+/// The ring of `head` then has no members. Linux: `list_splice_tail_init`.
 #[unsafe(no_mangle)]
 pub extern "C" fn ic_ring32_splice_before(table: &mut [RawNarrowTwo], at: u32, head: u32) -> u32
     ensures { SpliceCall narrow_words table.old table.new result Before (place_of at) (place_of head) }
 {
-    ring_calls::splice(table, Side::Before, at, head)
+    ring_calls::splice(table, GapSide::Before, at, head)
 }

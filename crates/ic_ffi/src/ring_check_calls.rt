@@ -1,4 +1,4 @@
-//! The check of a ring: it tests that the words represent a ring with a head, and counts its members.
+//! The call that checks whether the words represent a ring with a head, and that counts its members.
 //!
 //! ```text
 //! uint64_t members;
@@ -12,11 +12,11 @@ ghost use Rattle.ic_raw_lists.specs.RingCheckCalls.{RingCheckCall};
 use ic_raw::RawTwo;
 use ic_raw_lists::ring_check_calls;
 
-/// Checks that the words represent a ring with this head, and stores the number of its members, not counting the head, in `members`, or returns
-/// [`BROKEN`](crate::BROKEN) if they do not represent one. O(n).
+/// Checks that the words of `table` represent a ring with the head `head`, and stores the number of its members without the head in `members`, or
+/// returns [`BROKEN`](crate::BROKEN) if they do not represent one. O(n).
 ///
-/// It writes nothing else. It returns [`NULL`](crate::NULL) if `head` is [`NONE`](crate::NONE). If it returns [`OK`](crate::OK), every other call
-/// does with this ring what its own comment says.
+/// The call writes nothing except `members`. The call returns [`NULL`](crate::NULL) if `head` is [`NONE`](crate::NONE). If it returns
+/// [`OK`](crate::OK), every other call on this ring does what the comment of that call says.
 #[unsafe(no_mangle)]
 pub extern "C" fn ic_ring_check(table: &mut [RawTwo], head: u32, members: &mut u64) -> u32
     ensures { RingCheckCall table.old table.new result (place_of head) members.old members.new }

@@ -12,10 +12,10 @@ ghost use Rattle.ic_raw_lists.specs.RingSortCalls.{RingMergeCall, RingSortCall};
 use ic_raw::RawTwo;
 use ic_raw_lists::ring_sort_calls;
 
-/// Sorts the members of the ring with this head by their keys. Members with equal keys keep their order. O(n log n). It uses no memory except the
-/// stack.
+/// Sorts the members of the ring with the head `head` by their keys. Members with equal keys keep their order. O(n log n). The call uses no memory
+/// except the stack.
 ///
-/// There must be a key for each place of the table. It returns [`NULL`](crate::NULL) if `head` is [`NONE`](crate::NONE), and
+/// There must be a key for each place of the table. The call returns [`NULL`](crate::NULL) if `head` is [`NONE`](crate::NONE), and
 /// [`BROKEN`](crate::BROKEN) if the words do not represent a ring with this head.
 #[unsafe(no_mangle)]
 pub extern "C" fn ic_ring_sort(table: &mut [RawTwo], keys: &[u64], head: u32) -> u32
@@ -24,11 +24,11 @@ pub extern "C" fn ic_ring_sort(table: &mut [RawTwo], keys: &[u64], head: u32) ->
     ring_sort_calls::sort(table, keys, head)
 }
 
-/// Merges the members of the ring with the head `given` into the ring with this head by their keys, and leaves `given` without members. O(n).
+/// Merges the members of the ring with the head `given` into the ring with the head `head` by their keys, and leaves `given` without members. O(n).
 ///
-/// If both were sorted, the result is sorted, and among members with equal keys those of this head come first. There must be a key for each place of
-/// the table. It returns [`NULL`](crate::NULL) if one of the two is [`NONE`](crate::NONE), and [`BROKEN`](crate::BROKEN) if the words do not
-/// represent two rings with these heads.
+/// If both rings were sorted, the result is sorted, and among members with equal keys the members of the ring with the head `head` come first. There
+/// must be a key for each place of the table. The call returns [`NULL`](crate::NULL) if one of the two heads is [`NONE`](crate::NONE), and
+/// [`BROKEN`](crate::BROKEN) if the words do not represent two rings with these heads.
 #[unsafe(no_mangle)]
 pub extern "C" fn ic_ring_merge(table: &mut [RawTwo], keys: &[u64], head: u32, given: u32) -> u32
     ensures { RingMergeCall keys.now table.old table.new result (place_of head) (place_of given) }

@@ -31,11 +31,11 @@ pub extern "C" fn ic_tree_insert(
     search_calls::insert(table, keys, tree, place)
 }
 
-/// Stores the number of the first member with this key in `found`, or returns [`NULL`](crate::NULL) if there is none. It writes nothing else. O(log
-/// n).
+/// Stores in `found` the number of the first member with the key `key`, or returns [`NULL`](crate::NULL) if no member has the key. The call writes
+/// nothing except `found`. O(log n).
 ///
-/// There must be a key for each place of the table, and the keys must not decrease from one member to the next. Otherwise it may find another member
-/// or none.
+/// There must be a key for each place of the table, and the keys must not decrease from one member to the next. If the keys are not in this order, the
+/// call may find another member or no member.
 #[unsafe(no_mangle)]
 pub extern "C" fn ic_tree_find(
     table: &mut [RawThree],
@@ -49,11 +49,11 @@ pub extern "C" fn ic_tree_find(
     search_calls::find_target(table, keys, tree, key, Target::Equal, found)
 }
 
-/// Stores the number of the first member whose key is at least `key` in `found`, or returns [`NULL`](crate::NULL) if there is none. It writes nothing
-/// else. O(log n).
+/// Stores in `found` the number of the first member whose key is at least `key`, or returns [`NULL`](crate::NULL) if there is no such member. The call
+/// writes nothing except `found`. O(log n).
 ///
-/// There must be a key for each place of the table, and the keys must not decrease from one member to the next. Otherwise it may find another member
-/// or none.
+/// There must be a key for each place of the table, and the keys must not decrease from one member to the next. If the keys are not in this order, the
+/// call may find another member or no member.
 #[unsafe(no_mangle)]
 pub extern "C" fn ic_tree_lower_bound(
     table: &mut [RawThree],
@@ -67,11 +67,11 @@ pub extern "C" fn ic_tree_lower_bound(
     search_calls::find_target(table, keys, tree, key, Target::AtLeast, found)
 }
 
-/// Stores the number of the last member whose key is at most `key` in `found`, or returns [`NULL`](crate::NULL) if there is none. It writes nothing
-/// else. O(log n).
+/// Stores in `found` the number of the last member whose key is at most `key`, or returns [`NULL`](crate::NULL) if there is no such member. The call
+/// writes nothing except `found`. O(log n).
 ///
-/// There must be a key for each place of the table, and the keys must not decrease from one member to the next. Otherwise it may find another member
-/// or none.
+/// There must be a key for each place of the table, and the keys must not decrease from one member to the next. If the keys are not in this order, the
+/// call may find another member or no member.
 #[unsafe(no_mangle)]
 pub extern "C" fn ic_tree_upper_bound(
     table: &mut [RawThree],

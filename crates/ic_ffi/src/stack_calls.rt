@@ -16,7 +16,7 @@ use ic_raw::{RawFront, RawOne, stack_calls};
 
 /// Inserts a place at the front. O(1).
 ///
-/// The place must belong to the table and must not be linked. If the first member is not linked, it returns [`BROKEN`](crate::BROKEN).
+/// The place must belong to the table and must not be linked. If the first member is not linked, the call returns [`BROKEN`](crate::BROKEN).
 #[unsafe(no_mangle)]
 pub extern "C" fn ic_stack_push_front(table: &mut [RawOne], list: &mut RawFront, place: u32) -> u32
     ensures { InsertCall table.old table.new list.old list.new result None (place_of place) }
@@ -26,7 +26,7 @@ pub extern "C" fn ic_stack_push_front(table: &mut [RawOne], list: &mut RawFront,
 
 /// Removes the first member and stores its number in `popped`, or returns [`NULL`](crate::NULL) if there is none. O(1).
 ///
-/// If the first member is not linked, it returns [`BROKEN`](crate::BROKEN).
+/// If the first member is not linked, the call returns [`BROKEN`](crate::BROKEN).
 #[unsafe(no_mangle)]
 pub extern "C" fn ic_stack_pop_front(
     table: &mut [RawOne],
@@ -40,7 +40,7 @@ pub extern "C" fn ic_stack_pop_front(
 
 /// Inserts a place after the member `at`, or at the front if `at` is [`NONE`](crate::NONE). O(1).
 ///
-/// The place must belong to the table and must not be linked. If the place after `at` is not linked, it returns [`BROKEN`](crate::BROKEN).
+/// The place must belong to the table and must not be linked. If the place after `at` is not linked, the call returns [`BROKEN`](crate::BROKEN).
 #[unsafe(no_mangle)]
 pub extern "C" fn ic_stack_insert_after(
     table: &mut [RawOne],
@@ -54,9 +54,9 @@ pub extern "C" fn ic_stack_insert_after(
 }
 
 /// Removes the member after `at`, or the first member if `at` is [`NONE`](crate::NONE), and stores its number in `removed`, or returns
-/// [`NULL`](crate::NULL) if there is none. O(1).
+/// [`NULL`](crate::NULL) if there is no member to remove. O(1).
 ///
-/// If the place after `at` is not linked, it returns [`BROKEN`](crate::BROKEN).
+/// If the place after `at` is not linked, the call returns [`BROKEN`](crate::BROKEN).
 #[unsafe(no_mangle)]
 pub extern "C" fn ic_stack_remove_after(
     table: &mut [RawOne],
@@ -69,10 +69,10 @@ pub extern "C" fn ic_stack_remove_after(
     stack_calls::remove_after(table, list, at, removed)
 }
 
-/// Inserts a place where the member after `at` is, or where the first member is if `at` is [`NONE`](crate::NONE). It removes that member and stores
-/// its number in `replaced`. It returns [`NULL`](crate::NULL) if there is none. O(1).
+/// Inserts a place where the member after `at` is, or where the first member is if `at` is [`NONE`](crate::NONE). The call removes the replaced member
+/// and stores its number in `replaced`. The call returns [`NULL`](crate::NULL) if there is no member to replace. O(1).
 ///
-/// The place must belong to the table and must not be linked. If the place after `at` is not linked, it returns [`BROKEN`](crate::BROKEN).
+/// The place must belong to the table and must not be linked. If the place after `at` is not linked, the call returns [`BROKEN`](crate::BROKEN).
 #[unsafe(no_mangle)]
 pub extern "C" fn ic_stack_replace_after(
     table: &mut [RawOne],
@@ -88,8 +88,9 @@ pub extern "C" fn ic_stack_replace_after(
 
 /// Moves all members of `given` after the member `at`, or to the front if `at` is [`NONE`](crate::NONE), and leaves `given` empty.
 ///
-/// It reads one entry of the table for each member of `given`. If the place after `at` is not linked, it returns [`BROKEN`](crate::BROKEN). It also
-/// does if both lists begin with the same member, as if `given` is the list itself, or if the links of `given` lead to no end.
+/// The call reads one entry of the table for each member of `given`. If the place after `at` is not linked, the call returns [`BROKEN`](crate::BROKEN).
+/// The call also returns [`BROKEN`](crate::BROKEN) if both lists begin with the same member, for example because `given` is the list itself, or if the
+/// links of `given` lead to no end.
 #[unsafe(no_mangle)]
 pub extern "C" fn ic_stack_splice_after(
     table: &mut [RawOne],
@@ -104,7 +105,7 @@ pub extern "C" fn ic_stack_splice_after(
 
 /// Moves all members after the member `at` to `rest`, or all members of the list if `at` is [`NONE`](crate::NONE). O(1).
 ///
-/// If `rest` is not empty, or the place after `at` is not linked, it returns [`BROKEN`](crate::BROKEN).
+/// If `rest` is not empty, or the place after `at` is not linked, the call returns [`BROKEN`](crate::BROKEN).
 #[unsafe(no_mangle)]
 pub extern "C" fn ic_stack_split_after(
     table: &mut [RawOne],
@@ -119,7 +120,7 @@ pub extern "C" fn ic_stack_split_after(
 
 /// Removes and unlinks all members. O(n).
 ///
-/// If the links lead to no end of the list, it returns [`BROKEN`](crate::BROKEN).
+/// If the links do not lead to an end of the list, the call returns [`BROKEN`](crate::BROKEN).
 #[unsafe(no_mangle)]
 pub extern "C" fn ic_stack_clear(table: &mut [RawOne], list: &mut RawFront) -> u32
     ensures { ClearCall table.old table.new list.old list.new result }

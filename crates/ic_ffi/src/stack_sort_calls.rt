@@ -18,9 +18,9 @@ ghost use Rattle.ic_raw_lists.specs.Stacks.{word_of};
 use ic_raw::{RawFront, RawOne};
 use ic_raw_lists::stack_sort_calls;
 
-/// Sorts the list by the keys of its members. Members with equal keys keep their order. O(n log n). It uses no memory except the stack.
+/// Sorts the list by the keys of its members. Members with equal keys keep their order. O(n log n). The call uses no memory except the stack.
 ///
-/// There must be a key for each place of the table. If the words do not represent a list, it returns [`BROKEN`](crate::BROKEN).
+/// There must be a key for each place of the table. If the words do not represent a list, the call returns [`BROKEN`](crate::BROKEN).
 #[unsafe(no_mangle)]
 pub extern "C" fn ic_stack_sort(table: &mut [RawOne], keys: &[u64], list: &mut RawFront) -> u32
     ensures { SortCall Represents no_word list_of word_of (list_from None) keys.now table.old table.new list.old list.new result }
@@ -28,11 +28,11 @@ pub extern "C" fn ic_stack_sort(table: &mut [RawOne], keys: &[u64], list: &mut R
     stack_sort_calls::sort(table, keys, list)
 }
 
-/// Merges the members of `given` into this list by their keys, and leaves `given` empty. O(n).
+/// Merges the members of `given` into the list `list` by their keys, and leaves `given` empty. O(n).
 ///
-/// If both were sorted, the result is sorted, and among members with equal keys those of this list come first. There must be a key for each place of
-/// the table. If the words do not represent two lists, or if both lists end with the same member, as lists that share members do, it returns
-/// [`BROKEN`](crate::BROKEN).
+/// If both lists were sorted, the result is sorted, and among members with equal keys the members of `list` come first. There must be a key for each
+/// place of the table. If the words do not represent two lists, or if both lists end with the same member, which is so if they share members, the call
+/// returns [`BROKEN`](crate::BROKEN).
 #[unsafe(no_mangle)]
 pub extern "C" fn ic_stack_merge(
     table: &mut [RawOne],

@@ -1,5 +1,5 @@
-//! The calls of trees with sums, in an array of the caller's own: edits that keep the sums right, the member at a position and the position of a
-//! member, sums before a member, and intervals that overlap.
+//! The calls of trees whose members have sums, which are in an array of the caller's own. Some calls edit the tree and keep the sums right. Other calls
+//! find the member at a position, the position of a member, the sum of the members before a member, and intervals that overlap.
 //!
 //! ```text
 //! struct ic_sum counts[64] = {0};                                             // each value is 1
@@ -19,7 +19,7 @@ use ic_link_ops::Side;
 use ic_raw::{RawRoot, RawThree};
 use ic_raw_augmented::{Kind, RawSum, edit_calls, sum_calls};
 
-/// Inserts a place by its key, after all members whose key is not greater, and updates the sums that this changes. O(log n).
+/// Inserts a place by its key, after all members whose key is not greater, and updates the sums that the edit changes. O(log n).
 ///
 /// The place must belong to the table and must not be linked, and there must be a key and a sum for each place of the table.
 #[unsafe(no_mangle)]
@@ -36,7 +36,7 @@ pub extern "C" fn ic_tree_sums_insert(
     edit_calls::insert(table, keys, sums, Kind::of(kind), tree, place)
 }
 
-/// Inserts a place as the left child of the member `at`, or as the only member if `at` is [`NONE`](crate::NONE), and updates the sums that this
+/// Inserts a place as the left child of the member `at`, or as the only member if `at` is [`NONE`](crate::NONE), and updates the sums that the edit
 /// changes. O(log n).
 ///
 /// The place must belong to the table and must not be linked, and there must be a sum for each place of the table.
@@ -54,7 +54,7 @@ pub extern "C" fn ic_tree_sums_insert_left(
     edit_calls::insert_at(table, sums, Kind::of(kind), tree, Side::Left, at, place)
 }
 
-/// Inserts a place as the right child of the member `at`, or as the only member if `at` is [`NONE`](crate::NONE), and updates the sums that this
+/// Inserts a place as the right child of the member `at`, or as the only member if `at` is [`NONE`](crate::NONE), and updates the sums that the edit
 /// changes. O(log n).
 ///
 /// The place must belong to the table and must not be linked, and there must be a sum for each place of the table.
@@ -72,8 +72,7 @@ pub extern "C" fn ic_tree_sums_insert_right(
     edit_calls::insert_at(table, sums, Kind::of(kind), tree, Side::Right, at, place)
 }
 
-/// Removes the member `at`, and updates the sums that this changes, or returns [`NULL`](crate::NULL) if `at` is [`NONE`](crate::NONE).
-/// O(log n).
+/// Removes the member `at`, and updates the sums that the edit changes, or returns [`NULL`](crate::NULL) if `at` is [`NONE`](crate::NONE). O(log n).
 ///
 /// There must be a sum for each place of the table.
 #[unsafe(no_mangle)]
@@ -89,8 +88,8 @@ pub extern "C" fn ic_tree_sums_remove(
     edit_calls::remove(table, sums, Kind::of(kind), tree, at)
 }
 
-/// Computes the sum at the member `at` and the sums above it again, after its value has changed. If `at` is [`NONE`](crate::NONE), it computes all
-/// sums of the table. O(log n), and for all sums O(p log p) for p places.
+/// Computes the sum at the member `at` and the sums at the members above `at` again, after the value of `at` has changed. If `at` is
+/// [`NONE`](crate::NONE), the call computes all sums of the table. O(log n), and O(p log p) if all sums of p places are computed.
 ///
 /// There must be a sum for each place of the table.
 #[unsafe(no_mangle)]
@@ -105,10 +104,11 @@ pub extern "C" fn ic_tree_sums_renew(
     sum_calls::renew(table, sums, Kind::of(kind), at)
 }
 
-/// Stores in `found` the number of the first member after `at`, or of all members if `at` is [`NONE`](crate::NONE), at which the combined values of
-/// the members after `at` up to it exceed `bound`. It returns [`NULL`](crate::NULL) if there is no such member. It writes nothing else. O(log n).
+/// Finds the first member after `at` such that the combined values of the members after `at`, up to and with the found member, exceed `bound`. The call
+/// stores its number in `found`. If `at` is [`NONE`](crate::NONE), the search and the values begin at the first member. The call returns
+/// [`NULL`](crate::NULL) if no member is found. The call writes nothing except `found`. O(log n).
 ///
-/// There must be a sum for each place of the table. If the sums of the tree are not right, it may find another member, or return
+/// There must be a sum for each place of the table. If the sums of the tree are not right, the call may find another member, or return
 /// [`BROKEN`](crate::BROKEN).
 #[unsafe(no_mangle)]
 pub extern "C" fn ic_tree_sums_find(
@@ -125,10 +125,10 @@ pub extern "C" fn ic_tree_sums_find(
     sum_calls::find(table, sums, Kind::of(kind), tree, at, bound, found)
 }
 
-/// Stores the combined values of the members before `at` in `sum`, or returns [`NULL`](crate::NULL) if `at` is [`NONE`](crate::NONE). It writes
-/// nothing else. O(log n).
+/// Stores in `sum` the combined values of all members before `at`, or returns [`NULL`](crate::NULL) if `at` is [`NONE`](crate::NONE). The call writes
+/// nothing except `sum`. O(log n).
 ///
-/// There must be a sum for each place of the table. If the links lead from the member to no root, it returns [`BROKEN`](crate::BROKEN).
+/// There must be a sum for each place of the table. If the links lead from the member to no root, the call returns [`BROKEN`](crate::BROKEN).
 #[unsafe(no_mangle)]
 pub extern "C" fn ic_tree_sums_before(
     table: &mut [RawThree],
@@ -142,11 +142,11 @@ pub extern "C" fn ic_tree_sums_before(
     sum_calls::before(table, sums, Kind::of(kind), at, sum)
 }
 
-/// Stores in `found` the number of the first member after `at`, or of all members if `at` is [`NONE`](crate::NONE), whose interval overlaps `[from,
-/// to)`, or returns [`NULL`](crate::NULL) if there is none. The interval starts at the key of its place and ends at its value, which it does not
-/// contain. It writes nothing else. O(log n).
+/// Stores in `found` the number of the first member after `at` whose interval overlaps `[from, to)`, or returns [`NULL`](crate::NULL) if no such member
+/// exists. If `at` is [`NONE`](crate::NONE), the search begins at the first member. The interval of a member goes from its key up to its value, and
+/// does not contain the value. The call writes nothing except `found`. O(log n).
 ///
-/// There must be a key and a sum for each place of the table. The sums must be those of [`Kind::Greatest`], and the keys must not decrease from one
+/// There must be a key and a sum for each place of the table. The sums must be of the kind [`Kind::Greatest`], and the keys must not decrease from one
 /// member to the next.
 #[unsafe(no_mangle)]
 pub extern "C" fn ic_tree_sums_overlap(

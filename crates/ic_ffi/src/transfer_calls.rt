@@ -4,19 +4,20 @@
 //! ic_list_transfer_after(links, 64, &ready, IC_NONE, &waiting, 7); // IC_OK: 7 is the first member of `ready`, and no longer one of `waiting`
 //! ```
 
-ghost use Rattle.ic_raw.specs.declared.gap.Side.TheVariants.{After, Before};
+ghost use Rattle.ic_raw.specs.declared.gap.GapSide.TheVariants.{After, Before};
 ghost use Rattle.ic_raw.specs.LinkWords.{wide_words};
 ghost use Rattle.ic_raw.specs.Words.{place_of};
 ghost use Rattle.ic_raw_lists.specs.TransferCalls.{TransferCall};
 
-use ic_raw::{RawEnds, RawTwo, Side};
+use ic_raw::{GapSide, RawEnds, RawTwo};
 use ic_raw_lists::transfer_calls;
 
-/// Moves the member `place` of the given list after the member `at` of the list, or to the front if `at` is [`NONE`](crate::NONE). The member stays
-/// linked during the call. O(1).
+/// Moves the member `place` of the list `given` after the member `at` of the list `list`, or to the front of `list` if `at` is [`NONE`](crate::NONE).
+/// The member stays linked during the call. O(1).
 ///
-/// It returns [`NULL`](crate::NULL) if `place` is [`NONE`](crate::NONE), else the first fault of the two places, or else [`BROKEN`](crate::BROKEN),
-/// for example if both lists begin with the same member.
+/// The call returns [`NULL`](crate::NULL) if `place` is [`NONE`](crate::NONE). Otherwise the call returns the first fault of the two places. If neither
+/// place has a fault but the links do not fit together, the call returns [`BROKEN`](crate::BROKEN), for example if both lists begin with the same
+/// member.
 #[unsafe(no_mangle)]
 pub extern "C" fn ic_list_transfer_after(
     table: &mut [RawTwo],
@@ -27,14 +28,15 @@ pub extern "C" fn ic_list_transfer_after(
 ) -> u32
     ensures { TransferCall wide_words table.old table.new list.old list.new result After (place_of at) given.old given.new (place_of place) }
 {
-    transfer_calls::transfer_at(table, list, Side::After, at, given, place)
+    transfer_calls::transfer_at(table, list, GapSide::After, at, given, place)
 }
 
-/// Moves the member `place` of the given list before the member `at` of the list, or to the back if `at` is [`NONE`](crate::NONE). The member stays
-/// linked during the call. O(1).
+/// Moves the member `place` of the list `given` before the member `at` of the list `list`, or to the back of `list` if `at` is [`NONE`](crate::NONE).
+/// The member stays linked during the call. O(1).
 ///
-/// It returns [`NULL`](crate::NULL) if `place` is [`NONE`](crate::NONE), else the first fault of the two places, or else [`BROKEN`](crate::BROKEN),
-/// for example if both lists begin with the same member.
+/// The call returns [`NULL`](crate::NULL) if `place` is [`NONE`](crate::NONE). Otherwise the call returns the first fault of the two places. If neither
+/// place has a fault but the links do not fit together, the call returns [`BROKEN`](crate::BROKEN), for example if both lists begin with the same
+/// member.
 #[unsafe(no_mangle)]
 pub extern "C" fn ic_list_transfer_before(
     table: &mut [RawTwo],
@@ -45,5 +47,5 @@ pub extern "C" fn ic_list_transfer_before(
 ) -> u32
     ensures { TransferCall wide_words table.old table.new list.old list.new result Before (place_of at) given.old given.new (place_of place) }
 {
-    transfer_calls::transfer_at(table, list, Side::Before, at, given, place)
+    transfer_calls::transfer_at(table, list, GapSide::Before, at, given, place)
 }

@@ -15,10 +15,10 @@ ghost use Rattle.ic_raw.specs.TreeCalls.{ClearCall, InsertCall, RemoveCall, Repl
 use ic_link_ops::Side;
 use ic_raw::{RawRoot, RawThree, tree_calls};
 
-/// Inserts a place in as the left child of the member `at`, or as the only member if `at` is [`NONE`](crate::NONE). O(log n).
+/// Inserts a place as the left child of the member `at`, or as the only member if `at` is [`NONE`](crate::NONE). O(log n).
 ///
-/// The place must belong to the table and must not be linked. If the member already has a left child, or if `at` is none and the tree has members, it
-/// returns [`BROKEN`](crate::BROKEN).
+/// The place must belong to the table and must not be linked. If the member already has a left child, or if `at` is [`NONE`](crate::NONE) and the tree
+/// has members, the call returns [`BROKEN`](crate::BROKEN).
 #[unsafe(no_mangle)]
 pub extern "C" fn ic_tree_insert_left(
     table: &mut [RawThree],
@@ -31,10 +31,10 @@ pub extern "C" fn ic_tree_insert_left(
     tree_calls::insert_at(table, tree, Side::Left, at, place)
 }
 
-/// Inserts a place in as the right child of the member `at`, or as the only member if `at` is [`NONE`](crate::NONE). O(log n).
+/// Inserts a place as the right child of the member `at`, or as the only member if `at` is [`NONE`](crate::NONE). O(log n).
 ///
-/// The place must belong to the table and must not be linked. If the member already has a right child, or if `at` is none and the tree has members,
-/// it returns [`BROKEN`](crate::BROKEN).
+/// The place must belong to the table and must not be linked. If the member already has a right child, or if `at` is [`NONE`](crate::NONE) and the tree
+/// has members, the call returns [`BROKEN`](crate::BROKEN).
 #[unsafe(no_mangle)]
 pub extern "C" fn ic_tree_insert_right(
     table: &mut [RawThree],
@@ -70,8 +70,8 @@ pub extern "C" fn ic_tree_replace(
     tree_calls::replace(table, tree, at, place)
 }
 
-/// Stores the number of the member after `at` in `found`, or of the first member if `at` is [`NONE`](crate::NONE), or returns [`NULL`](crate::NULL)
-/// if there is none. It writes nothing else. O(log n), and O(1) on average over a walk.
+/// Stores in `found` the number of the member after `at`, or of the first member if `at` is [`NONE`](crate::NONE), or returns [`NULL`](crate::NULL) if
+/// there is no such member. The call writes nothing except `found`. O(log n), and O(1) on average over a walk.
 #[unsafe(no_mangle)]
 pub extern "C" fn ic_tree_next(
     table: &mut [RawThree],
@@ -84,8 +84,8 @@ pub extern "C" fn ic_tree_next(
     tree_calls::step_at(table, tree, Side::Right, at, found)
 }
 
-/// Stores the number of the member before `at` in `found`, or of the last member if `at` is [`NONE`](crate::NONE), or returns [`NULL`](crate::NULL)
-/// if there is none. It writes nothing else. O(log n), and O(1) on average over a walk.
+/// Stores in `found` the number of the member before `at`, or of the last member if `at` is [`NONE`](crate::NONE), or returns [`NULL`](crate::NULL) if
+/// there is no such member. The call writes nothing except `found`. O(log n), and O(1) on average over a walk.
 #[unsafe(no_mangle)]
 pub extern "C" fn ic_tree_prev(
     table: &mut [RawThree],
@@ -100,8 +100,8 @@ pub extern "C" fn ic_tree_prev(
 
 /// Removes and unlinks all members. O(n).
 ///
-/// If steps from the first member on do not lead through linked places to an end, as many as the table has places at most, it returns
-/// [`BROKEN`](crate::BROKEN).
+/// The call steps from each member to the next one, at most as often as the table has places. If these steps do not lead through linked places to an
+/// end, the call returns [`BROKEN`](crate::BROKEN).
 #[unsafe(no_mangle)]
 pub extern "C" fn ic_tree_clear(table: &mut [RawThree], tree: &mut RawRoot) -> u32
     ensures { ClearCall table.old table.new tree.old tree.new result }

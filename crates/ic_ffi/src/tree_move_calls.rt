@@ -14,10 +14,10 @@ ghost use Rattle.ic_raw_trees.specs.TreeMoveCalls.{AppendCall, JoinCall, SplitCa
 use ic_raw::{RawRoot, RawThree};
 use ic_raw_trees::tree_move_calls;
 
-/// Moves all members of `given` after those of `tree`, in their order, and leaves `given` empty. O(n): it checks both trees first. The same edit in
-/// Rattle, where types guarantee the links, needs no check and takes O(log n).
+/// Moves all members of `given` after the members of `tree`, in their order, and leaves `given` empty. O(n), because the call checks both trees first.
+/// The same edit in Rattle, where types guarantee the links, needs no check and takes O(log n).
 ///
-/// It compares no keys. If the words do not represent two trees that share no member, it returns [`BROKEN`](crate::BROKEN).
+/// The call compares no keys. If the words do not represent two trees that share no member, the call returns [`BROKEN`](crate::BROKEN).
 #[unsafe(no_mangle)]
 pub extern "C" fn ic_tree_append(
     table: &mut [RawThree],
@@ -29,11 +29,11 @@ pub extern "C" fn ic_tree_append(
     tree_move_calls::append(table, tree, given)
 }
 
-/// Inserts a place after all members of `tree`, and moves all members of `given` after it, so that `given` is empty. O(n): it checks both trees
-/// first. The same edit in Rattle, where types guarantee the links, needs no check and takes O(log n).
+/// Inserts a place after all members of `tree`, and moves all members of `given` after the inserted place, so that `given` is empty. O(n), because the
+/// call checks both trees first. The same edit in Rattle, where types guarantee the links, needs no check and takes O(log n).
 ///
-/// It compares no keys. The place must belong to the table and must not be linked. If the words do not represent two trees that share no member, it
-/// returns [`BROKEN`](crate::BROKEN).
+/// The call compares no keys. The place must belong to the table and must not be linked. If the words do not represent two trees that share no member,
+/// the call returns [`BROKEN`](crate::BROKEN).
 #[unsafe(no_mangle)]
 pub extern "C" fn ic_tree_join(
     table: &mut [RawThree],
@@ -46,11 +46,11 @@ pub extern "C" fn ic_tree_join(
     tree_move_calls::join(table, tree, place, given)
 }
 
-/// Keeps the members before the member `at`, and moves `at` and all after it to `rest`, which has to be empty. At [`NONE`](crate::NONE) it returns
-/// [`NULL`](crate::NULL). O(n): it checks the tree first. The same edit in Rattle, where types guarantee the links, needs no check and takes O(log
-/// n).
+/// Keeps the members before the member `at` in `tree`, and moves `at` and all members after `at` to `rest`, which must be empty. If `at` is
+/// [`NONE`](crate::NONE), the call returns [`NULL`](crate::NULL). O(n), because the call checks the tree first. The same edit in Rattle, where types
+/// guarantee the links, needs no check and takes O(log n).
 ///
-/// It compares no keys. If the words do not represent a tree of which `at` is a member, or if `rest` has members, it returns
+/// The call compares no keys. If the words do not represent a tree of which `at` is a member, or if `rest` has members, the call returns
 /// [`BROKEN`](crate::BROKEN).
 #[unsafe(no_mangle)]
 pub extern "C" fn ic_tree_split(

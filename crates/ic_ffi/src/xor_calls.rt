@@ -10,7 +10,7 @@
 
 ghost use Rattle.std.specs.Prelude.{◌≡◌, List, reverse, None};
 ghost use Rattle.ic_link_ops.specs.Prelude.{Place, Table};
-ghost use Rattle.ic_raw.specs.declared.gap.Side.TheVariants.{After, Before};
+ghost use Rattle.ic_raw.specs.declared.gap.GapSide.TheVariants.{After, Before};
 ghost use Rattle.ic_raw.specs.declared.status.TheConstants.{OK};
 ghost use Rattle.ic_raw.specs.declared.words.RawOne.{RawOne};
 ghost use Rattle.ic_raw.specs.Words.{place_of};
@@ -22,7 +22,8 @@ use ic_raw::{RawEnds, RawOne, xor_calls};
 
 /// Inserts a place at the front. O(1).
 ///
-/// The place must belong to the table and must not be linked. If the first member does not belong to the table, it returns [`BROKEN`](crate::BROKEN).
+/// The place must belong to the table and must not be linked. If the first member does not belong to the table, the call returns
+/// [`BROKEN`](crate::BROKEN).
 #[unsafe(no_mangle)]
 pub extern "C" fn ic_xor_push_front(table: &mut [RawOne], list: &mut RawEnds, place: u32) -> u32
     ensures { PushCall table.old table.new list.old list.new result None (ends_of list.old).head (place_of place) }
@@ -32,7 +33,8 @@ pub extern "C" fn ic_xor_push_front(table: &mut [RawOne], list: &mut RawEnds, pl
 
 /// Inserts a place at the back. O(1).
 ///
-/// The place must belong to the table and must not be linked. If the last member does not belong to the table, it returns [`BROKEN`](crate::BROKEN).
+/// The place must belong to the table and must not be linked. If the last member does not belong to the table, the call returns
+/// [`BROKEN`](crate::BROKEN).
 #[unsafe(no_mangle)]
 pub extern "C" fn ic_xor_push_back(table: &mut [RawOne], list: &mut RawEnds, place: u32) -> u32
     ensures { PushCall table.old table.new list.old list.new result (ends_of list.old).tail None (place_of place) }
@@ -42,7 +44,7 @@ pub extern "C" fn ic_xor_push_back(table: &mut [RawOne], list: &mut RawEnds, pla
 
 /// Removes the first member and stores its number in `popped`, or returns [`NULL`](crate::NULL) if there is none. O(1).
 ///
-/// If the links beside the member do not lead back to it, it returns [`BROKEN`](crate::BROKEN).
+/// If the links of the neighbors do not lead back to the member, the call returns [`BROKEN`](crate::BROKEN).
 #[unsafe(no_mangle)]
 pub extern "C" fn ic_xor_pop_front(
     table: &mut [RawOne],
@@ -56,7 +58,7 @@ pub extern "C" fn ic_xor_pop_front(
 
 /// Removes the last member and stores its number in `popped`, or returns [`NULL`](crate::NULL) if there is none. O(1).
 ///
-/// If the links beside the member do not lead back to it, it returns [`BROKEN`](crate::BROKEN).
+/// If the links of the neighbors do not lead back to the member, the call returns [`BROKEN`](crate::BROKEN).
 #[unsafe(no_mangle)]
 pub extern "C" fn ic_xor_pop_back(table: &mut [RawOne], list: &mut RawEnds, popped: &mut u32) -> u32
     ensures { PopCall table.old table.new list.old list.new result Before popped.old popped.new }
@@ -64,9 +66,10 @@ pub extern "C" fn ic_xor_pop_back(table: &mut [RawOne], list: &mut RawEnds, popp
     xor_calls::pop_back(table, list, popped)
 }
 
-/// Inserts a place between the neighbors `before` and `after`, which are [`NONE`](crate::NONE) beyond an end. O(1).
+/// Inserts a place between the neighbors `before` and `after`. At an end of the list, the neighbor that does not exist is [`NONE`](crate::NONE). O(1).
 ///
-/// The place must belong to the table and must not be linked. If the two are not neighbors by their links, it returns [`BROKEN`](crate::BROKEN).
+/// The place must belong to the table and must not be linked. If the links do not make `before` and `after` neighbors, the call returns
+/// [`BROKEN`](crate::BROKEN).
 #[unsafe(no_mangle)]
 pub extern "C" fn ic_xor_insert_between(
     table: &mut [RawOne],
@@ -82,7 +85,7 @@ pub extern "C" fn ic_xor_insert_between(
 
 /// Removes the member `at`, whose previous member is `before`, or returns [`NULL`](crate::NULL) if `at` is [`NONE`](crate::NONE). O(1).
 ///
-/// If the links beside the member do not lead back to it, it returns [`BROKEN`](crate::BROKEN).
+/// If the links of the neighbors do not lead back to the member, the call returns [`BROKEN`](crate::BROKEN).
 #[unsafe(no_mangle)]
 pub extern "C" fn ic_xor_remove(
     table: &mut [RawOne],
@@ -95,10 +98,10 @@ pub extern "C" fn ic_xor_remove(
     xor_calls::remove(table, list, before, at)
 }
 
-/// Inserts a place where the member `at` is, whose previous member is `before`, and removes `at`, or returns [`NULL`](crate::NULL) if `at` is
+/// Inserts a place where the member `at` is, whose previous member is `before`. The call removes `at`, or returns [`NULL`](crate::NULL) if `at` is
 /// [`NONE`](crate::NONE). O(1).
 ///
-/// The place must belong to the table and must not be linked. If the links beside the member do not lead back to it, it returns
+/// The place must belong to the table and must not be linked. If the links of the neighbors do not lead back to the member, the call returns
 /// [`BROKEN`](crate::BROKEN).
 #[unsafe(no_mangle)]
 pub extern "C" fn ic_xor_replace(
@@ -115,8 +118,8 @@ pub extern "C" fn ic_xor_replace(
 
 /// Moves all members of `given` between the neighbors `before` and `after`, and leaves `given` empty. O(1).
 ///
-/// If the two are not neighbors by their links or of no list that is given, or if both lists begin with the same member, it returns
-/// [`BROKEN`](crate::BROKEN).
+/// The call returns [`BROKEN`](crate::BROKEN) if the links do not make `before` and `after` neighbors. The call also returns [`BROKEN`](crate::BROKEN) if the
+/// ends of `given` are not the ends of a list, or if both lists begin with the same member.
 #[unsafe(no_mangle)]
 pub extern "C" fn ic_xor_splice_between(
     table: &mut [RawOne],
@@ -132,8 +135,8 @@ pub extern "C" fn ic_xor_splice_between(
 
 /// Moves all members of `given` to the back of the list, and leaves `given` empty. O(1).
 ///
-/// If both lists begin with the same member, as if `given` is the list itself, or if an end of one does not belong to the table, it returns
-/// [`BROKEN`](crate::BROKEN).
+/// The call returns [`BROKEN`](crate::BROKEN) if both lists begin with the same member, for example because `given` is the list itself. It also returns
+/// [`BROKEN`](crate::BROKEN) if an end of one of the lists does not belong to the table.
 #[unsafe(no_mangle)]
 pub extern "C" fn ic_xor_append(
     table: &mut [RawOne],
@@ -147,7 +150,7 @@ pub extern "C" fn ic_xor_append(
 
 /// Cuts the list between the neighbors `before` and `after`, and moves the members from `after` on to `rest`. O(1).
 ///
-/// If the two are not neighbors by their links, or if `rest` is not empty, it returns [`BROKEN`](crate::BROKEN).
+/// If the links do not make `before` and `after` neighbors, or if `rest` is not empty, the call returns [`BROKEN`](crate::BROKEN).
 #[unsafe(no_mangle)]
 pub extern "C" fn ic_xor_split_between(
     table: &mut [RawOne],
@@ -163,7 +166,7 @@ pub extern "C" fn ic_xor_split_between(
 
 /// Removes and unlinks all members. O(n).
 ///
-/// If the links do not lead from the first member to the last, it returns [`BROKEN`](crate::BROKEN).
+/// If the links do not lead from the first member to the last, the call returns [`BROKEN`](crate::BROKEN).
 #[unsafe(no_mangle)]
 pub extern "C" fn ic_xor_clear(table: &mut [RawOne], list: &mut RawEnds) -> u32
     ensures { ClearCall table.old table.new list.old list.new result }
@@ -171,7 +174,7 @@ pub extern "C" fn ic_xor_clear(table: &mut [RawOne], list: &mut RawEnds) -> u32
     xor_calls::clear(table, list)
 }
 
-/// Reverses the list. O(1): it reads no entry of the table, and always returns [`OK`](crate::OK).
+/// Reverses the list. O(1), because the call reads no entry of the table. The call always returns [`OK`](crate::OK).
 #[unsafe(no_mangle)]
 pub extern "C" fn ic_xor_reverse(list: &mut RawEnds) -> u32
     ensures ok { result ≡ OK }

@@ -1,4 +1,4 @@
--- A hash table that has each object, after each kind of step, and what a search of it finds.
+-- Lemmas about a hash table that has every object: it still has every object after each kind of call, and what a search finds.
 use Rattle.std.proofs.Common.{◌≡◌, ◌≢◌, ℕ, suc, ◌+◌, ◌≤◌, ◌<◌, Bool, true, false, Option, None, Some, IsSome, is_some, List, [], ◌∷◌, ◌++◌, cond, count_by, eq-eqb, eqb-true, filter, nat_eq, length, refl, sym, ap, ◌∙◌, subst, arith, true≢false}
 use Rattle.std.proofs.lemmas.Bool.{false_from_ne_true}
 use Rattle.std.proofs.lemmas.List.Sums.{sum_by-cons}
@@ -31,7 +31,7 @@ use Rattle.ic_container.proofs.ValueLemmas.{member_placed, no_more, there_is}
 use Rattle.ic_indexed.specs.Indexed.{IsOrderOf}
 use Rattle.ic_hash_index.specs.HashIndex.{HoldsAll}
 
--- only covered places are linked, of whatever width the words are, and so none where no place is
+-- only places that a plain table covers are linked, for words of every width. `singly_off` says that no place is linked if the table covers none
 module _ {W A : Type 0} (width : Width) (unlinked : W) (is_linked : W → Bool) (starts : is_linked unlinked ≡ false) (links : PlainTable W A ⊤) where
   pub singly_covered : (p : Place) → IsLinked (linked_by is_linked) (table width unlinked links) p → IsCovered (table width unlinked links) p
   singly_covered p is = linked_in_range (linked_by is_linked) (link_of unlinked) starts (nameable width (entries links)) (index_of p) is
@@ -39,19 +39,19 @@ module _ {W A : Type 0} (width : Width) (unlinked : W) (is_linked : W → Bool) 
   pub singly_off : (table width unlinked links).extent.places ≡ 0 → (p : Place) → IsUnlinked (linked_by is_linked) (table width unlinked links) p
   singly_off none p = false_from_ne_true _ (λ is. let within = singly_covered p is in absurd (omega (arith, within, none)))
 
--- what holds where an answer is true
+-- if a fact X was stated for the case that an answer is true, and the answer is true, then X holds
 pub on_true : {X : Type 0} (answer : Bool) → OnTrue answer X → answer ≡ true → X
 on_true true h e = h
 on_true false h e = absurd (true≢false (sym e))
 
--- what holds of each holds of a member
+-- a fact about each member of a list of places holds for each place that is a member of the list
 at_member : (P : Place → Type 0) (s : List Place) → AllByRecursion P s → (q : Place) → IsMember q s → P q
 at_member P s all q member = let m = member_split q s member in at m.0 m.1 (subst (AllByRecursion P) m.2 all) where
   at : (front back : List Place) → AllByRecursion P (front ++ q ∷ back) → P q
   at [] back all = all.0
   at (x ∷ front) back all = at front back all.1
 
--- what passes is a member of those that pass, if it is one at all
+-- if a place q passes the test, and q is not a member of the places of s that pass it, then q is not a member of s
 absent_filtered : (test : Place → Bool) (q : Place) → test q ≡ true → (s : List Place) → IsAbsent q (filter test s) → IsAbsent q s
 absent_filtered test q passed [] out = tt
 absent_filtered test q passed (x ∷ s) out = by (test x) refl (absent_filtered test q passed s) out where
@@ -62,12 +62,12 @@ absent_filtered test q passed (x ∷ s) out = by (test x) refl (absent_filtered 
 member_filtered : (test : Place → Bool) (q : Place) → test q ≡ true → (s : List Place) → IsMember q s → IsMember q (filter test s)
 member_filtered test q passed s member = λ out. member (absent_filtered test q passed s out)
 
--- none is left of places of which none passes
+-- if no place of s passes the test, the list of places that pass is empty
 filter_none : (test : Place → Bool) (s : List Place) → AllByRecursion (λ q. test q ≡ false) s → length (filter test s) ≡ 0
 filter_none test [] none = refl
 filter_none test (x ∷ s) none = rw none.0 (filter_none test s none.1)
 
--- as many objects pass as values do
+-- the number of places whose object passes the test is the number of values that pass the test
 values_counted : {T : Type 0} (test : T → Bool) (objects : Objects T) (s : List Place) → length (filter (matches test objects) s) ≡ count_by test (values_at objects s)
 values_counted test objects [] = refl
 values_counted {T} test objects (x ∷ s) = by (object_at objects x) (values_counted test objects s) where
@@ -80,7 +80,7 @@ values_counted {T} test objects (x ∷ s) = by (object_at objects x) (values_cou
   by None rest = rest
   by (Some v) rest = on (test v) (filter (matches test objects) s) (count_by test (values_at objects s)) rest ∙ sym (sum_by-cons (λ w. cond (test w) 1 0) v (values_at objects s))
 
--- AN OBJECT BESIDE: what stands at p alone is another one
+-- ANOTHER OBJECT AT p: if only the object at p changes, and p is not a member of s, then the members of s still belong in their chains
 belongs_beside : {T : Type 0} (slots : Slots) (hash : T → ℕ) (objects new : Objects T) (p : Place) → ((q : Place) → q ≢ p → object_at new q ≡ object_at objects q) → (i : ℕ) (s : List Place) → IsAbsent p s
     → AllByRecursion (BelongsIn slots hash objects i) s → AllByRecursion (BelongsIn slots hash new i) s
 belongs_beside slots hash objects new p same i [] out own = tt
@@ -110,7 +110,7 @@ held_beside {succ = succ} {hash} {fronts} {t} {table} {objects} {new} p same s o
   enough = held.enough;
 }
 
--- AT FIRST
+-- A NEW HASH TABLE has every object, if there are no objects and no place is linked
 pub hash_first : {E A B T : Type 0} (succ : E → Successor) (linked : E → Bool) (hash : A → T → ℕ) (fronts : B → List (Option Place)) (t : Table E) (table : HashTable A B) (objects : Objects T)
     → IsNew fronts table → ((p : Place) → object_at objects p ≡ None) → ((p : Place) → IsUnlinked linked t p) → HoldsAll succ linked hash fronts t table objects
 hash_first succ linked hash fronts t table objects new vacant off =
@@ -119,16 +119,16 @@ hash_first succ linked hash fronts t table objects new vacant off =
 
 module _ {E A B T : Type 0} {succ : E → Successor} {linked : E → Bool} (alike : (e : E) → (succ e).linked ≡ linked e) {hash : A → T → ℕ} {fronts : B → List (Option Place)} where
   module _ {t : Table E} {table : HashTable A B} {objects : Objects T} (a : HoldsAll succ linked hash fronts t table objects) where
-    -- what is vacant is no member
+    -- a place without an object is not a member of the hash table
     pub hash_absent : (p : Place) → object_at objects p ≡ None → IsAbsent p a.members
     hash_absent p none = chains_free succ (BelongsIn table.slots (hash table.adapter) objects) alike t 0 (fronts table.buckets) a.members p a.held.chained (a.only p none)
 
-    -- A NEW OBJECT: it is not linked, and the members are held still
+    -- A NEW OBJECT IS PLACED: the hash table still has the same members, because the place of the new object was vacant
     module _ {more : Objects T} {p : Place} {v : T} (places : Places objects more p v) where
       pub hash_ready : Holds succ hash fronts t table more a.members
       hash_ready = held_beside p (others_placed places) a.members (hash_absent p places.vacant) a.held
 
-      -- and is inserted
+      -- after the new object is inserted and linked, the hash table has every object
       pub hash_new : {new : Table E} {after : HashTable A B} → HoldsWith succ hash fronts new after more a.members p → LinksAlso linked t new p → HoldsAll succ linked hash fronts new after more
       hash_new {new} with also =
           let front = with.0.front in
@@ -142,7 +142,7 @@ module _ {E A B T : Type 0} {succ : E → Successor} {linked : E → Bool} (alik
                 (λ n none. also.others q n ∙ a.only q (sym (others_placed places q n) ∙ none));
           }
 
-    -- A CHAIN HAS NO MORE MEMBERS than values belong there
+    -- A CHAIN HAS NO MORE MEMBERS than there are values that belong in the chain k
     hash_few : (k : ℕ) (used : k < table.slots.used) (order : List Place) → IsOrderOf objects order
         → length (chain_of a.held k used).chain ≤ count_by (λ v. nat_eq (slot_of table.slots (hash table.adapter v)) k) (values_at objects order)
     hash_few k used order whole =
@@ -158,14 +158,14 @@ module _ {E A B T : Type 0} {succ : E → Successor} {linked : E → Bool} (alik
         member_filtered (matches test objects) q passed order (whole.all q is)) in
         omega (arith, few, values_counted test objects order)
 
-    -- what stands at no member is nothing
+    -- at a place that is not a member of the hash table there is no object
     vacant_beside : (q : Place) → IsAbsent q a.members → object_at objects q ≡ None
     vacant_beside q out = by (object_at objects q) refl where
       by : (o : Option T) → object_at objects q ≡ o → object_at objects q ≡ None
       by None e = e
       by (Some v) e = absurd (a.all q (ap is_some e) out)
 
-    -- A CHAIN HAS A MEMBER where a value belongs there
+    -- THE CHAIN k HAS A MEMBER if at least one value belongs in it
     hash_some : (k : ℕ) (used : k < table.slots.used) (order : List Place) → IsOrderOf objects order
         → 1 ≤ count_by (λ v. nat_eq (slot_of table.slots (hash table.adapter v)) k) (values_at objects order) → 1 ≤ length (chain_of a.held k used).chain
     hash_some k used order whole one = by (chain_of a.held k used).chain refl where
@@ -181,7 +181,8 @@ module _ {E A B T : Type 0} {succ : E → Successor} {linked : E → Bool} (alik
           let beside = of_members (λ q. matches test objects q ≡ false) a.members order (λ q out. vacant_absent objects q (vacant_beside q out) order whole.placed) none in
           absurd (omega (arith, one, values_counted test objects order, filter_none (matches test objects) order beside))
 
-    -- the chain where a hash belongs
+    -- for each hash there is a chain in which it belongs. The chain has at most as many members as values belong in it, and at least one if a value
+    -- belongs in it
     pub hash_chain : (h : ℕ) → (chain : List Place) × RepresentsFrom succ t (front_at fronts table (slot_of table.slots h)) chain
         × ((order : List Place) → IsOrderOf objects order → length chain ≤ count_by (λ v. nat_eq (slot_of table.slots (hash table.adapter v)) (slot_of table.slots h)) (values_at objects order))
         × ((order : List Place) → IsOrderOf objects order → 1 ≤ count_by (λ v. nat_eq (slot_of table.slots (hash table.adapter v)) (slot_of table.slots h)) (values_at objects order) → 1 ≤ length chain)
@@ -190,12 +191,12 @@ module _ {E A B T : Type 0} {succ : E → Successor} {linked : E → Bool} (alik
         let c = chain_of a.held (slot_of table.slots h) used in
         (c.chain, c.shown, hash_few (slot_of table.slots h) used, hash_some (slot_of table.slots h) used)
 
-    -- AN OBJECT IS A MEMBER,
+    -- AN OBJECT IS A MEMBER of the hash table, at some position between its other members
     module _ (p : Place) (is : is_placed objects p ≡ true) where
       pub hash_cut : (front : List Place) × (back : List Place) × (a.members ≡ front ++ p ∷ back)
       hash_cut = member_split p a.members (a.all p is)
 
-      -- and is taken off, and out
+      -- after an object is removed, unlinked and freed, the hash table still has every object
       pub hash_freed : {new : Table E} {after : HashTable A B} {less : Objects T}
           → ((front back : List Place) → Holds succ hash fronts t table objects (front ++ p ∷ back) → Holds succ hash fronts new after objects (front ++ back))
           → Unlinks linked t new p → Frees objects less p → HoldsAll succ linked hash fronts new after less
@@ -210,7 +211,7 @@ module _ {E A B T : Type 0} {succ : E → Successor} {linked : E → Bool} (alik
             only = λ q. everywhere (λ q. object_at less q ≡ None → IsUnlinked linked new q) p q (λ none. off.is) (λ n none. off.others q n ∙ a.only q (sym (others_left frees q n) ∙ none));
           }
 
--- WHAT A SEARCH FINDS, of which the test tells the key
+-- WHAT A SEARCH FINDS is an object with the key k, or no object if no object has this key. The test `equal` says whether the key of a value is k
 module _ {T : Type 0} (key : T → ℕ) (objects : Objects T) (k : ℕ) (equal : T → Bool) (tells : (v : T) → equal v ≡ true → key v ≡ k) (passed : (v : T) → key v ≡ k → equal v ≡ true) where
   pub hash_found : (s : List Place) (position : Option Place) → ((p : Place) → is_placed objects p ≡ true → IsMember p s) → Finds (matches equal objects) s position → IsFound key objects k position
   hash_found s None all none = λ p v there same. true≢false (sym (ap (passes equal) there ∙ passed v same) ∙ at_member (λ q. matches equal objects q ≡ false) s none p (all p (ap is_some there)))

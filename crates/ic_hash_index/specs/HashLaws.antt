@@ -1,4 +1,4 @@
--- Laws of a hash table that has every object.
+-- Laws of a hash table whose members are all objects of a slab.
 use Rattle.std.proofs.Common.{◌≡◌, ℕ, Bool, true, None, Some, Option, IsSome, is_some, List, [], ◌∷◌, sym, ap, ◌∙◌}
 use Rattle.std.specs.List.{AllByRecursion}
 use Rattle.ic_link_ops.specs.Prelude.{Place, Objects, object_at, is_placed, IsDisjoint, IsMember, Table, IsUnlinked}
@@ -12,12 +12,13 @@ use Rattle.ic_hash_table.specs.Slots.{slot_of}
 use Rattle.ic_hash_table.proofs.Chains.{chains_frame, chains_weakened}
 use Rattle.ic_hash_index.specs.HashIndex.{HoldsAll}
 
--- an empty sequence shares no member with any other
+-- every sequence s shares no member with the empty sequence
 apart_from_none : (s : List Place) → IsDisjoint s []
 apart_from_none [] = tt
 apart_from_none (x ∷ s) = (tt, apart_from_none s)
 
--- AFTER `place`, whatever it returned
+-- THE TABLE OF LINKS HAS GROWN: if each entry of the grown table is as in the old table, the hash table still has every object. A call of `place`
+-- grows the table like this, whatever it returns
 pub hash_grown : {E A B T : Type 0} {succ : E → Successor} {linked : E → Bool} {hash : A → T → ℕ} {fronts : B → List (Option Place)} {t grown : Table E} {table : HashTable A B} {objects : Objects T} → ((q : Place) → grown.entry q ≡ t.entry q) → HoldsAll succ linked hash fronts t table objects
     → HoldsAll succ linked hash fronts grown table objects
 hash_grown {succ = succ} {linked} {hash} {fronts} {t} {grown} {table} {objects} stays a = record {
@@ -34,7 +35,7 @@ hash_grown {succ = succ} {linked} {hash} {fronts} {t} {grown} {table} {objects} 
   only = λ q none. ap linked (stays q) ∙ a.only q none;
 }
 
--- AFTER ANOTHER VALUE with the same hash has replaced one
+-- A VALUE IS REPLACED: the hash table still has every object after a value with the same hash has been stored at the place of the value `out`
 pub hash_alike : {E A B T : Type 0} {succ : E → Successor} {linked : E → Bool} {hash : A → T → ℕ} {fronts : B → List (Option Place)} {t : Table E} {table : HashTable A B} {objects new : Objects T} → HoldsAll succ linked hash fronts t table objects → {p : Place} {out value : T} → object_at objects p ≡ Some out → Puts objects new p value
     → hash table.adapter value ≡ hash table.adapter out → HoldsAll succ linked hash fronts t table new
 hash_alike {succ = succ} {linked} {hash} {fronts} {t} {table} {objects} {new} a {p} {out} {value} there puts same = record {

@@ -1,4 +1,4 @@
-//! The adapter by which a hash table hashes keys.
+//! The adapter that a hash table uses to hash keys.
 //!
 //! ```text
 //! let table = HashTable::new(ByHash::new(), buckets); // finds pages by their numbers
@@ -16,22 +16,22 @@ use ic_link_ops::{OneNarrowWord, OneWord, TwoNarrowWords};
 use std::alloc::AllocError;
 use std::marker::PhantomData;
 
-/// The adapter by which a hash table hashes keys. A hash is the upper half of the product of the key and 2^64 divided by the golden ratio, so that
-/// consecutive keys are in different chains.
+/// The adapter that a hash table uses to hash keys. A hash is the upper 32 of the lower 64 bits of the product of the key and 2^64 divided by the
+/// golden ratio. Therefore consecutive keys are in different chains.
 ///
-/// A user who chooses the keys can choose them so that all are in one chain. `W` is the type of the words of the hash table's links, and `O` that of
-/// the links of the list beside it.
+/// A user who chooses the keys can choose them so that all of them are in one chain. `W` is the type of the words of the hash table's links. `O` is
+/// the type of the words of the links of the list that a container has beside the hash table.
 pub struct ByHash<T, W = OneWord<Singly>, O = TwoWords> {
     of: PhantomData<T>,
     words: PhantomData<W>,
     order: PhantomData<O>,
 }
 
-/// The same over links of 4-byte words. The links take half the memory, and there can be at most 536,870,911 objects.
+/// The adapter for links with 4-byte words. The links take half the memory, and there can be at most 536,870,911 objects.
 pub type NarrowByHash<T> = ByHash<T, OneNarrowWord<Singly>, TwoNarrowWords>;
 
 impl<T> ByHash<T> {
-    /// Makes the adapter, which has no data. O(1).
+    /// Makes the adapter. An adapter has no data. O(1).
     #[inline]
     pub fn new() -> ByHash<T> {
         ByHash::with_words()
@@ -39,7 +39,7 @@ impl<T> ByHash<T> {
 }
 
 impl<T, W, O> ByHash<T, W, O> {
-    /// Makes the hashes of keys, for links with words of this type. O(1).
+    /// Makes the adapter, for links with words of the types `W` and `O`. O(1).
     #[inline]
     pub fn with_words() -> ByHash<T, W, O> {
         ByHash {

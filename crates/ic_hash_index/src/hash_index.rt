@@ -1,4 +1,4 @@
-//! The hash table as an index, which finds objects by their keys.
+//! A hash table as the index of a container. The index finds objects by their keys.
 //!
 //! ```text
 //! let buckets = empty_buckets(rt.alloc(), 1024)?;
@@ -25,28 +25,29 @@ use std::alloc::{Allocator, Global};
 
 /// A hash table as the index of a container.
 ///
-/// A contract sees how many chains it has (`chains_of`), and whether it is new (`IsNewIndex`). `B` is the type of its buckets, which must be able to
-/// name every place that the links can name. So links of 4-byte words can have buckets of 4 or 8 bytes, and links of 8-byte words have buckets of 8
-/// bytes. `W` is the type of the words of its links, and `O` that of the links of the list beside it.
+/// A contract names how many chains the index has (`chains_of`), and says whether the index is new (`IsNewIndex`). `B` is the type of its buckets,
+/// which must be able to name every place that the links can name. Therefore links of 4-byte words can have buckets of 4 or 8 bytes, and links of
+/// 8-byte words have buckets of 8 bytes. `W` is the type of the words of the hash table's links. `O` is the type of the words of the links of the
+/// list that the container has beside the hash table.
 #[derive(Drop)]
 pub struct HashIndex<T, B, W = OneWord<Singly>, O = TwoWords> {
     table: HashTable<ByHash<T, W, O>, B>,
 }
 
-/// The same over links of 4-byte words. The links take half the memory, and there can be at most 536,870,911 objects.
+/// A hash index whose links have 4-byte words. The links take half the memory, and there can be at most 536,870,911 objects.
 pub type NarrowHashIndex<T, B> = HashIndex<T, B, OneNarrowWord<Singly>, TwoNarrowWords>;
 
-/// Objects in a hash table by their keys and in a list.
+/// A container that keeps its objects in a hash table by their keys, and also in a list.
 pub type HashIndexed<T, B, A = Global> = Indexed<T, HashIndex<T, B>, A>;
 
-/// The same over links of 4-byte words.
+/// A container that keeps its objects in a hash table by their keys, and also in a list. Its links have 4-byte words.
 pub type NarrowHashIndexed<T, B, A = Global> = Indexed<T, NarrowHashIndex<T, B>, A>;
 
 impl<T: HasKey, B: BucketRow> HashIndex<T, B> {
-    /// Makes an index over these buckets.
+    /// Makes an index over the given buckets.
     ///
-    /// It requires that the buckets are empty, and that there is at least one and at most 4,294,967,296. With as many buckets as objects, a search
-    /// compares one or two objects on average. It costs O(log n) for n buckets, and takes no memory.
+    /// The call requires that the buckets are empty, and that there are at least one and at most 4,294,967,296 of them. If there are as many buckets
+    /// as objects, a search compares one or two objects on average. The call costs O(log n) for n buckets, and takes no memory.
     pub fn new(buckets: B) -> HashIndex<T, B>
         requires some { 1 ≤ length (B.fronts buckets) }
         requires few { length (B.fronts buckets) ≤ 4294967296 }
@@ -59,8 +60,8 @@ impl<T: HasKey, B: BucketRow> HashIndex<T, B> {
 }
 
 impl<T: HasKey, B: BucketRow, W: NextWord, O: PrevPlace> HashIndex<T, B, W, O> {
-    /// Makes an index over these buckets, for links with words of this type: `NarrowHashIndex::with_words(buckets)`. Everything else is as for `new`.
-    /// O(1).
+    /// Makes an index over the given buckets, for links with words of the types `W` and `O`, for example by `NarrowHashIndex::with_words(buckets)`.
+    /// Everything else is as for `new`. O(log n) for n buckets.
     pub fn with_words(buckets: B) -> HashIndex<T, B, W, O>
         requires some { 1 ≤ length (B.fronts buckets) }
         requires few { length (B.fronts buckets) ≤ 4294967296 }

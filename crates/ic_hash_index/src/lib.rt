@@ -1,4 +1,4 @@
-//! The hash table as an index: objects that a container finds by their keys, in constant time on average.
+//! A hash table as the index of a container. The container finds objects by their keys, in constant time on average.
 //!
 //! ```text
 //! let buckets = empty_buckets(rt.alloc(), 1024)?; // as many as there will be objects

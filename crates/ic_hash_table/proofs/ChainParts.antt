@@ -1,4 +1,4 @@
--- A chain that is parted in two, one member after the other.
+-- These lemmas are about a chain that is split in two, one member after the other.
 use Rattle.std.proofs.Common.{◌≡◌, ◌≢◌, inl, inr, Bool, true, false, Option, Some, None, List, [], ◌∷◌, ◌++◌, drop, length, refl, sym, ap, ◌∙◌, subst, arith, append_assoc, append-nil}
 use Rattle.std.specs.List.{AllByRecursion}
 use Rattle.std.specs.Cmp.{IsPartialEquivalence}
@@ -15,7 +15,7 @@ use Rattle.ic_hash_table.proofs.SideBySideSequences.{spans}
 use Rattle.ic_hash_table.specs.Chains.{RepresentsFrom}
 use Rattle.ic_link_ops.proofs.RepresentedLists.{represents_beside}
 
--- what holds of each member holds of one, and of all that are among them
+-- if a property holds for each member of s, it holds for the member q. It also holds for each sequence whose members are all in s
 pub of_member : (P : Place → Type 0) (s : List Place) (q : Place) → AllByRecursion P s → IsMember q s → P q
 of_member P s q all member =
     let m = member_split q s member in
@@ -26,7 +26,7 @@ of_members P s [] within all = tt
 of_members P s (x ∷ u) within all = (of_member P s x all (λ out. (within x out).0 refl), of_members P s u (λ q out. (within q out).1) all)
 
 module _ {E : Type 0} {successor : E → Successor} where
-  -- BEHIND A MEMBER a chain is represented from what stands there
+  -- AFTER A MEMBER the rest of a chain is represented from the place that the member's entry names as the next
   pub represents_after : {t : Table E} {front next : Option Place} (c1 c2 : List Place) (p : Place) → RepresentsFrom successor t front (c1 ++ p ∷ c2) → next ≡ (successor (t.entry p)).next
       → RepresentsFrom successor t next c2
   represents_after {t} c1 c2 p shown is =
@@ -41,7 +41,7 @@ module _ {E : Type 0} {successor : E → Successor} where
   nothing_represented t = record { distinct = tt; chain = tt; head = refl; tail = refl }
 
   module _ {is : Place → Bool} where
-    -- at first all are left
+    -- at first the whole chain is left to be split, and no member stays or moves yet
     pub part_none : {t : Table E} {front : Option Place} {chain : List Place} → RepresentsFrom successor t front chain → IsParted successor is t chain front None None
     part_none {t} {front} {chain} shown = record {
       left = chain;
@@ -63,7 +63,7 @@ module _ {E : Type 0} {successor : E → Successor} where
     }
 
     module _ {old : Table E} {chain : List Place} {stays moves : Option Place} {p : Place} (k : IsParted successor is old chain (Some p) stays moves) where
-      -- the first that is left
+      -- p is the first of the members that are left to be split
       pub left_is : k.left ≡ p ∷ drop 1 k.left
       left_is = first_is k.left k.represents_left.head
 
@@ -82,14 +82,15 @@ module _ {E : Type 0} {successor : E → Successor} where
       pub left_linked : (successor (old.entry p)).linked ≡ true
       left_linked = left_represented.chain.0.linked
 
-      -- it has passed
+      -- after one step the member p is the last of the members that the split has passed
       cut_after : chain ≡ (k.passed ++ p ∷ []) ++ drop 1 k.left
       cut_after = k.cut ∙ ap (λ l. k.passed ++ l) left_is ∙ sym (append_assoc k.passed (p ∷ []) (drop 1 k.left))
 
       passed_absent : (q : Place) → IsAbsent q (k.passed ++ p ∷ []) → (q ≢ p) × IsAbsent q (k.staying ++ k.moving)
       passed_absent q out = ((absent_right q k.passed (p ∷ []) out).0, k.among q (absent_left q k.passed (p ∷ []) out))
 
-      -- it is put before those among the passed that go where it goes, and before no others
+      -- if p becomes the first member of a new chain, alike members are side by side in this chain (`turned_on`). If p goes to the other chain, they still
+      -- are (`turned_past`)
       module _ {alike : Place → Place → Bool} (laws : IsPartialEquivalence alike) (side : AreSideBySide alike chain) where
         turned_on : {out : List Place} → AreTurned alike k.left out → ((q : Place) → IsAbsent q k.passed → IsAbsent q out) → AreTurned alike (drop 1 k.left) (p ∷ out)
         turned_on {out} t among = record {
@@ -107,12 +108,12 @@ module _ {E : Type 0} {successor : E → Successor} where
         turned_past : {out : List Place} → AreTurned alike k.left out → AreTurned alike (drop 1 k.left) out
         turned_past t = record { side = t.side; next = λ x y mine. t.next x y (λ o. mine (subst (IsAbsent x) left_is o).1) }
 
-      -- it is a member of the chain
+      -- p is a member of the chain
       pub left_member : IsMember p chain
       left_member out = (left_within p out).0 refl
 
       module _ {new : Table E} {next : Option Place} (others : (q : Place) → q ≢ p → new.entry q ≡ old.entry q) (is_next : next ≡ (successor (old.entry p)).next) where
-        -- it stays
+        -- the next member p stays, so it is added at the front of the chain of members that stay
         pub part_stays : {stays' : Option Place} → is p ≡ false → ((s : List Place) → RepresentsFrom successor old stays s → IsAbsent p s → RepresentsFrom successor new stays' (p ∷ s))
             → IsParted successor is new chain next stays' moves
         part_stays fails put =
@@ -140,7 +141,7 @@ module _ {E : Type 0} {successor : E → Successor} where
                   (turned_on laws side b.0 (λ q absent. absent_left q k.staying k.moving (k.among q absent)), turned_past laws side b.1);
             }
 
-        -- it moves
+        -- the next member p moves, so it is added at the front of the chain of members that move
         pub part_moves : {moves' : Option Place} → is p ≡ true → ((s : List Place) → RepresentsFrom successor old moves s → IsAbsent p s → RepresentsFrom successor new moves' (p ∷ s))
             → IsParted successor is new chain next stays moves'
         part_moves passes put =
@@ -172,7 +173,7 @@ module _ {E : Type 0} {successor : E → Successor} where
                   (turned_past laws side b.0, turned_on laws side b.1 (λ q absent. absent_right q k.staying k.moving (k.among q absent)));
             }
 
-        -- whichever it does
+        -- the next member p stays or moves, and in both cases one member more is split off
         pub part_either : {stays' moves' : Option Place} (b : Bool) → is p ≡ b
             → (b ≡ false → (moves' ≡ moves) × ((s : List Place) → RepresentsFrom successor old stays s → IsAbsent p s → RepresentsFrom successor new stays' (p ∷ s)))
             → (b ≡ true → (stays' ≡ stays) × ((s : List Place) → RepresentsFrom successor old moves s → IsAbsent p s → RepresentsFrom successor new moves' (p ∷ s)))

@@ -1,4 +1,4 @@
--- The chains of a hash table: kept, told apart, and one of them seen between the others.
+-- These lemmas are about the chains of a hash table: they stay, they differ, and one chain is between the others.
 use Rattle.std.proofs.Common.{◌≡◌, ◌≢◌, ℕ, zero, suc, ◌+◌, ◌<◌, Bool, false, Option, None, List, [], ◌∷◌, ◌++◌, drop, length, slice_index_or, slice_set, refl, sym, ap, ◌∙◌, subst, arith, append_assoc}
 use Rattle.std.specs.List.{AllByRecursion}
 use Rattle.ic_link_ops.specs.Prelude.{Place, IsAbsent, IsDisjoint, Table}
@@ -10,15 +10,15 @@ use Rattle.ic_link_ops.proofs.SinglyLists.{followed_linked, followed_one}
 use Rattle.ic_hash_table.specs.Chains.{AreChained, RepresentsFrom}
 
 module _ {E : Type 0} {successor : E → Successor} {t : Table E} where
-  -- A CHAIN HAS ONE SEQUENCE, not two
+  -- A CHAIN HAS ONE SEQUENCE: if it represents s and u, both are equal
   pub chain_one : {front : Option Place} {s u : List Place} → RepresentsFrom successor t front s → RepresentsFrom successor t front u → s ≡ u
   chain_one shown other = represents_one (followed_one {s = successor}) shown other
 
-  -- what is represented for a list is represented for the chain from its first member on
+  -- if a table represents a sequence for a list, it represents the sequence for the chain that begins with the list's first member
   pub chain_of_list : {list : Front} {s : List Place} → Represents successor t list s → RepresentsFrom successor t list.head s
   chain_of_list shown = record { distinct = shown.distinct; chain = shown.chain; head = shown.head; tail = refl }
 
--- the parts of what shares no member with t share none with it either
+-- if a sequence shares no member with t, no part of this sequence shares a member with t
 pub disjoint_ahead : (s r t : List Place) → IsDisjoint (s ++ r) t → IsDisjoint s t
 disjoint_ahead [] r t d = tt
 disjoint_ahead (x ∷ s) r t d = (d.0, disjoint_ahead s r t d.1)
@@ -28,7 +28,7 @@ disjoint_after [] r t d = d
 disjoint_after (x ∷ s) r t d = disjoint_after s r t d.1
 
 module _ {E : Type 0} (successor : E → Successor) (Belongs : ℕ → Place → Type 0) where
-  -- CHAINS STAY where nothing but entries of places is changed that are no members
+  -- CHAINS STAY as they are, if only entries of places are changed that are no members of a chain
   pub chains_frame : (old new : Table E) (touched : List Place) (i : ℕ) (fronts : List (Option Place)) (s : List Place) → AreChained successor Belongs old i fronts s
       → IsDisjoint s touched → ((q : Place) → IsAbsent q touched → new.entry q ≡ old.entry q) → AreChained successor Belongs new i fronts s
   chains_frame old new touched i [] s h apart same = h
@@ -42,7 +42,7 @@ module _ {E : Type 0} (successor : E → Successor) (Belongs : ℕ → Place →
         chains_frame old new touched (suc i) fs rest more (disjoint_after chain rest touched d) same,
       )
 
-  -- what is not linked is a member of none
+  -- a place that is not linked is no member of any chain
   pub chains_free : {linked : E → Bool} → ((e : E) → (successor e).linked ≡ linked e) → (t : Table E) (i : ℕ) (fronts : List (Option Place)) (s : List Place) (p : Place)
       → AreChained successor Belongs t i fronts s → linked (t.entry p) ≡ false → IsAbsent p s
   chains_free alike t i [] s p h off = subst (IsAbsent p) (sym h) tt
@@ -50,7 +50,7 @@ module _ {E : Type 0} (successor : E → Successor) (Belongs : ℕ → Place →
       subst (IsAbsent p) (sym is)
       (absent_both p chain rest (free_absent (followed_linked alike) shown off) (chains_free alike t (suc i) fs rest p more off))
 
-  -- one sequence, not two
+  -- all chains together have one sequence of members: if they have s and u, both are equal
   pub chains_one : (t : Table E) (i : ℕ) (fronts : List (Option Place)) (s u : List Place) → AreChained successor Belongs t i fronts s → AreChained successor Belongs t i fronts u → s ≡ u
   chains_one t i [] s u h k = h ∙ sym k
   chains_one t i (f ∷ fs) s u (chain, rest, is, shown, own, more) (chain', rest', is', shown', own', more') =
@@ -61,18 +61,18 @@ module _ {E : Type 0} (successor : E → Successor) (Belongs : ℕ → Place →
   chains_nothing t i [] none = refl
   chains_nothing t i (f ∷ fs) none = ([], [], refl, record { distinct = tt; chain = tt; head = none.0; tail = refl }, tt, chains_nothing t (suc i) fs none.1)
 
--- MEMBERS THAT BELONG by one measure do by a weaker one
+-- IF EACH MEMBER BELONGS in its chain by one rule, it belongs there by each weaker rule
 pub chains_weakened : {E : Type 0} (successor : E → Successor) (Belongs Weaker : ℕ → Place → Type 0) → ((i : ℕ) (p : Place) → Belongs i p → Weaker i p)
     → (t : Table E) (i : ℕ) (fronts : List (Option Place)) (s : List Place) → AreChained successor Belongs t i fronts s → AreChained successor Weaker t i fronts s
 chains_weakened successor Belongs Weaker weaken t i [] s h = h
 chains_weakened successor Belongs Weaker weaken t i (f ∷ fs) s (chain, rest, is, shown, own, more) =
     (chain, rest, is, shown, all_map (weaken i) chain own, chains_weakened successor Belongs Weaker weaken t (suc i) fs rest more)
 
--- a place that belongs in another chain than n
+-- the place p belongs in a chain with another number than n
 abbrev pub Elsewhere : (ℕ → Place → Type 0) → ℕ → Place → Type 0
 Elsewhere Belongs n p = (j : ℕ) × (j ≢ n) × Belongs j p
 
--- one that belongs in a chain before n, and one in a chain after it
+-- `Below`: the place p belongs in a chain with a number less than n. `Above`: p belongs in a chain with a number greater than n
 abbrev pub Below : (ℕ → Place → Type 0) → ℕ → Place → Type 0
 Below Belongs n p = (j : ℕ) × (j < n) × Belongs j p
 
@@ -80,7 +80,8 @@ abbrev pub Above : (ℕ → Place → Type 0) → ℕ → Place → Type 0
 Above Belongs n p = (j : ℕ) × (n < j) × Belongs j p
 
 module _ {E : Type 0} (successor : E → Successor) (Belongs : ℕ → Place → Type 0) where
-  -- ONE CHAIN, number n, seen between the others, of which none is number n. What is represented with another front in its place
+  -- ONE CHAIN, with the number n, is between the chains before it and the chains after it. The chain can get another first member, and then all chains
+  -- have the members of the new chain between those of the others
   pub record Between (t : Table E) (i k n : ℕ) (fronts : List (Option Place)) (s : List Place) : Type 1 where
     pub ahead : List Place
     pub chain : List Place
@@ -96,13 +97,13 @@ module _ {E : Type 0} (successor : E → Successor) (Belongs : ℕ → Place →
         → RepresentsFrom successor new front instead → AllByRecursion (Other n) instead
         → IsDisjoint ahead touched → IsDisjoint after touched → ((q : Place) → IsAbsent q touched → new.entry q ≡ t.entry q)
         → AreChained successor Other new i (slice_set fronts k front) (ahead ++ (instead ++ after))
-    -- the members after it are those of the chains after
+    -- the members after the chain are the members of all chains with a greater number
     pub more : AreChained successor Belongs t (suc n) (drop (suc k) fronts) after
-    -- where the chains before are empty, nothing is ahead
+    -- if all chains before the chain are empty, there is no member before the chain
     pub none_ahead : ((j : ℕ) → j < k → slice_index_or fronts j None ≡ None) → ahead ≡ []
 
 module _ {E : Type 0} (successor : E → Successor) (Belongs : ℕ → Place → Type 0) where
-  -- members of the chains after belong elsewhere
+  -- the members of the chains after chain n belong in other chains than n
   after_elsewhere : (t : Table E) (n i : ℕ) (fronts : List (Option Place)) (s : List Place) → AreChained successor Belongs t i fronts s → n < i → AllByRecursion (Elsewhere Belongs n) s
   after_elsewhere t n i [] s h less = subst (AllByRecursion (Elsewhere Belongs n)) (sym h) tt
   after_elsewhere t n i (f ∷ fs) s (chain, rest, is, shown, own, more) less =
@@ -115,7 +116,7 @@ module _ {E : Type 0} (successor : E → Successor) (Belongs : ℕ → Place →
       subst (AllByRecursion (Above Belongs n)) (sym is)
       (all_both (Above Belongs n) chain rest (all_map (λ p b. (i, less, b)) chain own) (after_beyond t n (suc i) fs rest more (omega (arith, less))))
 
-  -- and by another measure, which agrees on them
+  -- if two rules agree on the chains after chain n, the members of these chains also belong there by the other rule
   chains_above : (t : Table E) (n : ℕ) (Other : ℕ → Place → Type 0) → ((j : ℕ) (p : Place) → j ≢ n → Belongs j p → Other j p)
       → (i : ℕ) (fronts : List (Option Place)) (s : List Place) → n < i → AreChained successor Belongs t i fronts s → AreChained successor Other t i fronts s
   chains_above t n Other other i [] s less h = h

@@ -1,4 +1,4 @@
--- A hash table whose chains are emptied one after the other.
+-- These lemmas are about a hash table whose chains are emptied one after the other.
 use Rattle.std.proofs.Common.{◌≡◌, ℕ, ◌+◌, ◌<◌, Option, None, List, [], ◌∷◌, ◌++◌, length, slice_index_or, slice_set, refl, sym, ap, ◌∙◌, subst, arith, append_assoc, append-nil, inl, inr, suc}
 use Rattle.std.specs.Bool.{⊤}
 use Rattle.std.specs.List.{AllByRecursion}
@@ -12,7 +12,7 @@ use Rattle.ic_hash_table.specs.Chains.{AreChained}
 use Rattle.ic_hash_table.proofs.Chains.{Between, chain_at, chains_one, chains_nothing}
 
 module _ {L E : Type 0} (successor : E → Successor) (table : L → Table E) (Trace : L → L → List LinkStep → Type 0) where
-  -- the chains below `at` are empty; of the members s some are unlinked, in their order, and the others are chained still
+  -- the chains with numbers below `at` are empty. The first members of s were unlinked, in their order, and the rest of s is in the other chains
   pub record Empties (old new : L) (at : ℕ) (fronts : List (Option Place)) (s : List Place) : Type 0 where
     pub done : List Place
     pub rest : List Place
@@ -21,7 +21,7 @@ module _ {L E : Type 0} (successor : E → Successor) (table : L → Table E) (T
     pub steps : Trace old new (releases_each done)
     pub frame : ChangesOnlyIn (table old) (table new) s
 
-  -- at first none is unlinked
+  -- at first no member is unlinked
   pub empties_none : (does_nothing : (t : L) → Trace t t []) (t : L) (fronts : List (Option Place)) (s : List Place) → AreChained successor (λ i p. ⊤) (table t) 0 fronts s → Empties t t 0 fronts s
   empties_none does_nothing t fronts s chained = record {
     done = [];
@@ -33,11 +33,11 @@ module _ {L E : Type 0} (successor : E → Successor) (table : L → Table E) (T
   }
 
   module _ {old mid : L} {at : ℕ} {fronts : List (Option Place)} {s : List Place} (within : at < length fronts) (k : Empties old mid at fronts s) where
-    -- the chain that is next
+    -- chain `at` is the next chain to be emptied
     pub next_chain : Between successor (λ i p. ⊤) (table mid) 0 at at fronts k.rest
     next_chain = chain_at successor (λ i p. ⊤) (table mid) 0 at at fronts k.rest (omega arith) within k.chained
 
-    -- ONE CHAIN MORE is emptied
+    -- ONE CHAIN MORE is emptied, and its members are unlinked
     pub empties_more : (does_on : (a b c : L) (r u : List LinkStep) → Trace a b r → Trace b c u → Trace a c (r ++ u)) (new : L) (none : (j : ℕ) → j < at → slice_index_or fronts j None ≡ None) → IsDistinct s
         → Trace mid new (releases_each next_chain.chain) → ChangesOnlyIn (table mid) (table new) next_chain.chain → Empties old new (at + 1) (slice_set fronts at None) s
     empties_more does_on new none distinct steps frame =
@@ -57,7 +57,7 @@ module _ {L E : Type 0} (successor : E → Successor) (table : L → Table E) (T
           };
         }
 
--- the chains below are empty then
+-- if chain `at` is emptied after all chains before it, all chains up to `at` are empty
 pub none_below : (at : ℕ) (fronts : List (Option Place)) → at < length fronts → ((j : ℕ) → j < at → slice_index_or fronts j None ≡ None)
     → (j : ℕ) → j < at + 1 → slice_index_or (slice_set fronts at None) j None ≡ None
 none_below at fronts within none j less = elim (eq-or-lt_of_le {n = j} {m = at} (omega (arith, less))) [
@@ -65,12 +65,12 @@ none_below at fronts within none j less = elim (eq-or-lt_of_le {n = j} {m = at} 
   | inr l ↦ get_or-set_other fronts at j None None (λ e. absurd (omega (arith, l, e))) ∙ none j l
 ]
 
--- where all are empty, each is, and no member is left
+-- if each chain is empty by its number, all first members of the row are none
 pub all_none : (fronts : List (Option Place)) → ((j : ℕ) → j < length fronts → slice_index_or fronts j None ≡ None) → AllByRecursion (λ front. front ≡ None) fronts
 all_none [] none = tt
 all_none (f ∷ fs) none = (none 0 (omega arith), all_none fs (λ j less. none (suc j) (omega (arith, less))))
 
--- and all are done
+-- if all chains are empty, every member of s was unlinked
 module _ {L E : Type 0} {successor : E → Successor} {table : L → Table E} {Trace : L → L → List LinkStep → Type 0} {old new : L} {at : ℕ} {fronts : List (Option Place)} {s : List Place} where
   pub all_done : (k : Empties successor table Trace old new at fronts s) → AllByRecursion (λ front. front ≡ None) fronts → Trace old new (releases_each s)
   all_done k none =

@@ -1,4 +1,4 @@
--- A hash table of which one chain was parted in two.
+-- These lemmas are about a hash table after one of its chains was split in two.
 use Rattle.std.proofs.Common.{◌≡◌, ◌≢◌, ℕ, ◌<◌, Bool, true, false, eqb-true, eq-eqb, true≢false, Option, Some, None, IsSome, List, [], ◌∷◌, ◌++◌, length, length-append, slice_index_or, slice_set, refl, sym, ap, ◌∙◌, subst, arith}
 use Rattle.std.specs.List.{AllByRecursion}
 use Rattle.std.specs.Cmp.{IsPartialEquivalence}
@@ -21,31 +21,31 @@ use Rattle.ic_hash_table.proofs.SideBySideSequences.{front_beside, back_beside}
 use Rattle.ic_hash_table.proofs.SideBySideChains.{BelongTogether, middle_beside}
 use Rattle.ic_hash_table.proofs.SlotLemmas.{slot_used}
 
--- a test of the object at a place, where one stands
+-- if the object v is at the place p, a test of the place p is a test of v
 tested : {V : Type 0} (equal : V → Bool) (objects : Objects V) (p : Place) (v : V) → object_at objects p ≡ Some v → (b : Bool) → matches equal objects p ≡ b → equal v ≡ b
 tested equal objects p v there b is = sym (ap (λ o. passes equal o) there) ∙ is
 
--- without a part, what is distinct is so
+-- if a sequence has no place twice, it has no place twice after a part in its middle is removed
 pub without_middle : (a m b : List Place) → IsDistinct (a ++ (m ++ b)) → IsDistinct (a ++ b)
 without_middle a [] b d = d
 without_middle a (x ∷ m) b d = without_middle a m b (distinct_remove a (m ++ b) x d)
 
--- no member of the middle stands beside it
+-- if a sequence has no place twice, no place in its middle part is before or after this part
 pub middle_apart : (a m b : List Place) → IsDistinct (a ++ (m ++ b)) → IsDisjoint m (a ++ b)
 middle_apart a m b d =
     disjoint_sym (a ++ b) m (disjoint_both a b m (disjoint_left a m b (distinct_disjoint a (m ++ b) d)) (disjoint_sym m b (distinct_disjoint m b (distinct_right a (m ++ b) d))))
 
--- another middle of members of the old one
+-- the middle part of a sequence can be replaced by a part with only places of the old one, and no place is twice in the sequence
 within_middle : (a m b u : List Place) → IsDistinct (a ++ (m ++ b)) → IsDistinct u → ((q : Place) → IsAbsent q m → IsAbsent q u) → IsDistinct (a ++ (u ++ b))
 within_middle a m b u d e within =
     distinct_splice a u b (without_middle a m b d) e (disjoint_sym (a ++ b) u (absent_swap (a ++ b) m (disjoint_sym m (a ++ b) (middle_apart a m b d)) u within))
 
 module _ {V : Type 0} (old new : Slots) (hash : V → ℕ) (objects : Objects V) (split : IsSplit old new) where
-  -- what belongs in another chain than that which is parted belongs there still
+  -- an object that belongs in another chain than the one that is split belongs there after the split
   others_belong : (j : ℕ) (p : Place) → j ≢ split_of new old.used → BelongsIn old hash objects j p → BelongsIn new hash objects j p
   others_belong j p other belongs v there = split.others (hash v) (λ e. other (sym (belongs v there) ∙ split.from (hash v) e)) ∙ belongs v there
 
-  -- what belonged in that one stays there or moves
+  -- an object that belongs in the chain that is split stays in this chain or moves to the new chain
   stays_belong : (p : Place) → matches (belongs_at new hash old.used) objects p ≡ false → BelongsIn old hash objects (split_of new old.used) p → BelongsIn new hash objects (split_of new old.used) p
   stays_belong p is belongs v there =
       let t = tested (belongs_at new hash old.used) objects p v there false is in
@@ -54,13 +54,13 @@ module _ {V : Type 0} (old new : Slots) (hash : V → ℕ) (objects : Objects V)
   moves_belong : (p : Place) → matches (belongs_at new hash old.used) objects p ≡ true → BelongsIn new hash objects old.used p
   moves_belong p is v there = eqb-true (slot_of new (hash v)) old.used (tested (belongs_at new hash old.used) objects p v there true is)
 
--- two facts of each
+-- if two properties of a place imply a third one, and all places of s have both, all have the third
 all_two : {P Q R : Place → Type 0} → ((p : Place) → P p → Q p → R p) → (s : List Place) → AllByRecursion P s → AllByRecursion Q s → AllByRecursion R s
 all_two f [] h k = tt
 all_two f (x ∷ s) h k = (f x h.0 k.0, all_two f s h.1 k.1)
 
 module _ {E A B V : Type 0} (successor : E → Successor) (hash : A → V → ℕ) (fronts : B → List (Option Place)) where
-  -- what a chain beyond those in use has
+  -- the first chain that is not in use is empty
   beyond : {t : Table E} {table : HashTable A B} {objects : Objects V} {s : List Place} → Holds successor hash fronts t table objects s → table.slots.used < length (fronts table.buckets)
       → slice_index_or (fronts table.buckets) table.slots.used None ≡ None
   beyond {t} {table} {objects} {s} held room =
@@ -77,10 +77,10 @@ module _ {E A B V : Type 0} (successor : E → Successor) (hash : A → V → �
       nobody [] placed own = refl
       nobody (x ∷ chain) placed own = absurd (never x (object_at objects x) refl placed.0 own.0)
 
-  -- ONE CHAIN MORE
+  -- ONE CHAIN MORE is in use after the slots have grown from `table.slots` to `slots`
   module _ {old : Table E} {table : HashTable A B} {objects : Objects V} (slots : Slots) (split : IsSplit table.slots slots)
       (room : table.slots.used < length (fronts table.buckets)) {s : List Place} (held : Holds successor hash fronts old table objects s) where
-    -- the chain that is parted
+    -- the chain that is split is between the chains before it and the chains after it
     pub parted_chain : Between successor (BelongsIn table.slots (hash table.adapter) objects) old 0 (split_of slots table.slots.used) (split_of slots table.slots.used) (fronts table.buckets) s
     parted_chain = chain_at successor (BelongsIn table.slots (hash table.adapter) objects) old 0 (split_of slots table.slots.used) (split_of slots table.slots.used) (fronts table.buckets) s (omega arith) (omega (arith, split.apart, room)) held.chained
 
@@ -102,7 +102,7 @@ module _ {E A B V : Type 0} (successor : E → Successor) (hash : A → V → �
       whole : IsDistinct (parted_chain.ahead ++ (parted_chain.chain ++ parted_chain.after))
       whole = subst IsDistinct parted_chain.parts held.distinct
 
-      -- with those alone that stay
+      -- after the split, the chain that was split has only the members that stay
       chained_stays : AreChained successor (BelongsIn slots (hash table.adapter) objects) new 0 (slice_set (fronts table.buckets) (split_of slots table.slots.used) stays) (parted_chain.ahead ++ (part.staying ++ parted_chain.after))
       chained_stays =
           let c = parted_chain in
@@ -165,7 +165,7 @@ module _ {E A B V : Type 0} (successor : E → Successor) (hash : A → V → �
           let chain = all_parts q (absent_both q part.staying part.moving (absent_left q part.staying c.after rest) (absent_left q part.moving new_chain.after tail)) in
           subst (IsAbsent q) (sym c.parts) (absent_both q c.ahead (c.chain ++ c.after) (absent_left q c.ahead (part.staying ++ c.after) stay) (absent_both q c.chain c.after chain (absent_right q part.staying c.after rest)))
 
-      -- the members then: those that move stand where their chain does
+      -- the members after the split: those that move are in the position of the new chain
       abbrev grown : List Place
       grown = new_chain.ahead ++ (part.moving ++ new_chain.after)
 
@@ -194,11 +194,11 @@ module _ {E A B V : Type 0} (successor : E → Successor) (hash : A → V → �
             enough = omega (arith, split.used, room, ap length second_set, length-set (fronts middle) table.slots.used moves, ap length first_set, length-set (fronts table.buckets) (split_of slots table.slots.used) stays);
           }
 
-      -- IT HOLDS THE SAME MEMBERS
+      -- THE GROWN TABLE HOLDS the members that the table held before
       pub held_grown : HoldsSameMembers successor hash fronts new (record { adapter = table.adapter; buckets = buckets; slots = slots; len = table.len }) objects s
       held_grown = record { members = grown; holds = grown_holds; within = within_again; all = all_again }
 
-      -- AND THOSE WITH EQUAL KEYS STAND SIDE BY SIDE STILL, in each chain
+      -- IF MEMBERS WITH EQUAL KEYS were side by side before the table grew, they are side by side afterwards
       pub beside_grown : {alike : Place → Place → Bool} → IsPartialEquivalence alike → BelongTogether (BelongsIn table.slots (hash table.adapter) objects) alike
           → BelongTogether (BelongsIn slots (hash table.adapter) objects) alike → AreSideBySide alike s
           → (u : List Place) × Holds successor hash fronts new (record { adapter = table.adapter; buckets = buckets; slots = slots; len = table.len }) objects u × AreSideBySide alike u

@@ -1,4 +1,4 @@
--- What is held after an edit of one chain.
+-- After an edit of one chain, these lemmas say which sequence the table holds.
 use Rattle.std.proofs.Common.{◌≡◌, ℕ, ◌+◌, ◌<◌, ◌≤◌, Bool, Option, Some, None, IsSome, IfSome, Result, Ok, Err, OnOk, List, [], ◌∷◌, ◌++◌, length, length-append, slice_index_or, slice_set, refl, sym, ap, ◌∙◌, subst, arith, append_assoc}
 use Rattle.std.specs.List.{AllByRecursion}
 use Rattle.std.proofs.lemmas.List.{length-set}
@@ -17,7 +17,7 @@ use Rattle.ic_hash_table.proofs.ChainParts.{of_member}
 use Rattle.ic_hash_table.proofs.Chains.{Between, Above, chain_one, chains_frame, chains_free, chains_one, chains_nothing}
 use Rattle.ic_hash_table.proofs.FoundMembers.{chain_of}
 
--- two cuts of distinct places at one of them are one
+-- if a sequence without equal places is cut at p in two ways, both cuts are equal
 pub one_cut : (a b c d : List Place) (p : Place) → IsDistinct (a ++ p ∷ b) → a ++ p ∷ b ≡ c ++ p ∷ d → (a ≡ c) × (b ≡ d)
 one_cut [] b [] d p distinct e = (refl, cc)
 one_cut [] b (y ∷ c) d p distinct e =
@@ -32,35 +32,35 @@ one_cut (x ∷ a) b (y ∷ c) d p distinct e =
     let k = one_cut a b c d p distinct.1 r in
     (rw h (ap (λ (l : List Place). y ∷ l) k.0), k.1)
 
--- the two sides of one part of distinct places
+-- if a sequence has no place twice, its middle part shares no place with the part before it, and none with the part after it
 pub middle_ahead : (a m b : List Place) → IsDistinct (a ++ (m ++ b)) → IsDisjoint a m
 middle_ahead a m b d = disjoint_left a m b (distinct_disjoint a (m ++ b) d)
 
 pub middle_after : (a m b : List Place) → IsDistinct (a ++ (m ++ b)) → IsDisjoint b m
 middle_after a m b d = disjoint_sym m b (distinct_disjoint m b (distinct_right a (m ++ b) d))
 
--- four parts in two pairs, or the two in the middle as one
+-- four sequences can be joined as two pairs, or with the two in the middle joined first
 regrouped : (a f y z : List Place) → (a ++ f) ++ (y ++ z) ≡ a ++ ((f ++ y) ++ z)
 regrouped a f y z = append_assoc a f (y ++ z) ∙ ap (λ (l : List Place). a ++ l) (sym (append_assoc f y z))
 
--- the first of the first part is that of both
+-- the first member of a sequence is also the first member after another sequence is appended
 first_ahead : (found : Option Place) (back after : List Place) → found ≡ first back → IfSome found (λ q. Some q ≡ first (back ++ after))
 first_ahead None back after here = tt
 first_ahead (Some q) [] after here = absurd (none_not q (sym here))
 first_ahead (Some q) (x ∷ back) after here = here
 
--- a place whose object belongs in one of the chains up to number k
+-- the object at the place p belongs in a chain with a number of at most k
 abbrev UpTo : {V : Type 0} → Slots → (V → ℕ) → Objects V → ℕ → Place → Type 0
 UpTo slots hash objects k p = (j : ℕ) × (j ≤ k) × BelongsIn slots hash objects j p
 
--- the table with other buckets and another count
+-- the hash table with other buckets and another number of members
 abbrev pub with_buckets : {A B : Type 0} → HashTable A B → B → ℕ → HashTable A B
 with_buckets table buckets len = record { adapter = table.adapter; buckets = buckets; slots = table.slots; len = len }
 
 module _ {E A B V : Type 0} (successor : E → Successor) (hash : A → V → ℕ) (fronts : B → List (Option Place)) where
   module _ {old new : Table E} {table : HashTable A B} {objects : Objects V} {k : ℕ} {front : Option Place} (p : Place) (buckets : B) (len : ℕ) (used : k < table.slots.used)
       (set : fronts buckets ≡ slice_set (fronts table.buckets) k front) where
-    -- ONE MORE, at a gap of chain k
+    -- ONE MEMBER MORE: if p is inserted at a gap of chain k, the table holds s with p inserted at this gap
     pub held_put : {s : List Place} → Holds successor hash fronts old table objects s → IsSome (object_at objects p) → ((v : V) → object_at objects p ≡ Some v → slot_of table.slots (hash table.adapter v) ≡ k)
         → IsAbsent p s → (gap : Cut) → RepresentsFrom successor old (slice_index_or (fronts table.buckets) k None) (join gap) → RepresentsFrom successor new front (insert gap p)
         → ChangesOnlyIn old new (p ∷ join gap) → len ≡ table.len + 1 → HoldsAt successor hash fronts new (with_buckets table buckets len) objects s gap p
@@ -102,7 +102,7 @@ module _ {E A B V : Type 0} (successor : E → Successor) (hash : A → V → �
               absurd (omega (arith, one.1, other.1, e));
         }
 
-    -- ONE LESS, wherever it stood in chain k
+    -- ONE MEMBER LESS: if p is removed from chain k, the table holds the sequence without p
     pub held_taken : (a b : List Place) → Holds successor hash fronts old table objects (a ++ p ∷ b)
         → (ahead back : List Place) → RepresentsFrom successor old (slice_index_or (fronts table.buckets) k None) (ahead ++ p ∷ back) → RepresentsFrom successor new front (ahead ++ back)
         → ChangesOnlyIn old new (ahead ++ p ∷ back) → table.len ≡ len + 1 → Holds successor hash fronts new (with_buckets table buckets len) objects (a ++ b)
@@ -127,31 +127,31 @@ module _ {E A B V : Type 0} (successor : E → Successor) (hash : A → V → �
           enough = omega (arith, held.enough, ap length set, length-set (fronts table.buckets) k front);
         }
 
--- THE FRAME over all members, of that over one chain
+-- THE FRAME: an edit that changes only entries of one chain's members changes only entries of the table's members
 module _ {E : Type 0} {successor : E → Successor} {Belongs : ℕ → Place → Type 0} {t : Table E} {k : ℕ} {fronts : List (Option Place)} {s : List Place} (c : Between successor Belongs t 0 k k fronts s) where
   pub absent_chain : (q : Place) → IsAbsent q s → IsAbsent q c.chain
   absent_chain q out = absent_left q c.chain c.after (absent_right q c.ahead (c.chain ++ c.after) (subst (IsAbsent q) c.parts out))
 
-  -- and a member of it is one of all
+  -- a member of chain k is a member of the table
   pub of_chain : (ahead back : List Place) (q : Place) → RepresentsFrom successor t (slice_index_or fronts k None) (ahead ++ q ∷ back) → IsMember q s
   of_chain ahead back q was out = split_member ahead q back (subst (IsAbsent q) (chain_one c.shown was) (absent_chain q out))
 
   pub frame_put : {new : Table E} {p : Place} → ChangesOnlyIn t new (p ∷ c.chain) → ChangesOnlyIn t new (p ∷ s)
   frame_put frame = record { extent = frame.extent; others = λ q out. frame.others q (out.0, absent_chain q out.1) }
 
-  -- where that chain is seen at a gap
+  -- an edit at a gap of chain k changes only entries of the inserted place and of the table's members
   pub frame_at : {new : Table E} {p : Place} (gap : Cut) → RepresentsFrom successor t (slice_index_or fronts k None) (join gap) → ChangesOnlyIn t new (p ∷ join gap) → ChangesOnlyIn t new (p ∷ s)
   frame_at {new} {p} gap was frame = frame_put (subst (λ l. ChangesOnlyIn t new (p ∷ l)) (sym (chain_one c.shown was)) frame)
 
   pub frame_taken : {new : Table E} {chain : List Place} → RepresentsFrom successor t (slice_index_or fronts k None) chain → ChangesOnlyIn t new chain → ChangesOnlyIn t new s
   frame_taken {chain = chain} was frame = record { extent = frame.extent; others = λ q out. frame.others q (subst (IsAbsent q) (chain_one c.shown was) (absent_chain q out)) }
 
--- put in at a gap of a chain, it is put in somewhere
+-- if p was inserted at a gap of one chain, p was inserted at some gap of the whole sequence
 pub held_with : {E A B V : Type 0} {successor : E → Successor} {hash : A → V → ℕ} {fronts : B → List (Option Place)} {t : Table E} {table : HashTable A B} {objects : Objects V} {s : List Place} {gap : Cut} {p : Place}
     → HoldsAt successor hash fronts t table objects s gap p → HoldsWith successor hash fronts t table objects s p
 held_with {gap = gap} h = (record { front = h.ahead ++ gap.front; back = gap.back ++ h.after }, sym h.parts, h.holds)
 
--- where a walk along its chain stopped, it is put in before the first member that passes
+-- if p was inserted where a walk along its chain stopped, p is directly before the first member that passes
 pub held_before : {E A B V : Type 0} {successor : E → Successor} {hash : A → V → ℕ} {fronts : B → List (Option Place)} {t : Table E} {table : HashTable A B} {objects : Objects V} {is : Place → Bool}
     {s chain : List Place} {p : Place} {before : Option Place} (found : Option Place) (stop : StopsAt is chain before found) → Finds is s found
     → HoldsAt successor hash fronts t table objects s stop.gap p → HoldsBefore successor hash fronts t table objects is s p
@@ -164,12 +164,12 @@ held_before found stop finds h = record {
   in_front = first_ahead found stop.gap.back h.after stop.here;
 }
 
--- what follows of an answer follows where it is one
+-- if P implies Q, and P holds if the result is accepted, Q holds if the result is accepted
 pub on_ok : {A X P Q : Type 0} (r : Result A X) → (P → Q) → OnOk r P → OnOk r Q
 on_ok (Ok a) follows holds = follows holds
 on_ok (Err e) follows holds = tt
 
--- where a chain has a member, one at least is counted
+-- if a chain has a member, the table counts at least one member
 pub some_counted : {E A B V : Type 0} {successor : E → Successor} {hash : A → V → ℕ} {fronts : B → List (Option Place)} {t : Table E} {table : HashTable A B} {objects : Objects V} {s : List Place}
     → (held : Holds successor hash fronts t table objects s) (k : ℕ) (used : k < table.slots.used) (ahead back : List Place) (p : Place)
     → RepresentsFrom successor t (slice_index_or (fronts table.buckets) k None) (ahead ++ p ∷ back) → 1 ≤ table.len
@@ -177,7 +177,7 @@ some_counted held k used ahead back p was =
     let c = chain_of held k used in
     omega (arith, held.counted, ap length c.parts, length-append c.ahead (c.chain ++ c.after), length-append c.chain c.after, ap length (chain_one c.shown was), length-append ahead (p ∷ back))
 
--- the five facts of hash tables, over objects that stay
+-- hash tables obey the five laws of a kind of collection, if their objects do not change
 pub hash_tables : {E A B V : Type 0} (successor : E → Successor) {linked : E → Bool} (hash : A → V → ℕ) (fronts : B → List (Option Place)) → ((e : E) → (successor e).linked ≡ linked e)
     → (objects : Objects V) (empty : HashTable A B) → IsNew fronts empty
     → IsKind (λ t table s. Holds successor hash fronts t table objects s) linked empty

@@ -1,4 +1,4 @@
--- From one member to the next, through all chains.
+-- These lemmas are about steps from one member to the next, through all chains.
 use Rattle.std.proofs.Common.{◌≡◌, ℕ, zero, suc, ◌/◌, ◌<◌, ◌≤◌, Option, Some, None, is_some, IsSome, Bool, true, false, true≢false, List, [], ◌∷◌, ◌++◌, drop, length, slice_index_or, refl, sym, ap, ◌∙◌, subst, arith, append_assoc}
 use Rattle.std.specs.Bool.{⊤}
 use Rattle.std.specs.List.{AllByRecursion}
@@ -22,12 +22,12 @@ use Rattle.ic_hash_table.proofs.FoundMembers.{chain_of, finds_among, none_elsewh
 use Rattle.ic_hash_table.proofs.HeldTables.{one_cut}
 
 module _ {E : Type 0} (successor : E → Successor) (t : Table E) where
-  -- the chain that is next, where there is one
+  -- if there is a chain `at`, the chains from number `at` on are this chain and the chains after it
   at_next : (at : ℕ) (fronts : List (Option Place)) (s : List Place) → at < length fronts → AreChained successor (λ i p. ⊤) t at (drop at fronts) s
       → AreChained successor (λ i p. ⊤) t at (slice_index_or fronts at None ∷ drop (suc at) fronts) s
   at_next at fronts s within chained = subst (λ l. AreChained successor (λ i p. ⊤) t at l s) (drop-cons fronts at None within) chained
 
-  -- PAST AN EMPTY CHAIN all members are left
+  -- AFTER AN EMPTY CHAIN the chains that follow have all members that are left
   pub past_empty : (at : ℕ) (fronts : List (Option Place)) (s : List Place) → at < length fronts → slice_index_or fronts at None ≡ None → AreChained successor (λ i p. ⊤) t at (drop at fronts) s
       → AreChained successor (λ i p. ⊤) t (suc at) (drop (suc at) fronts) s
   past_empty at fronts s within none chained = by (at_next at fronts s within chained) where
@@ -35,7 +35,7 @@ module _ {E : Type 0} (successor : E → Successor) (t : Table E) where
     by (chain, rest, is, shown, own, more) =
         subst (AreChained successor (λ i p. ⊤) t (suc at) (drop (suc at) fronts)) (sym (is ∙ ap (λ c. c ++ rest) (nothing_first chain (sym none ∙ shown.head)))) more
 
-  -- the first of a chain that has one is the first of all
+  -- if chain `at` has a first member, this is the first member of all chains from `at` on
   pub at_first : (at : ℕ) (fronts : List (Option Place)) (s : List Place) → at < length fronts → is_some (slice_index_or fronts at None) ≡ true → AreChained successor (λ i p. ⊤) t at (drop at fronts) s
       → slice_index_or fronts at None ≡ first s
   at_first at fronts s within some chained = by (at_next at fronts s within chained) where
@@ -46,7 +46,7 @@ module _ {E : Type 0} (successor : E → Successor) (t : Table E) where
     by : AreChained successor (λ i p. ⊤) t at (slice_index_or fronts at None ∷ drop (suc at) fronts) s → slice_index_or fronts at None ≡ first s
     by (chain, rest, is, shown, own, more) = first_ahead chain rest (slice_index_or fronts at None) shown.head some ∙ ap first (sym is)
 
-  -- beyond the last chain nothing is left
+  -- after the last chain no member is left
   pub at_end : (at : ℕ) (fronts : List (Option Place)) (s : List Place) → length fronts ≤ at → AreChained successor (λ i p. ⊤) t at (drop at fronts) s → None ≡ first s
   at_end at fronts s over chained = sym (ap first (nothing_left (subst (λ l. AreChained successor (λ i p. ⊤) t at l s) (drop_all fronts at over) chained))) where
     drop_all : (l : List (Option Place)) (n : ℕ) → length l ≤ n → drop n l ≡ []
@@ -58,16 +58,16 @@ module _ {E : Type 0} (successor : E → Successor) (t : Table E) where
     nothing_left : AreChained successor (λ i p. ⊤) t at [] s → s ≡ []
     nothing_left h = h
 
--- all members, as the chains from the first on
+-- the members that a table holds are the members of all its chains, from chain 0 on
 pub all_chained : {E A B V : Type 0} {successor : E → Successor} {hash : A → V → ℕ} {fronts : B → List (Option Place)} {t : Table E} {table : HashTable A B} {objects : Objects V} {s : List Place}
     → Holds successor hash fronts t table objects s → AreChained successor (λ i p. ⊤) t 0 (drop 0 (fronts table.buckets)) s
 all_chained {successor = successor} {hash = hash} {fronts = fronts} {t = t} {table = table} {objects = objects} {s = s} held =
     chains_weakened successor (BelongsIn table.slots (hash table.adapter) objects) (λ i p. ⊤) (λ i p b. tt) t 0 (fronts table.buckets) s held.chained
 
--- where a place belongs, there it stands
+-- each member of the table is a member of the chain where it belongs
 module _ {E A B V : Type 0} {successor : E → Successor} {hash : A → V → ℕ} {fronts : B → List (Option Place)} {t : Table E} {table : HashTable A B} {objects : Objects V} {s : List Place}
     (held : Holds successor hash fronts t table objects s) (k : ℕ) (used : k < table.slots.used) where
-  -- the members after one chain, as the chains from there on
+  -- the members after chain k are the members of the chains from number k + 1 on
   pub after_chained : AreChained successor (λ i p. ⊤) t (suc k) (drop (suc k) (fronts table.buckets)) (chain_of held k used).after
   after_chained =
       chains_weakened successor (BelongsIn table.slots (hash table.adapter) objects) (λ i p. ⊤) (λ i p b. tt) t (suc k) (drop (suc k) (fronts table.buckets)) (chain_of held k used).after (chain_of held k used).more
@@ -81,7 +81,7 @@ module _ {E A B V : Type 0} {successor : E → Successor} {hash : A → V → �
         let c = chain_of held k used in
         member (subst (IsAbsent place) (sym c.parts) (absent_both place c.ahead (c.chain ++ c.after) (none_aside c.ahead c.ahead_others) (absent_both place c.chain c.after out (none_aside c.after c.after_others))))
 
-    -- the members after it: those of its chain, and those of the chains after
+    -- the members after a place are those that follow it in its chain, and then those of the chains after its chain
     pub after_place : (front back : List Place) → s ≡ front ++ place ∷ back → (c1 c2 : List Place) × ((chain_of held k used).chain ≡ c1 ++ place ∷ c2) × (back ≡ c2 ++ (chain_of held k used).after)
     after_place front back is =
         let c = chain_of held k used in
@@ -90,11 +90,12 @@ module _ {E A B V : Type 0} {successor : E → Successor} {hash : A → V → �
         sym is ∙ c.parts ∙ ap (λ l. c.ahead ++ (l ++ c.after)) m.2 ∙ ap (λ l. c.ahead ++ l) (append_assoc m.0 (place ∷ m.1) c.after) ∙ sym (append_assoc c.ahead m.0 (place ∷ m.1 ++ c.after)) in
         (m.0, m.1, m.2, (one_cut front back (c.ahead ++ m.0) (m.1 ++ c.after) place (subst IsDistinct is held.distinct) whole).1)
 
--- a gap after a place
+-- a gap directly after a place cuts the sequence into the members before the place, the place itself, and the members after it
 pub gap_after : (gap : Cut) (place : Place) → Some place ≡ last gap.front → join gap ≡ but_last gap.front ++ place ∷ gap.back
 gap_after gap place after = ap (λ l. l ++ gap.back) (split_last gap.front (sym after)) ∙ append_assoc (but_last gap.front) (place ∷ []) gap.back
 
--- the first after it: that of the chain, or where its chain ends that of the others
+-- if a member has a next member in its chain, this is the next member in the whole sequence. If it has none, the next member is the first of the following
+-- chains
 pub first_is_chains : (next : Option Place) (c2 after : List Place) → next ≡ first c2 → is_some next ≡ true → next ≡ first (c2 ++ after)
 first_is_chains next [] after is some = absurd (true≢false (sym some ∙ ap is_some is))
 first_is_chains next (x ∷ c2) after is some = is
@@ -103,7 +104,7 @@ pub first_is_others : (next : Option Place) (c2 after : List Place) → next ≡
 first_is_others next [] after is none = refl
 first_is_others next (x ∷ c2) after is none = absurd (true≢false (sym (ap is_some is) ∙ none))
 
--- the chain of an object
+-- each object belongs in a chain that is in use
 module _ {V : Type 0} (slots : Slots) (hash : V → ℕ) (objects : Objects V) (half : slots.mask / 2 < slots.used) where
   own_slot : (p : Place) (o : Option V) → object_at objects p ≡ o → IsSome o → (k : ℕ) × (k < slots.used) × BelongsIn slots hash objects k p
   own_slot p None there placed = absurd (true≢false (sym placed))
@@ -113,7 +114,7 @@ module _ {V : Type 0} (slots : Slots) (hash : V → ℕ) (objects : Objects V) (
   pub slot_of_place : (p : Place) → IsSome (object_at objects p) → (k : ℕ) × (k < slots.used) × BelongsIn slots hash objects k p
   slot_of_place p placed = own_slot p (object_at objects p) refl placed
 
--- HOW A MEMBER STANDS: its entry names what stands after it in its chain
+-- A MEMBER'S ENTRY names the next member of its chain
 module _ {E A B V : Type 0} {successor : E → Successor} {hash : A → V → ℕ} {fronts : B → List (Option Place)} {t : Table E} {table : HashTable A B} {objects : Objects V}
     (gap : Cut) (held : Holds successor hash fronts t table objects (join gap)) (place : Place) (after : Some place ≡ last gap.front) where
   pub place_placed : IsSome (object_at objects place)
@@ -128,7 +129,7 @@ module _ {E A B V : Type 0} {successor : E → Successor} {hash : A → V → �
         let e = represents_middle b.0 b.1 ((subst (RepresentsFrom successor t (slice_index_or (fronts table.buckets) k None)) b.2 (chain_of held k used).shown)) in
         (b.1, record { linked = e.linked; next = e.next }, b.3)
 
--- THE REST OF A CHAIN after the member p, of the members after it: none of the others belongs in that chain
+-- THE REST OF A CHAIN after the member p begins the members after p. None of the remaining members belongs in this chain
 pub record RestOfChain {E A B V : Type 0} (successor : E → Successor) (hash : A → V → ℕ) (t : Table E) (table : HashTable A B) (objects : Objects V) (p : Place) (back : List Place) : Type 0 where
   pub slot : ℕ
   pub rest : List Place
@@ -160,7 +161,7 @@ rest_of_chain {successor = successor} {hash = hash} {fronts = fronts} {t = t} {t
       elsewhere = c.after_others;
     }
 
--- A WALK ALONG THAT REST FINDS what equals the object of the member, among all members after it
+-- A WALK ALONG THE REST OF A CHAIN finds the first member after p whose object equals, among all members after p
 pub finds_after : {E A B V : Type 0} {successor : E → Successor} {hash : A → V → ℕ} {t : Table E} {table : HashTable A B} {objects : Objects V} {p : Place} {back : List Place} {equal : V → Bool}
     → (r : RestOfChain successor hash t table objects p back) → ((v : V) → equal v ≡ true → slot_of table.slots (hash table.adapter v) ≡ r.slot)
     → {before : Option Place} (at : Option Place) → StopsAt (matches equal objects) r.rest before at → Finds (matches equal objects) back at

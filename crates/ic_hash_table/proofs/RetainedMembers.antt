@@ -1,4 +1,4 @@
--- A walk that takes out what fails a test: a turn of it, and its end.
+-- A walk over a hash table removes each member that fails a test, and these lemmas are about one step of the walk and about its end.
 use Rattle.std.proofs.Common.{◌≡◌, ◌<◌, arith, ℕ, Bool, true, false, Option, None, Some, List, [], ◌∷◌, ◌++◌, drop, length, refl, sym, ap, ◌∙◌, subst, append_assoc, append-nil}
 use Rattle.ic_link_ops.specs.Prelude.{Place, Objects, first, IsAbsent, IsDistinct, Table, IsCovered, ChangesOnlyIn, LinkStep, releases, releases_each}
 use Rattle.ic_link_ops.specs.SinglyLinkedList.{Successor}
@@ -10,7 +10,7 @@ use Rattle.ic_hash_table.specs.Iter.{members_of, after}
 use Rattle.ic_hash_table.specs.Retained.{TellsAt, AreAnswers, passing, failing}
 use Rattle.ic_hash_table.proofs.RemainingMembers.{members_are, after_member}
 
--- the members of s from this one on, and of none none
+-- the members of s from the given place on, or no members if no place is given
 abbrev pub ahead_of : Option Place → List Place → List Place
 ahead_of None s = []
 ahead_of (Some p) s = p ∷ after (Some p) s
@@ -24,8 +24,8 @@ ahead_is front (x ∷ back) (Some p) d here =
 
 module _ {L E A B V F : Type 0} (successor : E → Successor) (table : L → Table E) (Trace : L → L → List LinkStep → Type 0) (hash : A → V → ℕ) (fronts : B → List (Option Place)) (objects : Objects V)
     (tells : F → V → Bool → F → Type 0) where
-  -- the walk over s has come to `at`, and has kept and let go as the test told, which is `asked` by now: what it answers of those ahead
-  -- completes its answers of s
+  -- the walk over s is at the member `at`. It has kept the earlier members that passed the test and removed those that failed, and the test is now in the
+  -- state `asked`. Further results for the members from `at` on complete the results for s
   pub record Retains (start now : L) (held : HashTable A B) (s : List Place) (at : Option Place) (test asked : F) : Type 0 where
     pub kept : List Place
     pub gone : List Place
@@ -40,7 +40,7 @@ module _ {L E A B V F : Type 0} (successor : E → Successor) (table : L → Tab
 
 module _ {L E A B V F : Type 0} {successor : E → Successor} {table : L → Table E} {Trace : L → L → List LinkStep → Type 0} {hash : A → V → ℕ} {fronts : B → List (Option Place)} {objects : Objects V}
     {tells : F → V → Bool → F → Type 0} where
-  -- at first all are ahead
+  -- at first all members are ahead of the walk
   pub retains_none : {start : L} {held : HashTable A B} {s : List Place} {at : Option Place} (test : F) → ((t : L) → Trace t t []) → Holds successor hash fronts (table start) held objects s → at ≡ first s
       → Retains successor table Trace hash fronts objects tells start start held s at test test
   retains_none {start} {s = s} test does_nothing holds here = record {
@@ -55,14 +55,14 @@ module _ {L E A B V F : Type 0} {successor : E → Successor} {table : L → Tab
     frame = record { extent = refl; others = λ q out. refl };
   }
 
-  -- how many are ahead, as the entries tell
+  -- the entries lead through exactly as many members as are ahead of the walk
   ahead_count : ((t : L) (q : Place) → (successor ((table t).entry q)).linked ≡ true → IsCovered (table t) q) → {start now : L} {held : HashTable A B} {s : List Place} {at : Option Place} {test asked : F}
       → (r : Retains successor table Trace hash fronts objects tells start now held s at test asked) → length (ahead_of at (members_of successor (table now) (fronts held.buckets))) ≡ length r.ahead
   ahead_count law {now = now} {held = held} {at = at} r =
       ap (λ m. length (ahead_of at m)) (members_are successor (table now) (law now) (BelongsIn held.slots (hash held.adapter) objects) 0 (fronts held.buckets) (r.kept ++ r.ahead) r.holds.chained)
       ∙ ap length (ahead_is r.kept r.ahead at r.holds.distinct r.here)
 
-  -- a turn leaves less ahead
+  -- one step of the walk leaves fewer members ahead
   pub turn_less : ((t : L) (q : Place) → (successor ((table t).entry q)).linked ≡ true → IsCovered (table t) q) → {start start' now new : L} {held rest : HashTable A B} {s s' : List Place} {at next : Option Place} {p : Place} {test test' asked after : F}
       → (r : Retains successor table Trace hash fronts objects tells start now held s at test asked) → r.ahead ≡ p ∷ drop 1 r.ahead
       → (more : Retains successor table Trace hash fronts objects tells start' new rest s' next test' after) → more.ahead ≡ drop 1 r.ahead
@@ -70,7 +70,7 @@ module _ {L E A B V F : Type 0} {successor : E → Successor} {table : L → Tab
   turn_less law r is more left = omega (arith, ahead_count law r, ahead_count law more, ap length is, ap length left)
 
   module _ {start now : L} {held : HashTable A B} {s : List Place} {p : Place} {test asked : F} (r : Retains successor table Trace hash fronts objects tells start now held s (Some p) test asked) where
-    -- the member there, and the gap after it
+    -- the member p is the first that is ahead of the walk, and the table holds it after the kept members
     pub ahead_first : r.ahead ≡ p ∷ drop 1 r.ahead
     ahead_first = first_is r.ahead r.here
 
@@ -83,7 +83,7 @@ module _ {L E A B V F : Type 0} {successor : E → Successor} {table : L → Tab
     within_there : (q : Place) → IsAbsent q s → IsAbsent q (r.kept ++ p ∷ drop 1 r.ahead)
     within_there q out = subst (λ l. IsAbsent q (r.kept ++ l)) ahead_first (r.within q out)
 
-    -- what the test has answered, this of the member there, and what it answers of the rest
+    -- the test's results for s are its earlier results, its result for the member p, and its results for the members after p
     answers_there : (answer : Bool) {after : F} → TellsAt tells objects asked p answer after → (later : List Bool) (last : F) → AreAnswers tells objects after (drop 1 r.ahead) later last
         → (answers : List Bool) × AreAnswers tells objects test s answers last
         × (passing answers s ≡ r.kept ++ passing (answer ∷ later) (p ∷ drop 1 r.ahead)) × (failing answers s ≡ r.gone ++ failing (answer ∷ later) (p ∷ drop 1 r.ahead))
@@ -95,7 +95,7 @@ module _ {L E A B V F : Type 0} {successor : E → Successor} {table : L → Tab
           a.3 ∙ ap (λ l. r.gone ++ failing (answer ∷ later) l) ahead_first,
         )
 
-    -- the member there stays
+    -- the member p passes the test, and the table keeps it
     pub retains_kept : {next : Option Place} {after : F} → next ≡ first (drop 1 r.ahead) → TellsAt tells objects asked p true after
         → (more : Retains successor table Trace hash fronts objects tells start now held s next test after) × (more.ahead ≡ drop 1 r.ahead)
     retains_kept is_next told = (
@@ -115,7 +115,7 @@ module _ {L E A B V F : Type 0} {successor : E → Successor} {table : L → Tab
       refl,
     )
 
-    -- or it goes
+    -- the member p fails the test, and the table no longer holds it
     pub retains_gone : (does_on : (a b c : L) (u v : List LinkStep) → Trace a b u → Trace b c v → Trace a c (u ++ v)) {next : Option Place} {new : L} {rest : HashTable A B} {after : F}
         → next ≡ first (drop 1 r.ahead) → TellsAt tells objects asked p false after → Holds successor hash fronts (table new) rest objects (r.kept ++ drop 1 r.ahead)
         → Trace now new (releases p ∷ []) → ChangesOnlyIn (table now) (table new) (r.kept ++ p ∷ drop 1 r.ahead)
@@ -137,7 +137,7 @@ module _ {L E A B V F : Type 0} {successor : E → Successor} {table : L → Tab
       refl,
     )
 
-  -- AT ITS END the test was asked of all of s
+  -- AT THE END OF THE WALK the test was called for all members of s
   pub retains_all : {start now : L} {held : HashTable A B} {s : List Place} {test asked : F} (r : Retains successor table Trace hash fronts objects tells start now held s None test asked)
       → (answers : List Bool) × AreAnswers tells objects test s answers asked × Holds successor hash fronts (table now) held objects (passing answers s)
       × Trace start now (releases_each (failing answers s))

@@ -1,4 +1,4 @@
--- A hash table of which the last chain was joined to the one that growth would part it from.
+-- These lemmas are about a hash table after its last chain was joined to the chain from which growth had split it.
 use Rattle.std.proofs.Common.{◌≡◌, ◌≢◌, ℕ, ◌<◌, Bool, Option, None, IsSome, List, [], ◌++◌, length, length-append, slice_index_or, slice_set, refl, sym, ap, ◌∙◌, subst, arith, append_assoc}
 use Rattle.std.proofs.lemmas.List.{get_or-set_other, length-set}
 use Rattle.std.specs.List.{AllByRecursion}
@@ -20,8 +20,8 @@ use Rattle.ic_hash_table.proofs.ChainParts.{of_members, nothing_represented}
 use Rattle.ic_hash_table.proofs.GrownTables.{without_middle, middle_apart}
 use Rattle.ic_hash_table.proofs.HeldTables.{middle_ahead, middle_after}
 
--- THE LAST CHAIN, AND THE ONE THAT IT IS JOINED TO. `others`: what belongs in another chain than the last belongs there still. `moved`: what
--- belonged in the last belongs in that one
+-- THE LAST CHAIN is joined to the chain `to`. `others`: what belongs in a chain other than the last also belongs there afterwards. `moved`: what belongs
+-- in the last chain belongs in chain `to` afterwards
 module _ {E : Type 0} (successor : E → Successor) (Belongs Fewer : ℕ → Place → Type 0) (last to : ℕ) (less : to < last) (others : (j : ℕ) (p : Place) → j ≢ last → Belongs j p → Fewer j p)
     (moved : (p : Place) → Belongs last p → Fewer to p) (old : Table E) (fronts : List (Option Place)) (s : List Place) (distinct : IsDistinct s) (chained : AreChained successor Belongs old 0 fronts s)
     (within : last < length fronts) where
@@ -37,7 +37,7 @@ module _ {E : Type 0} (successor : E → Successor) (Belongs Fewer : ℕ → Pla
   pub joined_represented : RepresentsFrom successor old (slice_index_or fronts to None) joined_chain.chain
   joined_represented = subst (λ f. RepresentsFrom successor old f joined_chain.chain) (get_or-set_other fronts last to None None (λ e. absurd (omega (arith, less, e)))) joined_chain.shown
 
-  -- the members, with those of the last chain before those of the other
+  -- all members after the join: the members of the last chain come directly before those of the chain `to`
   abbrev pub joined : List Place
   joined = joined_chain.ahead ++ ((last_chain.chain ++ joined_chain.chain) ++ joined_chain.after)
 
@@ -52,14 +52,14 @@ module _ {E : Type 0} (successor : E → Successor) (Belongs Fewer : ℕ → Pla
       (distinct_splice j.ahead l.chain (j.chain ++ j.after) (subst IsDistinct j.parts (without_middle l.ahead l.chain l.after whole))
       (distinct_left l.chain l.after (distinct_right l.ahead (l.chain ++ l.after) whole)) (subst (IsDisjoint l.chain) j.parts (middle_apart l.ahead l.chain l.after whole)))
 
-  -- the two share no member
+  -- the last chain and the chain that it is joined to share no member
   pub chains_apart : IsDisjoint last_chain.chain joined_chain.chain
   chains_apart =
       let l = last_chain in
       let j = joined_chain in
       distinct_disjoint l.chain j.chain (distinct_left (l.chain ++ j.chain) j.after (distinct_right j.ahead ((l.chain ++ j.chain) ++ j.after) joined_distinct))
 
-  -- and all members are the old ones
+  -- each member after the join was a member before, and each member before the join is a member afterwards
   pub joined_within : (q : Place) → IsAbsent q s → IsAbsent q joined
   joined_within q out =
       let l = last_chain in
@@ -117,7 +117,7 @@ module _ {E : Type 0} (successor : E → Successor) (Belongs Fewer : ℕ → Pla
       j.put Fewer (λ i p n b. b) front (l.chain ++ j.chain) (l.chain ++ j.chain) shown (all_both (Fewer to) l.chain j.chain (all_map moved l.chain l.own) j.own)
       (middle_ahead j.ahead (l.chain ++ j.chain) j.after joined_distinct) (middle_after j.ahead (l.chain ++ j.chain) j.after joined_distinct) frame.others
 
-  -- ALIKE MEMBERS STAND SIDE BY SIDE STILL: none of the last chain is alike one of the other
+  -- ALIKE MEMBERS ARE SIDE BY SIDE after the join, because no member of the last chain is alike a member of the chain that it is joined to
   pub joined_beside : {alike : Place → Place → Bool} → BelongTogether Belongs alike → BelongTogether Fewer alike → AreSideBySide alike s → AreSideBySide alike joined
   joined_beside {alike} together fewer side =
       let l = last_chain in
@@ -135,7 +135,8 @@ module _ {E : Type 0} (successor : E → Successor) (Belongs Fewer : ℕ → Pla
       middle_beside Fewer alike fewer to j.ahead (l.chain ++ j.chain) j.after (front_beside alike j.ahead (j.chain ++ j.after) parts) both (back_beside alike j.chain j.after end)
       j.ahead_below (all_both (Fewer to) l.chain j.chain (all_map moved l.chain l.own) j.own) j.after_above
 
--- where fewer chains are in use, what belongs in another than the last belongs there still, and what belonged in the last goes back
+-- if one chain less is in use, an object of another chain than the last belongs where it did. An object of the last chain belongs in the chain from which
+-- the last was split
 module _ {V : Type 0} (small large : Slots) (hash : V → ℕ) (objects : Objects V) (split : IsSplit small large) where
   pub others_belong : (j : ℕ) (p : Place) → j ≢ small.used → BelongsIn large hash objects j p → BelongsIn small hash objects j p
   others_belong j p other belongs v there = sym (split.others (hash v) (λ e. other (sym (belongs v there) ∙ e))) ∙ belongs v there
@@ -145,7 +146,7 @@ module _ {V : Type 0} (small large : Slots) (hash : V → ℕ) (objects : Object
 
 module _ {E A B V : Type 0} (successor : E → Successor) (hash : A → V → ℕ) (fronts : B → List (Option Place)) {old : Table E} {table : HashTable A B} {objects : Objects V}
     (slots : Slots) (split : IsSplit slots table.slots) {s : List Place} (held : Holds successor hash fronts old table objects s) (within : slots.used < length (fronts table.buckets)) where
-  -- IT HOLDS THE SAME MEMBERS
+  -- THE SHRUNK TABLE HOLDS the members that the table held before
   module _ (middle buckets : B) {new : Table E} {front : Option Place} (well_formed : IsWellFormed slots)
       (last_set : fronts middle ≡ slice_set (fronts table.buckets) slots.used None) (joined_set : fronts buckets ≡ slice_set (fronts middle) (split_of table.slots slots.used) front)
       (join : (s t : List Place) → RepresentsFrom successor old (slice_index_or (fronts table.buckets) slots.used None) s → RepresentsFrom successor old (slice_index_or (fronts table.buckets) (split_of table.slots slots.used) None) t
@@ -193,7 +194,7 @@ module _ {E A B V : Type 0} (successor : E → Successor) (hash : A → V → �
           all = joined_all successor Old New slots.used to split.apart others moved old (fronts table.buckets) s held.distinct held.chained within;
         }
 
-    -- AND THOSE WITH EQUAL KEYS STAND SIDE BY SIDE STILL
+    -- IF MEMBERS WITH EQUAL KEYS were side by side before the table shrank, they are side by side afterwards
     pub beside_shrunk : {alike : Place → Place → Bool} → BelongTogether (BelongsIn table.slots (hash table.adapter) objects) alike → BelongTogether (BelongsIn slots (hash table.adapter) objects) alike
         → AreSideBySide alike s → (u : List Place) × Holds successor hash fronts new (record { adapter = table.adapter; buckets = buckets; slots = slots; len = table.len }) objects u × AreSideBySide alike u
     beside_shrunk together fewer side =

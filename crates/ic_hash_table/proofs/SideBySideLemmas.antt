@@ -1,4 +1,4 @@
--- Members with equal keys that stand side by side, where one is put in.
+-- Members with equal keys are side by side, and these lemmas say that they still are after one member is inserted.
 use Rattle.std.proofs.Common.{◌≡◌, ◌≢◌, ℕ, drop, Bool, true, false, true≢false, Option, Some, None, IfSome, List, [], ◌∷◌, ◌++◌, refl, sym, ap, subst, ◌∙◌}
 use Rattle.std.specs.List.{AllByRecursion}
 use Rattle.std.specs.Cmp.{IsPartialEquivalence, IsEquivalence}
@@ -15,7 +15,7 @@ use Rattle.ic_hash_table.proofs.ChainParts.{of_member}
 use Rattle.ic_hash_table.proofs.SideBySideSequences.{put_beside, spans}
 use Rattle.ic_hash_table.proofs.HeldTables.{one_cut}
 
--- EQUAL KEYS make members alike
+-- EQUAL KEYS make members alike, and this relation of members is symmetric and transitive
 module _ {V K : Type 0} {eq : K → K → Bool} (laws : IsEquivalence eq) (key_of : V → K) where
   abbrev both : Option V → Option V → Bool
   both o r = passes (λ value. passes (λ other. eq (key_of value) (key_of other)) r) o
@@ -38,7 +38,7 @@ module _ {V K : Type 0} {eq : K → K → Bool} (laws : IsEquivalence eq) (key_o
     trans = λ x y z e k. both_trans (object_at objects x) (object_at objects y) (object_at objects z) e k;
   }
 
-  -- and have one number
+  -- the objects of two members with equal keys have equal hashes
   pub same_number : (hash : V → ℕ) → ((v w : V) → eq (key_of v) (key_of w) ≡ true → hash v ≡ hash w) → (objects : Objects V) (x y : Place) → same_key eq key_of objects x y ≡ true
       → DifferInNumber hash objects x y → ⊥
   same_number hash same objects x y e differ = by (object_at objects x) (object_at objects y) refl refl e where
@@ -47,14 +47,14 @@ module _ {V K : Type 0} {eq : K → K → Bool} (laws : IsEquivalence eq) (key_o
     by (Some v) None at_x at_y e = true≢false (sym e)
     by (Some v) (Some w) at_x at_y e = differ v w at_x at_y (same v w e)
 
--- a member's key, and whether others have it
+-- the members whose keys equal the key of the object at p are those that have the key of this object
 pub has_its_key : {V K : Type 0} (eq : K → K → Bool) (key_of : V → K) (objects : Objects V) (p q : Place) (value : V) → object_at objects p ≡ Some value
     → same_key eq key_of objects p q ≡ has_key eq key_of (key_of value) objects q
 has_its_key eq key_of objects p q value there = ap (passes (λ value. has_key eq key_of (key_of value) objects q)) there
 
--- PUT IN where a walk along its chain stopped: alike members stand side by side again. `is`: whether a member is alike p
+-- A MEMBER p IS INSERTED where a walk along its chain has stopped, and alike members are side by side afterwards. `is` says whether a member is alike p
 module _ {is : Place → Bool} {same : Place → Place → Bool} (laws : IsPartialEquivalence same) (p : Place) (is_same : (q : Place) → same p q ≡ is q) where
-  -- what is not alike p, seen from it
+  -- if p is not alike x, x is not alike p
   strange : (x : Place) → is x ≡ false → same x p ≡ true → ⊥
   strange x none e = true≢false (sym (sym (is_same x) ∙ laws.symm p x ∙ e) ∙ none)
 
@@ -97,7 +97,7 @@ module _ {is : Place → Bool} {same : Place → Place → Bool} (laws : IsParti
             (in_front f rest q (subst (AreSideBySide same) whole side) (subst (AllByRecursion (λ x. is x ≡ false)) cut.0 found.3) found.4),
       )
 
--- the same by keys, of an object with this value, where the table has kept its adapter
+-- an object is inserted where a walk along its chain has stopped, and members with equal keys are side by side afterwards. The table has kept its adapter
 pub keys_beside : {E A B V K : Type 0} {successor : E → Successor} {eq : K → K → Bool} (laws : IsEquivalence eq) (key_of : A → V → K) {hash : A → V → ℕ} {fronts : B → List (Option Place)} {t : Table E}
     {table : HashTable A B} {objects : Objects V} (a : A) → ((v w : V) → eq (key_of a v) (key_of a w) ≡ true → hash a v ≡ hash a w) → table.adapter ≡ a
     → (p : Place) (value : V) → object_at objects p ≡ Some value → {s chain : List Place} {before : Option Place} (found : Option Place)
@@ -110,7 +110,7 @@ keys_beside {successor = successor} {eq = eq} laws key_of {hash} {fronts} {t} {t
     (λ x y e differ. same_number laws (key_of a) (hash a) alike objects x y e (subst (λ b. DifferInNumber (hash b) objects x y) kept differ))
     found stop d finds side h)
 
--- THE NEXT EQUAL MEMBER is right after
+-- IF MEMBERS WITH EQUAL KEYS are side by side, the next member with an equal key is the member directly after p
 pub found_beside : {V K : Type 0} (eq : K → K → Bool) (key_of : V → K) (objects : Objects V) (p : Place) (value : V) → object_at objects p ≡ Some value
     → (front back : List Place) → AreSideBySide (same_key eq key_of objects) (front ++ p ∷ back) → (found : Option Place)
     → Finds (has_key eq key_of (key_of value) objects) back found → IfSome found (λ next. first back ≡ Some next)
@@ -128,7 +128,7 @@ found_beside eq key_of objects p value there [] back side (Some q) (f, b, is, no
           absurd (true≢false (sym e ∙ has_its_key eq key_of objects p z value there ∙ none.0))
 found_beside eq key_of objects p value there (x ∷ front) back side found finds = found_beside eq key_of objects p value there front back side.1 found finds
 
--- an object belongs in the chain of the number of its value
+-- an object belongs in the chain where the hash of its value belongs
 pub belongs_by_value : {V : Type 0} (slots : Slots) (hash : V → ℕ) (objects : Objects V) {k : ℕ} (p : Place) (value : V) → object_at objects p ≡ Some value → k ≡ slot_of slots (hash value)
     → BelongsIn slots hash objects k p
 belongs_by_value slots hash objects p value there e v at_v = ap (λ v. slot_of slots (hash v)) (some_same (sym at_v ∙ there)) ∙ sym e

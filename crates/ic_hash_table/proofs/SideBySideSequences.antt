@@ -1,4 +1,4 @@
--- Sequences in which alike members stand side by side: a member is put in or taken out, and sequences are joined and cut.
+-- In these sequences alike members are side by side. A member is inserted or removed, and sequences are joined and cut.
 use Rattle.std.proofs.Common.{◌≡◌, ◌≢◌, Bool, true, Option, Some, None, IfSome, List, [], ◌∷◌, ◌++◌, refl, sym, subst, ◌∙◌, inl, inr}
 use Rattle.std.specs.Cmp.{IsPartialEquivalence}
 use Rattle.ic_link_ops.specs.Prelude.{Place, IsAbsent, IsMember, first}
@@ -6,7 +6,7 @@ use Rattle.ic_unsafe_ref.proofs.PlaceLemmas.{same_or_not}
 use Rattle.ic_link_ops.proofs.SequenceLemmas.{absent_left, absent_right, absent_both, absent_without}
 use Rattle.ic_hash_table.specs.SideBySide.{AreSideBySide}
 
--- of some sequence: what it begins with, whatever stands after
+-- a sequence with at least one member has the same first member, whatever comes after it
 first_same : (f b c : List Place) (y : Place) → IsMember y f → first (f ++ b) ≡ first (f ++ c)
 first_same [] b c y member = absurd (member tt)
 first_same (x ∷ f) b c y member = refl
@@ -16,7 +16,8 @@ if_some None follows h = tt
 if_some (Some q) follows h = follows q h
 
 module _ (alike : Place → Place → Bool) where
-  -- p IS PUT IN at a gap with no two members alike on its sides, before a member alike it or where none is
+  -- p IS INSERTED at a gap, and alike members are still side by side. No member before the gap is alike p or a member after the gap. If p is alike a
+  -- member after the gap, it is alike the first one
   pub put_beside : (p : Place) (f b : List Place) → AreSideBySide alike (f ++ b) → ((x y : Place) → IsMember x f → IsMember y b → alike x y ≡ true → ⊥)
       → ((x : Place) → IsMember x f → alike x p ≡ true → ⊥) → ((y : Place) → IsMember y b → alike p y ≡ true → IfSome (first b) (λ next. alike p next ≡ true))
       → AreSideBySide alike (f ++ p ∷ b)
@@ -36,7 +37,7 @@ module _ (alike : Place → Place → Bool) where
         apart x y (λ out. out.0 refl) (λ out_b. member (absent_both y f (p ∷ b) out_f (other, out_b))) same
 
 module _ (alike : Place → Place → Bool) (laws : IsPartialEquivalence alike) where
-  -- WHAT SPANS A GAP is alike the member right after it
+  -- IF A MEMBER before a gap is alike a member after the gap, it is alike the member directly after the gap
   pub spans : (f b : List Place) (q : Place) → AreSideBySide alike (f ++ q ∷ b) → (x y : Place) → IsMember x f → IsMember y (q ∷ b) → alike x y ≡ true → alike x q ≡ true
   spans [] b q side x y member after same = absurd (member tt)
   spans (z ∷ []) b q side x y member after same = elim (same_or_not x z) [
@@ -52,7 +53,7 @@ module _ (alike : Place → Place → Bool) (laws : IsPartialEquivalence alike) 
     | inr other ↦ spans (w ∷ f) b q side.1 x y (λ out. member (other, out)) after same
   ]
 
-  -- A MEMBER IS TAKEN OUT
+  -- A MEMBER IS REMOVED, and alike members are still side by side
   pub take_beside : (p : Place) (f b : List Place) → AreSideBySide alike (f ++ p ∷ b) → AreSideBySide alike (f ++ b)
   take_beside p [] b side = side.1
   take_beside p (x ∷ []) b side = (
@@ -70,7 +71,7 @@ first_of_front [] b y member = absurd (member tt)
 first_of_front (x ∷ f) b y member = refl
 
 module _ (alike : Place → Place → Bool) where
-  -- TWO ARE JOINED of which no member of the one is alike a member of the other
+  -- TWO SEQUENCES ARE JOINED, and alike members are side by side if no member of one sequence is alike a member of the other
   pub join_beside : (a b : List Place) → AreSideBySide alike a → AreSideBySide alike b → ((x y : Place) → IsMember x a → IsMember y b → alike x y ≡ true → ⊥)
       → AreSideBySide alike (a ++ b)
   join_beside [] b side other apart = other
@@ -81,7 +82,7 @@ module _ (alike : Place → Place → Bool) where
     join_beside a b side.1 other (λ z y m. apart z y (λ o. m o.1)),
   )
 
-  -- the two parts of one
+  -- if alike members are side by side in a sequence, they are side by side in its front part and in its back part
   pub front_beside : (a b : List Place) → AreSideBySide alike (a ++ b) → AreSideBySide alike a
   front_beside [] b side = tt
   front_beside (x ∷ a) b side = (

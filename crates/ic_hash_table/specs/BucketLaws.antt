@@ -1,4 +1,4 @@
--- The laws of rows of words.
+-- These lemmas are about the buckets of a hash table: a row of words, each of which stores the first member of a chain.
 use Rattle.std.specs.Prelude.{◌≡◌, ℕ, zero, suc, Option, None, List, [], ◌∷◌, map, length, set}
 use Rattle.std.specs.Borrow.{MutBor}
 use Rattle.std.specs.List.{AllByRecursion}
@@ -7,7 +7,7 @@ use Rattle.std.proofs.lemmas.List.{map-set, length-map}
 use Rattle.ic_unsafe_ref.specs.declared.place.Place.{Place}
 use Rattle.ic_hash_table.specs.Buckets.{AreRewritten, AreRewrittenIn}
 
--- words that are places already name themselves
+-- if the words of a row are places or none already, the places that they name are the row itself
 pub own_fronts : (words : List (Option Place)) → words ≡ map (λ w. w) words
 own_fronts [] = refl
 own_fronts (w ∷ ws) = ap (λ l. w ∷ l) (own_fronts ws)
@@ -40,13 +40,13 @@ module _ {W : Type 0} (front_of : W → Option Place) (word_for : Option Place �
   rewritten_count (v ∷ vs) [] h = absurd h
   rewritten_count (v ∷ vs) (w ∷ ws) h = ap suc (rewritten_count vs ws h.1)
 
-  -- ONE WORD IS WRITTEN
+  -- ONE WORD IS WRITTEN: each word of the new row is the old word, or it is the word that `word_for` gives for its place
   pub rewritten_at : (ws : List W) (i : ℕ) (w : W) → w ≡ word_for (front_of w) → AreRewritten front_of word_for ws (set ws i w)
   rewritten_at [] i w new = tt
   rewritten_at (v ∷ vs) zero w new = (inr new, rewritten_none vs)
   rewritten_at (v ∷ vs) (suc i) w new = (inl refl, rewritten_at vs i w new)
 
--- `fronts`: the places that words name
+-- `fronts` gives for a row of words the row of the places that the words name
 module _ {W : Type 0} {front_of : W → Option Place} {fronts : List W → List (Option Place)} (are : (words : List W) → fronts words ≡ map front_of words) where
   pub fronts_count : (words : List W) → length words ≡ length (fronts words)
   fronts_count words = sym (ap length (are words) ∙ length-map words front_of)
@@ -54,11 +54,11 @@ module _ {W : Type 0} {front_of : W → Option Place} {fronts : List W → List 
   pub fronts_set : (words : List W) (i : ℕ) (w : W) (front : Option Place) → front_of w ≡ front → fronts (set words i w) ≡ set (fronts words) i front
   fronts_set words i w front e = are (set words i w) ∙ map-set front_of words i w ∙ ap (λ f. set (map front_of words) i f) e ∙ ap (λ l. set l i front) (sym (are words))
 
-  -- the row of places is as long as the row of words
+  -- if two rows of words have the same length, their rows of places have the same length
   pub fronts_alike : (vs ws : List W) → length ws ≡ length vs → length (fronts ws) ≡ length (fronts vs)
   fronts_alike vs ws e = sym (fronts_count ws) ∙ e ∙ fronts_count vs
 
-  -- words that name no place
+  -- if no word of a row names a place, no entry of the row of places has a place
   pub fronts_none : (words : List W) → AllByRecursion (λ w. front_of w ≡ None) words → AllByRecursion (λ front. front ≡ None) (fronts words)
   fronts_none words none = subst (AllByRecursion (λ front. front ≡ None)) (sym (are words)) (mapped words none)
     where
@@ -66,7 +66,7 @@ module _ {W : Type 0} {front_of : W → Option Place} {fronts : List W → List 
       mapped [] none = tt
       mapped (w ∷ ws) none = (none.0, mapped ws none.1)
 
--- words that are lent
+-- these lemmas are about a row of words in borrowed memory
 module _ {W : Type 0} (front_of : W → Option Place) (word_for : Option Place → W) where
   pub lent_none : (b : MutBor (List W)) → AreRewrittenIn front_of word_for b b
   lent_none b = (refl, rewritten_none front_of word_for b.now)

@@ -1,4 +1,4 @@
--- An entry, as contracts see it: the first member with a key, or the chain where an object with the key belongs.
+-- An entry is the result of a search for a key: the first member with the key, or the chain where an object with the key belongs.
 use Rattle.std.specs.Prelude.{◌≡◌, ℕ, ◌<◌, ⊤, Option, Result, IfOk, IfErr, List, [], ◌∷◌, ◌++◌}
 use Rattle.std.specs.Borrow.{MutBor}
 use Rattle.ic_link_ops.specs.Prelude.{Place, Objects, last, Table, LinkStep, acquires}
@@ -14,7 +14,7 @@ use Rattle.ic_hash_table.specs.HashTable.{adapter_of, slots_of, front_at, Belong
 use Rattle.ic_hash_table.specs.Slots.{slot_of}
 
 module _ {A B L : Type 0} where
-  -- this holds for the member if the entry is occupied, and that for the chain if it is vacant
+  -- `IfOccupied e P`: if the entry e has a member, P holds for the entry. `IfVacant e P`: if the entry e has only a chain, P holds for the entry
   abbrev pub IfOccupied : Entry A B L → (OccupiedEntry A B L → Type 0) → Type 0
   IfOccupied (Occupied e) P = P e
   IfOccupied (Vacant e) P = ⊤
@@ -23,11 +23,11 @@ module _ {A B L : Type 0} where
   IfVacant (Occupied e) P = ⊤
   IfVacant (Vacant e) P = P e
 
-  -- the member
+  -- the member that the search for a key has found
   abbrev pub member_of : OccupiedEntry A B L → Place
   member_of e = e.member
 
-  -- the entry borrows this hash table and this table of links, which are as they were
+  -- the entry borrows this hash table and this table of links, and both are as they were before the search
   abbrev pub IsFoundIn : MutBor (HashTable A B) → MutBor L → OccupiedEntry A B L → Type 0
   IsFoundIn hash links e =
       (e.table.ghost_name ≡ hash.ghost_name) × (e.links.ghost_name ≡ links.ghost_name) × (e.table.now ≡ hash.now) × (e.links.now ≡ links.now)
@@ -36,28 +36,28 @@ module _ {A B L : Type 0} where
   IsVacantIn hash links e =
       (e.table.ghost_name ≡ hash.ghost_name) × (e.links.ghost_name ≡ links.ghost_name) × (e.table.now ≡ hash.now) × (e.links.now ≡ links.now)
 
-  -- THE MEMBER CAN BE REMOVED: it is in that chain, after the member that the entry names
+  -- THE MEMBER CAN BE REMOVED: it is in the chain that the entry stores, directly after the member that the entry stores as `before`
   abbrev pub CanRemove : {E : Type 0} → (E → Successor) → (L → Table E) → (B → List (Option Place)) → OccupiedEntry A B L → Type 0
   CanRemove successor table fronts e =
       (e.at < (slots_of e.table.now).used)
       × ((ahead back : List Place) × RepresentsFrom successor (table e.links.now) (front_at fronts e.table.now e.at) (ahead ++ e.member ∷ back) × (e.before ≡ last ahead))
 
-  -- the entry has the same chain of the same table, which is as it was
+  -- both entries borrow the same hash table, which is unchanged, and the same table of links, and both store the same chain
   abbrev pub IsVacantAgain : VacantEntry A B L → VacantEntry A B L → Type 0
   IsVacantAgain old e =
       (e.table.ghost_name ≡ old.table.ghost_name) × (e.links.ghost_name ≡ old.links.ghost_name) × (e.table.now ≡ old.table.now) × (e.at ≡ old.at)
 
-  -- the entry's chain is the one of this hash
+  -- the chain of the vacant entry is in use, and it is the chain where objects with this hash belong
   abbrev pub IsChainFor : ℕ → VacantEntry A B L → Type 0
   IsChainFor hash e = (e.at < (slots_of e.table.now).used) × (e.at ≡ slot_of (slots_of e.table.now) hash)
 
-  -- THE OBJECT CAN BE INSERTED: the chain is in use, and the object belongs there
+  -- THE OBJECT CAN BE INSERTED: the chain of the vacant entry is in use, and the object at the place p belongs in it
   abbrev pub CanInsert : {V : Type 0} → (A → V → ℕ) → Objects V → VacantEntry A B L → Place → Type 0
   CanInsert hash objects e p =
       (e.at < (slots_of e.table.now).used) × BelongsIn (slots_of e.table.now) (hash (adapter_of e.table.now)) objects e.at p
 
--- THE OBJECT IS INSERTED, and the entry of the new member is returned; or its link is refused, the object and the entry are returned, and the
--- table is as it was
+-- THE OBJECT IS INSERTED, and the call returns the entry of the new member. If its link is refused, the call returns the object and the vacant entry, and
+-- the table is unchanged
 module _ {E A B L V K : Type 0} (successor : E → Successor) (table : L → Table E) (fronts : B → List (Option Place)) (Rewrites : B → B → Type 0) (hash : A → V → ℕ) (Trace : L → L → List LinkStep → Type 0) (Refused : L → L → Place → Type 0) where
   pub record EntersAt (objects : Objects V) (old : VacantEntry A B L) (object : Place) (result : Result (OccupiedEntry A B L) (RefusedInsert A B L V K)) : Type 0 where
     pub member : IfOk result (λ e. member_of e ≡ object)

@@ -1,4 +1,4 @@
--- A chain that is split in two.
+-- A hash table grows by one chain, and the members of one old chain are split between the old chain and the new one.
 use Rattle.std.specs.Prelude.{◌≡◌, ◌+◌, ℕ, Bool, true, false, nat_eq, Option, IfSome, List, ◌++◌, length}
 use Rattle.std.specs.Cmp.{IsPartialEquivalence}
 use Rattle.std.specs.List.{AllByRecursion}
@@ -11,18 +11,19 @@ use Rattle.ic_hash_table.specs.Slots.{slot_of}
 use Rattle.ic_hash_table.specs.Chains.{RepresentsFrom}
 use Rattle.ic_hash_table.specs.SideBySide.{AreSideBySide}
 
--- whether a value belongs in chain i
+-- whether an object with this value belongs in chain i, which is decided by the hash of the value
 abbrev pub belongs_at : {V : Type 0} → Slots → (V → ℕ) → ℕ → V → Bool
 belongs_at slots hash i value = nat_eq (slot_of slots (hash value)) i
 
--- ALIKE MEMBERS of `out` are side by side, and each of `left` that is alike any of them is alike the first
+-- ALIKE MEMBERS of `out` are side by side. If a member of `left` is alike some member of `out`, it is alike the first member of `out`
 pub record AreTurned (alike : Place → Place → Bool) (left out : List Place) : Type 0 where
   pub side : AreSideBySide alike out
   pub next : (x y : Place) → IsMember x left → IsMember y out → alike x y ≡ true → IfSome (first out) (λ f. alike x f ≡ true)
 
--- `is`: whether a member moves
+-- `is p` says whether the member p moves to the new chain
 module _ {E : Type 0} (successor : E → Successor) (is : Place → Bool) where
-  -- THE CHAIN IS SPLIT, except for the members from `rest` on, into those that stay and those that move
+  -- THE CHAIN IS SPLIT up to the member `rest`, where the unsplit part begins. The chain from `stays` has the members that stay, and the chain from
+  -- `moves` has the members that move
   pub record IsParted (t : Table E) (chain : List Place) (rest stays moves : Option Place) : Type 0 where
     pub left : List Place
     pub staying : List Place
@@ -36,13 +37,13 @@ module _ {E : Type 0} (successor : E → Successor) (is : Place → Bool) where
     pub within : (q : Place) → IsAbsent q chain → IsAbsent q (left ++ (staying ++ moving))
     pub all : (q : Place) → IsAbsent q (left ++ (staying ++ moving)) → IsAbsent q chain
     pub count : length left + length staying + length moving ≡ length chain
-    -- alike members that were side by side still are
+    -- members that are alike, and were side by side in the old chain, are side by side after the split
     pub passed : List Place
     pub cut : chain ≡ passed ++ left
     pub among : (q : Place) → IsAbsent q passed → IsAbsent q (staying ++ moving)
     pub beside : (alike : Place → Place → Bool) → IsPartialEquivalence alike → AreSideBySide alike chain → AreTurned alike left staying × AreTurned alike left moving
 
--- THE TABLE HOLDS THE MEMBERS OF s, in some order
+-- THE TABLE HOLDS THE MEMBERS of s, maybe in another order: each member of s is in a chain, and each member of a chain is in s
 module _ {E A B V : Type 0} (successor : E → Successor) (hash : A → V → ℕ) (fronts : B → List (Option Place)) where
   pub record HoldsSameMembers (t : Table E) (table : HashTable A B) (objects : Objects V) (s : List Place) : Type 0 where
     pub members : List Place

@@ -1,4 +1,4 @@
--- What a table of links holds for a hash table.
+-- A hash table stores the first member of each chain, and a table of links leads from each member to the next. Together they hold a sequence of members.
 use Rattle.std.specs.Prelude.{◌≡◌, ◌≢◌, ℕ, ◌≤◌, Bool, Option, None, Some, IfSome, List, ◌∷◌, ◌++◌, length, slice_index_or, ⊤}
 use Rattle.std.specs.List.{AllByRecursion}
 use Rattle.ic_link_ops.specs.Prelude.{Place, Objects, object_at, Cut, join, insert, IsBefore, IsDistinct, IsMember, Table, ChangesOnlyIn, ArePlaced}
@@ -10,7 +10,7 @@ use Rattle.ic_hash_table.specs.Chains.{AreChained}
 use Rattle.ic_hash_table.specs.Searches.{Finds}
 
 module _ {A B : Type 0} where
-  -- the adapter of a table, how many members it has counted, and the slots that assign them to chains
+  -- `adapter_of` is the adapter of a hash table, `len_of` is its number of members, and `slots_of` decides in which chain a hash belongs
   abbrev pub adapter_of : HashTable A B → A
   adapter_of table = table.adapter
 
@@ -20,36 +20,36 @@ module _ {A B : Type 0} where
   abbrev pub slots_of : HashTable A B → Slots
   slots_of table = table.slots
 
-  -- the first members of its chains, and the first member of the chain where a number belongs
+  -- `fronts_of` is the row of the first members of the chains, and `front_at` is the first member of chain i, or none
   abbrev pub fronts_of : (B → List (Option Place)) → HashTable A B → List (Option Place)
   fronts_of fronts table = fronts table.buckets
 
   abbrev pub front_at : (B → List (Option Place)) → HashTable A B → ℕ → Option Place
   front_at fronts table i = slice_index_or (fronts table.buckets) i None
 
-  -- the row of its buckets
+  -- the row of the buckets of a hash table, which store the first members of the chains
   abbrev pub buckets_of : HashTable A B → B
   buckets_of table = table.buckets
 
-  -- THE TABLE KEEPS ITS BUCKETS: as many, in the same memory, and each has the word that it had, or the word of its present
-  -- first member
+  -- THE TABLE KEEPS ITS BUCKETS: they are as many as before, and in the same memory. Each bucket has its old word or the word of its present first member
   pub record KeepsBuckets (fronts : B → List (Option Place)) (Rewrites : B → B → Type 0) (old new : HashTable A B) : Type 0 where
     pub count : length (fronts new.buckets) ≡ length (fronts old.buckets)
     pub rewrites : Rewrites old.buckets new.buckets
 
-  -- ITS CHAINS ARE WELL FORMED and within its buckets. This holds for each table that a call has made
+  -- ITS CHAINS ARE WELL FORMED: the slots are well formed, and the table has a bucket for each chain in use. Each table that a call has made satisfies
+  -- this definition
   pub record HasChains (fronts : B → List (Option Place)) (table : HashTable A B) : Type 0 where
     pub well_formed : IsWellFormed table.slots
     pub enough : table.slots.used ≤ length (fronts table.buckets)
 
-  -- its chains are empty and within its buckets
+  -- the table is new: its chains are empty, it counts no member, and it has a bucket for each chain in use
   pub record IsNew (fronts : B → List (Option Place)) (table : HashTable A B) : Type 0 where
     pub none : AllByRecursion (λ front. front ≡ None) (fronts table.buckets)
     pub counted : table.len ≡ 0
     pub well_formed : IsWellFormed table.slots
     pub enough : table.slots.used ≤ length (fronts table.buckets)
 
--- ITS CHAINS HAVE THE MEMBERS s, whatever their keys are
+-- ITS CHAINS HAVE THE MEMBERS s, one chain after another and no place twice, whatever the keys of the members are
 pub record IsRepresented {E A B : Type 0} (successor : E → Successor) (fronts : B → List (Option Place)) (t : Table E) (table : HashTable A B) (s : List Place) : Type 0 where
   pub distinct : IsDistinct s
   pub chained : AreChained successor (λ i p. ⊤) t 0 (fronts table.buckets) s
@@ -57,34 +57,33 @@ pub record IsRepresented {E A B : Type 0} (successor : E → Successor) (fronts 
   pub enough : table.slots.used ≤ length (fronts table.buckets)
 
 module _ {E A B : Type 0} (successor : E → Successor) (fronts : B → List (Option Place)) (Rewrites : B → B → Type 0) where
-  -- AN EDIT KEEPS all except the chains: the adapter, the buckets, and the entry of each place other than its members and
-  -- these
+  -- AN EDIT KEEPS all except the chains: it keeps the adapter, the buckets, and the entry of each place that is neither a member nor in `places`
   pub record ChangesOnlyInChains (old new : Table E) (table table' : HashTable A B) (places : List Place) : Type 0 where
     pub adapter : adapter_of table' ≡ adapter_of table
     pub buckets : KeepsBuckets fronts Rewrites table table'
     pub frame : (s : List Place) → IsRepresented successor fronts old table s → ChangesOnlyIn old new (places ++ s)
 
-  -- such an edit, which also leaves the same chains in use
+  -- an edit changes only the members of chains: it keeps all except the chains, and the chains in use stay in use
   pub record ChangesOnlyInMembers (old new : Table E) (table table' : HashTable A B) (places : List Place) : Type 0 where
     pub chains : ChangesOnlyInChains old new table table' places
     pub slots : slots_of table' ≡ slots_of table
 
--- the number of a value: the hash of its key
+-- the number of a value is the hash of its key
 abbrev pub number : {A V K : Type 0} → (A → V → K) → (A → K → ℕ) → A → V → ℕ
 number key_of hash_of adapter value = hash_of adapter (key_of adapter value)
 
--- the object at the place, if any, has a number that belongs in chain i
+-- if there is an object at the place p, its hash belongs in chain i
 abbrev pub BelongsIn : {V : Type 0} → Slots → (V → ℕ) → Objects V → ℕ → Place → Type 0
 BelongsIn {V} slots hash objects i p = (value : V) → object_at objects p ≡ Some value → slot_of slots (hash value) ≡ i
 
--- the objects at two places, if any, have different numbers
+-- if there are objects at the places x and y, their hashes differ
 abbrev pub DifferInNumber : {V : Type 0} → (V → ℕ) → Objects V → Place → Place → Type 0
 DifferInNumber {V} hash objects x y = (v w : V) → object_at objects x ≡ Some v → object_at objects y ≡ Some w → hash v ≢ hash w
 
--- `hash`: the number of a value. `fronts`: the first members of the chains
+-- `hash` gives the number of a value, which is the hash of its key. `fronts` gives the first members of the chains
 module _ {E A B V : Type 0} (successor : E → Successor) (hash : A → V → ℕ) (fronts : B → List (Option Place)) where
-  -- THE TABLE HOLDS s: its chains have the members s, each in the chain of its number, no place twice, and each member has an
-  -- object
+  -- THE TABLE HOLDS s: its chains have the members s, no place twice. There is an object at each member, and each member is in the chain where its hash
+  -- belongs
   pub record Holds (t : Table E) (table : HashTable A B) (objects : Objects V) (s : List Place) : Type 0 where
     pub distinct : IsDistinct s
     pub chained : AreChained successor (BelongsIn table.slots (hash table.adapter) objects) t 0 (fronts table.buckets) s
@@ -93,24 +92,25 @@ module _ {E A B V : Type 0} (successor : E → Successor) (hash : A → V → �
     pub well_formed : IsWellFormed table.slots
     pub enough : table.slots.used ≤ length (fronts table.buckets)
 
-  -- the table holds some sequence
+  -- the table holds some sequence of members
   abbrev pub HoldsSome : Table E → HashTable A B → Objects V → Type 0
   HoldsSome t table objects = (s : List Place) × Holds t table objects s
 
-  -- the table holds s with p inserted somewhere
+  -- the table holds the sequence s after the place p was inserted at some gap of s
   abbrev pub HoldsWith : Table E → HashTable A B → Objects V → List Place → Place → Type 0
   HoldsWith t table objects s p = (gap : Cut) × (join gap ≡ s) × Holds t table objects (insert gap p)
 
-  -- the table holds s with p inserted at this gap of one of its chains
+  -- the table holds the sequence s after the place p was inserted at `gap`, which is a position between members of one chain
   pub record HoldsAt (t : Table E) (table : HashTable A B) (objects : Objects V) (s : List Place) (gap : Cut) (p : Place) : Type 0 where
     pub ahead : List Place
     pub after : List Place
     pub parts : s ≡ (ahead ++ gap.front) ++ (gap.back ++ after)
     pub holds : Holds t table objects ((ahead ++ gap.front) ++ p ∷ (gap.back ++ after))
-    -- no member up to the gap has the same number as a member after the chain
+    -- no member before the gap has an object with the same hash as a member after the gap's chain
     pub apart : (x y : Place) → IsMember x (ahead ++ gap.front) → IsMember y after → DifferInNumber (hash table.adapter) objects x y
 
-  -- the table holds s with p inserted: directly before the first member that passes, if one does
+  -- the table holds the sequence s after the place p was inserted. If a member of s passes the test `is`, the place p is directly before the first such
+  -- member
   pub record HoldsBefore (t : Table E) (table : HashTable A B) (objects : Objects V) (is : Place → Bool) (s : List Place) (p : Place) : Type 0 where
     pub gap : Cut
     pub whole : join gap ≡ s

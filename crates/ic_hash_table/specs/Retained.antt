@@ -1,15 +1,15 @@
--- What a test returns for the members of a hash table, and which of them pass.
+-- A test is called for the members of a hash table, and these definitions say which members pass.
 use Rattle.std.specs.Prelude.{◌≡◌, Bool, cond, Some, List, [], ◌∷◌}
 use Rattle.ic_link_ops.specs.Prelude.{Place, Objects, object_at}
 
--- `tells f v b g`: called for the value v, the test f may return b and leave the state g
+-- `tells f v b g`: if the test f is called for the value v, it may return b and is in the state g afterwards
 module _ {F V : Type 0} (tells : F → V → Bool → F → Type 0) (objects : Objects V) where
-  -- the test may be called for the object at the place
+  -- there is an object at the place p, and the test may return `answer` for it and be in the state `after` then
   abbrev pub TellsAt : F → Place → Bool → F → Type 0
   TellsAt test p answer after = (value : V) × (object_at objects p ≡ Some value) × tells test value answer after
 
-  -- THE TEST WAS CALLED for each of these members once, in their order, and returned these results. Its state was `test`
-  -- before, and is `last` afterwards
+  -- THE TEST WAS CALLED once for each member of a sequence, in its order, and returned the given results. The test was in the state `test` before, and is
+  -- in the state `last` afterwards
   abbrev pub AreAnswers : F → List Place → List Bool → F → Type 0
   AreAnswers test [] [] last = last ≡ test
   AreAnswers test [] (answer ∷ answers) last = ⊥

@@ -1,8 +1,9 @@
--- In which chain a number belongs: linear hashing.
+-- These definitions say in which chain a hash belongs, by linear hashing.
 use Rattle.std.specs.Prelude.{◌≡◌, ℕ, ◌+◌, ◌*◌, ◌^◌, ◌≢◌, ◌<◌, ◌≤◌, ◌/◌, cond, ltb, bit_and}
 use Rattle.ic_hash_table.specs.declared.slots.Slots.{Slots}
 
--- the number's bits within the mask, or if that chain is not in use yet, those within half of the mask
+-- the chain of a hash: its number is made of the bits of the hash within the mask. If this chain is not in use yet, the bits within half of the mask make
+-- the number
 abbrev pub slot_of : Slots → ℕ → ℕ
 slot_of s hash = cond (ltb (bit_and hash s.mask) s.used) (bit_and hash s.mask) (bit_and (bit_and hash s.mask) (s.mask / 2))
 
@@ -13,11 +14,11 @@ pub record IsWellFormed (s : Slots) : Type 0 where
   pub within : s.used ≤ s.mask + 1
   pub mask : (k : ℕ) × (s.mask + 1 ≡ 2 ^ k)
 
--- the chain that had the members of this one before this one was in use
+-- the chain that had the members of chain i before chain i came into use
 abbrev pub split_of : Slots → ℕ → ℕ
 split_of s i = bit_and i (s.mask / 2)
 
--- ONE MORE CHAIN: members that belong in it belonged in one other chain before, and all others belong where they did
+-- ONE MORE CHAIN is in use: each hash that belongs in the new chain belonged in one old chain before. Every other hash belongs where it did
 pub record IsSplit (old new : Slots) : Type 0 where
   pub used : new.used ≡ old.used + 1
   pub from : (hash : ℕ) → slot_of new hash ≡ old.used → slot_of old hash ≡ split_of new old.used

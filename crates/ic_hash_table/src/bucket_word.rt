@@ -1,4 +1,4 @@
-//! The word of one bucket.
+//! Each bucket of a hash table is a word that names the first member of a chain.
 //!
 //! ```text
 //! let bucket: NarrowPlaceWord = BucketWord::of(None); // an empty bucket of 4 bytes
@@ -13,29 +13,28 @@ use ic_unsafe_ref::Place;
 
 /// A bucket: a word that stores the first member of a chain, or none.
 pub trait BucketWord: Drop {
-    // The place that a word names, none if it names no place.
+    // The place that a word names, or none if the word names no place.
     ghost front_of: { Self → Option Place };
 
-    // The places that a row of words names.
+    // The places that the words of a row name, in their order.
     ghost fronts: { List Self → List (Option Place) };
 
-    // The word of a place or none.
+    // The word that names a place, or the word that names no place.
     ghost word_for: { Option Place → Self };
 
-    // The words have room for the name of this place.
+    // A word has room for the name of the place.
     ghost CanKeep: { Place → Type 0 };
 
-    /// The word of a place, or of none. It requires that the word has room for its name. O(1).
+    /// Makes the word that names a place, or the word that names no place. It requires that a word has room for the name of the place. O(1).
     fn of(front: Option<Place>) -> Self
         requires kept { IsNameable CanKeep front }
         ensures { result ≡ word_for front };
 
-    /// The place, or `None` if the word names no place. O(1).
+    /// The place that the word names, or `None` if it names no place. O(1).
     fn get(&self) -> Option<Place>
         ensures { result ≡ front_of self.now };
 
-    // The laws: a row names the places that its words name, and the word of a place that has room for it names that
-    // place.
+    // The laws: `fronts` gives for each word of a row the place that it names. The word made for a place names this place, if it has room for it.
     ghost fronts_are: { (words : List Self) → fronts words ≡ map front_of words };
 
     ghost word_names: { (front : Option Place) → IsNameable CanKeep front → front_of (word_for front) ≡ front };
@@ -104,10 +103,10 @@ impl BucketWord for NarrowPlaceWord {
     ghost word_names = { λ front room. refl };
 }
 
-// The word of a place is a multiple of 8 below this number, 2^36, as `Place::from_word` requires.
+// The words that name places are multiples of 8 below this number, 2^36, as `Place::from_word` requires.
 const WORDS_END: u64 = 68_719_476_736;
 
-// The place that a word names, none if it is not the word of a place.
+// The place that a word names, or `None` if no place has this word.
 #[inline]
 #[tactic(auto, using(ic_unsafe_ref::proofs::PlaceLemmas::place_at_other))]
 fn place_named_by(word: u64) -> Option<Place>
@@ -119,8 +118,7 @@ fn place_named_by(word: u64) -> Option<Place>
     Place::from_word(word)
 }
 
-/// A plain word: `8 * (index + 1)` of the first member, and 0 for none. A number that is not the word of a place is read
-/// as none, too.
+/// A plain word: `8 * (index + 1)` names the first member, and 0 names none. A number that is not the word of any place also names none.
 impl BucketWord for u64 {
     ghost use Rattle.std.specs.Prelude.{refl};
     ghost use Rattle.ic_unsafe_ref.proofs.PlaceLemmas.{place_at_word};
@@ -152,7 +150,7 @@ impl<L: LinkOps> BucketWordFor<L> for u64 {
     ghost keeps_named = { λ place named. tt };
 }
 
-/// A plain word of 4 bytes. It stores the same numbers as one of 8 bytes.
+/// A plain word of 4 bytes, which stores the same numbers as a plain word of 8 bytes.
 impl BucketWord for u32 {
     ghost use Rattle.std.specs.Prelude.{refl};
     ghost use Rattle.ic_unsafe_ref.proofs.PlaceLemmas.{place_at_word};

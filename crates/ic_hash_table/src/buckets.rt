@@ -1,4 +1,4 @@
-//! The buckets: the first member of each chain, by the chain's number.
+//! The buckets of a hash table store the first member of each chain, by the chain's number.
 //!
 //! ```text
 //! let buckets = empty_buckets(rt.alloc(), 1024)?;
@@ -13,29 +13,29 @@ use ic_link_ops::LinkOps;
 use ic_unsafe_ref::Place;
 use std::alloc::Allocator;
 
-/// A row of first members, of fixed length: a `Vec` that the caller has made, an array, or lent memory. No call of it can take memory.
+/// A row of buckets, of fixed length, which store the first members of chains: a `Vec` that the caller has made, an array, or lent memory. No call on a
+/// row can take memory.
 pub trait BucketRow {
-    // The first member of each chain, none if the chain is empty.
+    // The first member of each chain, or none for an empty chain.
     ghost fronts: { Self → List (Option Place) };
 
-    // The buckets have room for the name of this place.
+    // Each bucket has room for the name of the place.
     ghost CanKeep: { Place → Type 0 };
 
-    // THE SAME BUCKETS, as many and in the same memory: each has the word that it had, or the word of its present first
-    // member.
+    // THE BUCKETS ARE KEPT: both rows have equally many buckets, and are in the same memory. Each bucket has the word that it had, or the word of its
+    // present first member.
     ghost Rewrites: { Self → Self → Type 0 };
 
     /// The number of buckets. O(1).
     fn count(&self) -> usize
         ensures { result ≡ length (fronts self.now) };
 
-    /// The first member of chain `at`, `None` if the chain is empty. It requires that `at` is less than the number of
-    /// buckets. O(1).
+    /// The first member of chain `at`, or `None` if the chain is empty. It requires that `at` is less than the number of buckets. O(1).
     fn front(&self, at: usize) -> Option<Place>
         requires within { at < length (fronts self.now) }
         ensures { result ≡ slice_index_or (fronts self.now) at None };
 
-    /// Sets the first member of chain `at`, `None` for an empty chain. It requires that `at` is less than the number of buckets, and that
+    /// Sets the first member of chain `at`, or sets `None` if the chain is to be empty. It requires that `at` is less than the number of buckets, and that
     /// the buckets have room for the name of the place. O(1).
     fn set_front(&mut self, at: usize, front: Option<Place>)
         requires within { at < length (fronts self.old) }
@@ -43,7 +43,7 @@ pub trait BucketRow {
         ensures fronts { fronts self.new ≡ set (fronts self.old) at front }
         ensures rewrites { Rewrites self.old self.new };
 
-    // The laws: buckets are the same as themselves; being the same is transitive; and the same buckets are as many.
+    // The laws: each row is a rewriting of itself, two rewritings in turn are one, and a rewriting keeps the number of buckets.
     ghost rewrites_none: { (b : Self) → Rewrites b b };
 
     ghost rewrites_on: { (a b c : Self) → Rewrites a b → Rewrites b c → Rewrites a c };
@@ -51,7 +51,7 @@ pub trait BucketRow {
     ghost rewrites_count: { (a b : Self) → Rewrites a b → length (fronts b) ≡ length (fronts a) };
 }
 
-/// Buckets with room for each place that links of this type can name: those of 8 bytes for any links, and those of 4 bytes for links whose
+/// Buckets with room for each place that links of this type can name. Buckets of 8 bytes are for any links, and buckets of 4 bytes are for links whose
 /// words have 4 bytes.
 pub trait BucketsFor<L: LinkOps>: BucketRow {
     ghost keeps_named: { (place : Place) → L.CanName place → Self.CanKeep place };
@@ -129,7 +129,7 @@ impl<L: LinkOps, W: BucketWordFor<L>, const N: usize> BucketsFor<L> for [W; N] {
     ghost keeps_named = { W.keeps_named };
 }
 
-/// Buckets in lent memory, for example of a mapped file. The lender gets them back when the table is gone.
+/// Buckets in lent memory, for example of a mapped file. When the table is dropped, its caller gets the buckets back.
 impl<W: BucketWord> BucketRow for &mut [W] {
     ghost use Rattle.ic_hash_table.specs.Buckets.{AreRewrittenIn};
     ghost use Rattle.ic_hash_table.specs.BucketLaws.{lent_none, lent_on, rewritten_count, fronts_alike};

@@ -1,5 +1,5 @@
-//! Edits of one chain: an insert of a member at its front, the removal of the member after another, and the insert of a
-//! second chain at its front.
+//! These functions edit one chain. They insert a member at its front, remove the member after a given one, or insert all members of a second chain at its
+//! front.
 //!
 //! ```text
 //! let front = unlink_after(&mut links, front, before, place);
@@ -15,7 +15,7 @@ use ic_link_ops::singly_linked_list::SinglyLinkedListOps;
 use ic_singly_linked_list::SinglyLinkedList;
 use ic_unsafe_ref::Place;
 
-// Removes the member after `before` from the chain and unlinks it. Returns the chain's first member then.
+// Removes the member `place`, which comes directly after `before`, from the chain and unlinks it. Returns the first member that the chain then has.
 #[inline]
 pub(crate) fn unlink_after<L: SinglyLinkedListOps>(
     links: &mut L,
@@ -38,8 +38,7 @@ pub(crate) fn unlink_after<L: SinglyLinkedListOps>(
     chain.first()
 }
 
-// Inserts a place that is linked, and in no chain, at the front of a chain. Returns the first member, which is this
-// place.
+// Inserts a linked place, which is in no chain yet, at the front of a chain. Returns the chain's new first member, which is `place`.
 #[inline]
 pub(crate) fn link_front<L: SinglyLinkedListOps>(
     links: &mut L,
@@ -59,7 +58,7 @@ pub(crate) fn link_front<L: SinglyLinkedListOps>(
     chain.first()
 }
 
-// Inserts all members of one chain before those of another. Returns the first member of the second chain then.
+// Inserts all members of the chain `front` before the members of the chain `rest`. Returns the first member of the joined chain.
 pub(crate) fn join_chains<L: SinglyLinkedListOps>(
     links: &mut L,
     front: Option<Place>,

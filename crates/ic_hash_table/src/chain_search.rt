@@ -1,4 +1,4 @@
-//! Walks along one chain, from its first member.
+//! These functions walk along one chain, from its first member.
 //!
 //! ```text
 //! let (before, found) = find_in_chain(&links, &objects, &mut probe, front);
@@ -25,7 +25,7 @@ pub(crate) fn reference<V>(place: Option<Place>) -> Option<UnsafeRef<V>>
     }
 }
 
-// Whether the searched key equals the object of a member.
+// Whether the object of the member `place` has the searched key.
 #[inline]
 fn is_match<V, P: Probe<V>, O: Values<V>>(objects: &O, probe: &mut P, place: Place) -> bool
     requires placed { is_placed (O.values objects.now) place ≡ true }
@@ -38,7 +38,7 @@ fn is_match<V, P: Probe<V>, O: Values<V>>(objects: &O, probe: &mut P, place: Pla
     probe.is_equal(objects.value(place))
 }
 
-// Walks along a chain to the first member that equals the searched key. Returns that member, and the one before it.
+// Walks along a chain up to the first member that has the searched key. Returns that member, and the member before it.
 #[inline]
 pub(crate) fn find_in_chain<V, L: SinglyLinkedListOps, P: Probe<V>, O: Values<V>>(
     links: &L,
@@ -66,7 +66,7 @@ pub(crate) fn find_in_chain<V, L: SinglyLinkedListOps, P: Probe<V>, O: Values<V>
     (before, None)
 }
 
-// Walks along a chain to this place. Returns the place, if it is a member, and the member before it. It makes no look.
+// Walks along a chain up to the given place, without comparing keys. Returns the place, if it is a member, and the member before it.
 pub(crate) fn find_place_in_chain<L: SinglyLinkedListOps>(
     links: &L,
     front: Option<Place>,

@@ -1,4 +1,4 @@
-//! The first member with a key, or the chain where an object with that key belongs: one search for both.
+//! One search for a key finds the first member with the key, or the chain where an object with the key belongs.
 //!
 //! ```text
 //! match table.entry(&mut links, &objects, &7) {
@@ -19,7 +19,7 @@ use ic_link_ops::singly_linked_list::SinglyLinkedListOps;
 use ic_link_ops::{AlreadyLinked, LinkOps, PlaceWord};
 use ic_unsafe_ref::{UnsafeRef, Values};
 
-/// The first member with a key, with its table and the table of its links.
+/// The first member with a key, together with its hash table and the table of links.
 pub struct OccupiedEntry<'a, A, B, L> {
     table: &'a mut HashTable<A, B>,
     links: &'a mut L,
@@ -43,7 +43,7 @@ impl<A, B, L> Drop for OccupiedEntry<'_, A, B, L> {
     }
 }
 
-/// The chain of objects with a key that no member has, with its table and the table of its links.
+/// The chain where objects with a key belong that no member has, together with the hash table and the table of links.
 pub struct VacantEntry<'a, A, B, L> {
     table: &'a mut HashTable<A, B>,
     links: &'a mut L,
@@ -63,28 +63,28 @@ impl<A, B, L> Drop for VacantEntry<'_, A, B, L> {
     }
 }
 
-/// The error of an insert that was refused since the object is linked. It has the entry, as it was, and the object.
+/// The error of an insert that was refused because the object is linked already. It has the unchanged entry, and the object.
 #[derive(Drop)]
 pub struct RefusedInsert<'a, A: HashAdapter, B, L> {
-    /// The entry. The table is as it was.
+    /// The vacant entry of the refused insert, whose hash table is unchanged.
     pub entry: VacantEntry<'a, A, B, L>,
-    /// The object that was refused.
+    /// The object whose insert was refused.
     pub object: UnsafeRef<A::Value>,
 }
 
-/// The result of [`entry`](HashTable::entry).
+/// The result of a search by [`entry`](HashTable::entry).
 #[derive(Drop)]
 pub enum Entry<'a, A, B, L> {
-    /// A member has the key.
+    /// A member has the searched key.
     Occupied(OccupiedEntry<'a, A, B, L>),
-    /// No member has the key.
+    /// No member has the searched key.
     Vacant(VacantEntry<'a, A, B, L>),
 }
 
 impl<A: HashAdapter, B: BucketRow> HashTable<A, B> {
-    /// The first member with this key, or the chain where an object with it belongs.
+    /// Finds the first member with `key`, or the chain where an object with `key` belongs.
     ///
-    /// It requires that all members are placed, with the keys that they were inserted by. It makes as many looks as
+    /// It requires that `objects` has every member, with the key that the member was inserted by. It makes as many key comparisons as
     /// [`find`](HashTable::find), and takes no memory. O(length of the chain).
     #[inline]
     pub fn entry<'a, L: SinglyLinkedListOps, O: Values<A::Value>>(
@@ -122,7 +122,7 @@ impl<A: HashAdapter, B: BucketRow> HashTable<A, B> {
 }
 
 impl<A: HashAdapter, B: BucketsFor<L>, L: SinglyLinkedListOps> OccupiedEntry<'_, A, B, L> {
-    /// The member. O(1).
+    /// The member that has the searched key. O(1).
     #[inline]
     pub fn get(&self) -> UnsafeRef<A::Value>
         ensures { result ≡ member_of self.now }
@@ -130,9 +130,9 @@ impl<A: HashAdapter, B: BucketsFor<L>, L: SinglyLinkedListOps> OccupiedEntry<'_,
         UnsafeRef::new(self.member.place())
     }
 
-    /// Removes the member and returns it. O(1): no hash, no look, and no memory.
+    /// Removes the member of this entry and returns it. O(1): it computes no hash, compares no keys, and takes no memory.
     ///
-    /// It requires that the table still holds its members, and that [`entry`](HashTable::entry) has returned this entry for it.
+    /// It requires that the table still holds its members, and that [`entry`](HashTable::entry) has returned this entry for the table.
     #[inline]
     pub fn remove<O: Values<A::Value>>(self, objects: &O) -> UnsafeRef<A::Value>
         requires held { HoldsSome L.successor (number A.key_of A.hash_of) B.fronts (L.table self.links.now) self.table.now (O.values objects.now) }
@@ -158,10 +158,10 @@ impl<A: HashAdapter, B: BucketsFor<L>, L: SinglyLinkedListOps> OccupiedEntry<'_,
 }
 
 impl<'a, A: HashAdapter, B: BucketsFor<L>, L: SinglyLinkedListOps> VacantEntry<'a, A, B, L> {
-    /// Inserts the object, unless its link is refused. O(1): no hash, no look, and no memory.
+    /// Inserts the object, unless its link is refused. O(1): it computes no hash, compares no keys, and takes no memory.
     ///
-    /// It requires that the object is placed, that its place is covered, and that the chain is that of its key. This holds if its key
-    /// equals the searched one. If the link is refused, the object is returned and the table is as it was.
+    /// It requires that `objects` has the object, that the table of links covers its place, and that the object belongs in the entry's chain. An object
+    /// whose key equals the searched key belongs there. If the link is refused, the call returns the object, and the table is unchanged.
     #[inline]
     pub fn insert<O: Values<A::Value>>(
         self,
@@ -184,10 +184,9 @@ impl<'a, A: HashAdapter, B: BucketsFor<L>, L: SinglyLinkedListOps> VacantEntry<'
         let front = table.buckets.front(at);
         table.insert_at(links, at, (None, front), object)
     }
-    /// Inserts the object as [`insert`](VacantEntry::insert) does, and returns the occupied entry of this new member. O(1).
+    /// Inserts the object as [`insert`](VacantEntry::insert) does, and returns the occupied entry of the new member. O(1).
     ///
-    /// It requires what `insert` does. If the link is refused, the object and the entry are returned, and the table is
-    /// as it was.
+    /// It requires what `insert` requires. If the link is refused, the call returns the object and this entry, and the table is unchanged.
     #[inline]
     pub fn insert_entry<O: Values<A::Value>>(
         self,
@@ -219,11 +218,10 @@ impl<'a, A: HashAdapter, B: BucketsFor<L>, L: SinglyLinkedListOps> VacantEntry<'
 }
 
 impl<'a, A: HashAdapter, B: BucketsFor<L>, L: SinglyLinkedListOps> Entry<'a, A, B, L> {
-    /// Returns the occupied entry of the member that has the key. If no member has it, inserts the object and returns
-    /// its entry.
+    /// Returns the occupied entry of the member that has the key. If no member has the key, it inserts the object and returns the object's entry.
     ///
-    /// If the entry is vacant, it requires what [`VacantEntry::insert`] does; if the link is refused, the object and the entry are returned,
-    /// and the table is as it was. If the entry is occupied, nothing changes. O(length of the chain).
+    /// For a vacant entry it requires what [`VacantEntry::insert`] requires. If the link is refused, the call returns the object and the vacant entry, and
+    /// the table is unchanged. If the entry is occupied, nothing changes. O(length of the chain).
     #[inline]
     pub fn or_insert<O: Values<A::Value>>(
         self,

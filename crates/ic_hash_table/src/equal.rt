@@ -1,4 +1,4 @@
-//! Members with equal keys.
+//! Members of a hash table may have equal keys, and these calls insert them side by side and find them one after another.
 //!
 //! ```text
 //! let mut at = table.find(&links, &objects, &7); // the first member with the key 7
@@ -21,11 +21,11 @@ use ic_link_ops::{AlreadyLinked, LinkOps};
 use ic_unsafe_ref::{UnsafeRef, Values};
 
 impl<A: HashAdapter, B: BucketRow> HashTable<A, B> {
-    /// The next member after this one that has an equal key, or `None` if none follows.
+    /// The next member after `member` that has an equal key, or `None` if no such member follows.
     ///
-    /// It requires that the object is a member, with the key that it was inserted by. Begin with the member that [`find`](HashTable::find)
-    /// returns to get all members with a key, in their order. It makes one look for each member of the chain from the next one up to the
-    /// one that it finds. No memory. O(length of the chain).
+    /// It requires that `member` is a member of the table, with the key that it was inserted by. To get all members with a key, in their order, begin with
+    /// the member that [`find`](HashTable::find) returns. The call compares keys once for each member of the chain after the given one, up to the member
+    /// that it finds. It takes no memory. O(length of the chain).
     #[inline]
     pub fn next_equal<L: SinglyLinkedListOps, O: Values<A::Value>>(
         &self,
@@ -53,9 +53,9 @@ impl<A: HashAdapter, B: BucketRow> HashTable<A, B> {
 impl<A: HashAdapter, B> HashTable<A, B> {
     /// Inserts the object, directly before the first member with an equal key if there is one, unless its link is refused.
     ///
-    /// The object is then the first one with its key. If the others are side by side, [`next_equal`](HashTable::next_equal) finds them right
-    /// after it. It requires and refuses what [`insert`](HashTable::insert) does, makes as many looks as [`find`](HashTable::find), and takes
-    /// no memory. O(length of the chain).
+    /// The object is then the first member with its key. If the other members with this key are side by side, [`next_equal`](HashTable::next_equal) finds
+    /// them directly after the object. The call requires what [`insert`](HashTable::insert) requires, and refuses what `insert` refuses. It makes as many
+    /// key comparisons as [`find`](HashTable::find), and takes no memory. O(length of the chain).
     #[inline]
     pub fn insert_equal<L: SinglyLinkedListOps, O: Values<A::Value>>(
         &mut self,

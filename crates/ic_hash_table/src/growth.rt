@@ -1,4 +1,4 @@
-//! Growth and shrinking, one chain at a time.
+//! A hash table grows and shrinks by one chain at a time.
 //!
 //! ```text
 //! if table.len() > 2 * table.chains() {
@@ -40,7 +40,7 @@ fn belongs<A: HashAdapter, O: Values<A::Value>>(
     slots.slot(adapter.hash(key)) == to
 }
 
-// Inserts a linked place at the front of one of two chains.
+// Inserts a linked place at the front of one of two chains: the second one if the place `moves`, and otherwise the first one.
 #[inline]
 fn link_either<L: SinglyLinkedListOps>(
     links: &mut L,
@@ -66,8 +66,8 @@ fn link_either<L: SinglyLinkedListOps>(
     }
 }
 
-// Splits a chain in two. Returns the first of the members that stay, and the first of those that belong in chain `to`. No link is
-// acquired or released.
+// Splits a chain in two. Returns the first of the members that stay, and the first of the members that belong in chain `to`. No link is acquired or
+// released.
 pub(crate) fn part_chain<A: HashAdapter, L: SinglyLinkedListOps, O: Values<A::Value>>(
     adapter: A,
     slots: Slots,
@@ -104,9 +104,9 @@ impl<A: HashAdapter, B> HashTable<A, B> {
     /// Takes one more bucket into use, and splits the members of one chain between that chain and a new one. Returns false, and
     /// changes nothing, if all buckets or 4,294,967,295 buckets are in use.
     ///
-    /// It requires that all members are placed, with the keys that they were inserted by. All members stay, in some order. If members
-    /// with equal keys were side by side, they still are. O(members of that chain), with one hash and one write for each. It makes no
-    /// look, acquires and releases no link, and takes no memory.
+    /// It requires that `objects` has every member, with the key that the member was inserted by. All members stay in the table, in some order. Members
+    /// with equal keys that were side by side stay side by side. O(members of the split chain), with one hash and one write for each member. The call
+    /// compares no keys, acquires and releases no link, and takes no memory.
     pub fn grow_one<L: SinglyLinkedListOps, O: Values<A::Value>>(
         &mut self,
         links: &mut L,
@@ -145,12 +145,12 @@ impl<A: HashAdapter, B> HashTable<A, B> {
         true
     }
 
-    /// Takes the last bucket out of use: its members return to the chain from which growth split them. Returns false, and changes nothing,
-    /// if only one bucket is in use. It undoes [`grow_one`](HashTable::grow_one), except for the order of the members.
+    /// Takes the last bucket out of use, and its members return to the chain from which growth had split them. Returns false, and changes nothing, if only
+    /// one bucket is in use. The call undoes [`grow_one`](HashTable::grow_one), except for the order of the members.
     ///
-    /// It requires that the links represent its chains, and reads no object. All members stay, in some order. If members with equal keys were
-    /// side by side, they still are. O(members of that chain). It makes no hash and no look, acquires and releases no link, and takes no
-    /// memory.
+    /// It requires that the links represent the table's chains, and reads no object. All members stay in the table, in some order. Members with equal keys
+    /// that were side by side stay side by side. O(members of the last chain). The call computes no hash, compares no keys, acquires and releases no link,
+    /// and takes no memory.
     pub fn shrink_one<L: SinglyLinkedListOps>(&mut self, links: &mut L) -> bool
     where
         B: BucketsFor<L>,

@@ -1,4 +1,4 @@
-//! A walk over the objects of a hash table.
+//! A walk returns the objects of a hash table one after another.
 //!
 //! ```text
 //! for task in table.iter(&links, &objects) {
@@ -20,10 +20,9 @@ use ic_unsafe_ref::{Objects, Place, Values};
 use std::alloc::AllocError;
 use std::marker::PhantomData;
 
-/// A walk over the objects of a hash table, chain by chain, each from its first member on.
+/// A walk over the objects of a hash table: it visits chain after chain, and each chain from its first member on.
 ///
-/// The bound `A::Key: 'a` holds for every key that is a part of its object. Only callers that are generic in the adapter
-/// have to write it.
+/// The bound `A::Key: 'a` holds for every key that is a part of its object. Only callers that are generic in the adapter have to write this bound.
 pub struct Iter<'a, A: HashAdapter, B, L, O = Objects<<A as HashAdapter>::Value>>
 where
     A::Key: 'a,
@@ -60,8 +59,7 @@ impl<'a, A: HashAdapter, B: BucketRow, L: SinglyLinkedListOps, O: Values<A::Valu
 
     ghost remaining = { item_count (objects_left L.successor L.table B.fronts O.values) };
 
-    /// The next object, or `None` if none is left. The whole walk takes one step for each member and each bucket, and
-    /// no look.
+    /// The next object, or `None` if none is left. The whole walk takes one step for each member and each bucket, and compares no keys.
     fn next(&mut self) -> Option<&'a A::Value> {
         let place = self.table.next(self.links, self.objects, self.at)?;
         let objects: &'a O = self.objects;
@@ -76,7 +74,7 @@ impl<A: HashAdapter, B, L, O> Clone for Iter<'_, A, B, L, O> {
 
     ghost is_infallible = { λ _. ⊤ };
 
-    /// A walk over the same objects, from the same one on. It never fails.
+    /// Makes a second walk, which has the same objects left. It never fails.
     fn clone(&self) -> Result<Self, AllocError> {
         Ok(Iter {
             table: self.table,
@@ -91,8 +89,8 @@ impl<A: HashAdapter, B, L, O> Clone for Iter<'_, A, B, L, O> {
 impl<A: HashAdapter, B: BucketRow> HashTable<A, B> {
     ghost use Rattle.ic_hash_table.specs.Iter.{objects_left, CanWalk};
 
-    /// A walk over the objects of the table, chain by chain. It requires that all members are placed, with the keys that they were
-    /// inserted by. O(1).
+    /// A walk over the objects of the table, chain by chain. It requires that `objects` has every member, with the key that the member was inserted by.
+    /// O(1).
     pub fn iter<'a, L: SinglyLinkedListOps, O: Values<A::Value>>(
         &'a self,
         links: &'a L,
@@ -112,8 +110,8 @@ impl<A: HashAdapter, B: BucketRow> HashTable<A, B> {
         }
     }
 
-    /// A value that prints the objects of the table, chain by chain: `{:?}` writes `[10, 20]`, and `{:#?}` writes each object on lines of
-    /// its own. It requires that all members are placed, with the keys that they were inserted by. O(1), and no memory.
+    /// A value that prints the objects of the table, chain by chain: `{:?}` writes `[10, 20]`, and `{:#?}` writes each object on lines of its own. It
+    /// requires that `objects` has every member, with the key that the member was inserted by. O(1). It takes no memory.
     pub fn debug<'a, L: SinglyLinkedListOps, O: Values<A::Value>>(
         &'a self,
         links: &'a L,

@@ -1,5 +1,4 @@
-//! Calls over a table of links that stores the values beside them. A look at a member reads one entry, which has both its value and its
-//! link.
+//! These calls are for a table of links that also stores the values. One read of an entry gives both the value and the link of a member.
 //!
 //! ```text
 //! links.set_value(object.place(), 7);
@@ -23,8 +22,8 @@ impl<A: HashAdapter, B> HashTable<A, B> {
     /// Inserts the object, unless its link is refused: [`insert`](HashTable::insert) for a table of links that stores the values.
     /// O(1).
     ///
-    /// It requires that the object's place is covered, and that the members and the object are placed. If the link is refused, the object
-    /// is returned and the table is as it was.
+    /// It requires that the table of links covers the object's place, and stores the values of the object and of every member. If the link is refused, the
+    /// call returns the object, and the table is unchanged.
     #[inline]
     pub fn insert_keyed<L: SinglyLinkedListOps + LinkValues<A::Value>>(
         &mut self,
@@ -52,8 +51,9 @@ impl<A: HashAdapter, B> HashTable<A, B> {
     /// Removes the object, and returns whether it was a member: [`remove`](HashTable::remove) for a table of links that stores the
     /// values.
     ///
-    /// It requires that the object is placed, with the key that it was inserted by. If it was not a member, nothing has changed. It walks
-    /// along its chain: one hash, no look, and no memory. O(length of the chain).
+    /// It requires that the table of links stores the object's value, with the key that the object was inserted by. If the object was not a member,
+    /// nothing has changed. The call computes one hash, walks along the object's chain without comparing keys, and takes no memory. O(length of the
+    /// chain).
     pub fn remove_keyed<L: SinglyLinkedListOps + LinkValues<A::Value>>(
         &mut self,
         links: &mut L,
@@ -82,8 +82,8 @@ impl<A: HashAdapter, B> HashTable<A, B> {
 
     /// Removes the first member with this key and returns it: [`remove_by`](HashTable::remove_by) for a table of links that stores the values.
     ///
-    /// If there is none, it returns `None` and changes nothing. It makes as many looks as [`find`](HashTable::find),
-    /// and takes no memory. O(length of the chain).
+    /// If no member has the key, the call returns `None` and changes nothing. It makes as many key comparisons as [`find`](HashTable::find), and takes no
+    /// memory. O(length of the chain).
     #[inline]
     pub fn remove_by_keyed<L: SinglyLinkedListOps + LinkValues<A::Value>>(
         &mut self,

@@ -1,8 +1,8 @@
-//! An intrusive hash table over any table for singly linked lists.
+//! An intrusive hash table, whose links are in any table for singly linked lists.
 //!
-//! Each bucket stores the first member of a chain, and a member's link names the next one of its chain. The caller provides the buckets,
-//! and the objects stay at their places, so no call takes memory. A table grows by taking buckets that it has already into use, one at a
-//! time, and never hashes all of its members again.
+//! Each bucket stores the first member of a chain, and a member's link names the next one of its chain. The caller provides the buckets, and the objects
+//! stay at their places, so no call takes memory. A table grows when it takes one more of its buckets into use, and it never hashes all of its members
+//! again.
 //!
 //! ```text
 //! let mut table = HashTable::new(ById, buckets); // a `Vec` of empty buckets, or an array
@@ -11,7 +11,7 @@
 //! let taken = table.remove_by(&mut links, &objects, &7);
 //! ```
 //!
-//! In contracts the table holds a sequence of members: those of each chain after those of the chain before. An insert adds the object
+//! In contracts the table holds a sequence of members: the members of one chain come after the members of the chain before it. An insert adds the object
 //! somewhere in the sequence, a removal removes it, and growth reorders the sequence.
 #![tactic(auto)]
 

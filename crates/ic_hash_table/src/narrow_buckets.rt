@@ -1,4 +1,4 @@
-//! Buckets of 4 bytes, over links whose words have 4 bytes.
+//! Buckets have 4 bytes each if the words of the links have 4 bytes.
 
 ghost use Rattle.std.specs.Prelude.{◌≡◌};
 ghost use Rattle.ic_unsafe_ref.specs.declared.place.Place.{Place};
@@ -11,7 +11,7 @@ use ic_link_ops::{
 };
 use std::alloc::Allocator;
 
-/// Words of 4 bytes.
+/// Link words that have 4 bytes each.
 pub trait NarrowWords: Words {
     ghost is_narrow: { Self.width ≡ narrow };
 }

@@ -1,4 +1,4 @@
-//! Empty buckets for a new table.
+//! These calls make the empty buckets of a new table.
 //!
 //! ```text
 //! let buckets = empty_buckets(rt.alloc(), 1024)?;
@@ -12,7 +12,7 @@ use crate::BucketWord;
 use ic_link_ops::{NarrowPlaceWord, PlaceWord};
 use std::alloc::{AllocError, Allocator};
 
-// A vector of this many words that name no place.
+// Makes a vector of `count` words that name no place.
 fn empty_words<W: BucketWord, A: Allocator>(alloc: A, count: usize) -> Result<Vec<W, A>, AllocError>
     ensures count { IfOk result (λ words. length words.items ≡ count) }
     ensures empty { IfOk result (λ words. AllByRecursion (λ front. front ≡ None) (W.fronts words.items)) }
@@ -24,9 +24,9 @@ fn empty_words<W: BucketWord, A: Allocator>(alloc: A, count: usize) -> Result<Ve
     Ok(words)
 }
 
-/// Makes this many empty buckets, each with room for every place: 8 bytes a bucket. O(n) for n buckets.
+/// Makes `count` empty buckets of 8 bytes each, which have room for every place. O(n) for n buckets.
 ///
-/// It makes one request for memory. If that is refused, nothing is made.
+/// It makes one request for memory. If this request is refused, no bucket is made.
 pub fn empty_buckets<A: Allocator>(alloc: A, count: usize) -> Result<Vec<PlaceWord, A>, AllocError>
     ensures count { IfOk result (λ buckets. length buckets.items ≡ count) }
     ensures empty { IfOk result (λ buckets. AllByRecursion (λ front. front ≡ None) buckets.items) }
@@ -34,9 +34,9 @@ pub fn empty_buckets<A: Allocator>(alloc: A, count: usize) -> Result<Vec<PlaceWo
     empty_words(alloc, count)
 }
 
-/// Makes this many empty buckets of 4 bytes each, for links whose words have 4 bytes. O(n) for n buckets.
+/// Makes `count` empty buckets of 4 bytes each, for links whose words have 4 bytes. O(n) for n buckets.
 ///
-/// It makes one request for memory. If that is refused, nothing is made.
+/// It makes one request for memory. If this request is refused, no bucket is made.
 pub fn empty_narrow_buckets<A: Allocator>(
     alloc: A,
     count: usize,

@@ -1,4 +1,4 @@
-//! How a search compares its key with the objects of a chain.
+//! A search compares its key with the objects of a chain.
 //!
 //! ```text
 //! let mut probe = KeyProbe::new(ById, &5);
@@ -11,9 +11,9 @@ ghost use Rattle.ic_hash_table.specs.KeyProbe.{adapter_of, key_of_probe, looks_o
 
 use crate::HashAdapter;
 
-/// A search key of any form: its hash, and which values equal it.
+/// A search key of any form, which has a hash and can be compared with values.
 ///
-/// A search calls `is_equal` once for each member that it passes. Such a call is a look.
+/// A search calls `is_equal` once for each member that it passes. Each call of `is_equal` is called a look.
 pub trait Probe<V> {
     // Whether the searched key equals a value.
     ghost equal: { Self → V → Bool };
@@ -21,17 +21,16 @@ pub trait Probe<V> {
     // The hash of the searched key.
     ghost hash: { Self → ℕ };
 
-    // The number of looks that the probe has made.
+    // The number of looks (calls of `is_equal`) that the probe has made.
     ghost count: { Self → ℕ };
 
     /// The hash of the searched key. O(1).
     fn hash(&self) -> u64
         ensures { result ≡ hash self.now };
 
-    /// Whether the searched key equals `value`: a look.
+    /// Whether the searched key equals `value`. The call counts as one look.
     ///
-    /// It requires that the count of looks is below `u64::MAX`. The probe counts one look more, compares as before, and
-    /// has the same hash.
+    /// It requires that the count of looks is below `u64::MAX`. The probe counts one look more, and keeps its key and its hash.
     fn is_equal(&mut self, value: &V) -> bool
         requires room { count self.old < 18446744073709551615 }
         ensures answer { result ≡ equal self.old value.now }
@@ -40,7 +39,7 @@ pub trait Probe<V> {
         ensures hash { hash self.new ≡ hash self.old };
 }
 
-/// A search for a key, by the adapter of a table.
+/// A search for a key, which uses the adapter of a hash table.
 #[derive(Drop)]
 pub struct KeyProbe<'k, A: HashAdapter>
 where
@@ -52,7 +51,7 @@ where
 }
 
 impl<'k, A: HashAdapter> KeyProbe<'k, A> {
-    /// A search for `key` that has made no look. O(1).
+    /// A search for `key` that has not compared any object yet. O(1).
     #[inline]
     pub fn new(adapter: A, key: &'k A::Key) -> KeyProbe<'k, A>
         ensures adapter { adapter_of result ≡ adapter }
@@ -66,7 +65,7 @@ impl<'k, A: HashAdapter> KeyProbe<'k, A> {
         }
     }
 
-    /// The number of looks that it has made: how many objects it was compared with. O(1).
+    /// The number of looks that the search has made, which is how many objects it has compared with its key. O(1).
     #[inline]
     pub fn looks(&self) -> u64
         ensures { result ≡ looks_of self.now }

@@ -1,4 +1,4 @@
-//! In which chain a hash belongs, by linear hashing (Litwin, 1980): chains come into use one at a time.
+//! The slots decide in which chain a hash belongs, by linear hashing (Litwin, 1980). Chains come into use one at a time.
 //!
 //! ```text
 //! // With six chains in use the mask is 7. A hash that ends in binary 110 or 111 belongs in chain 2 or 3, until those are in use.
@@ -8,8 +8,7 @@
 ghost use Rattle.std.specs.Prelude.{◌≡◌, ◌<◌, ◌≤◌};
 ghost use Rattle.ic_hash_table.specs.Slots.{slot_of, split_of, IsWellFormed, IsSplit};
 
-/// How many chains are in use, and the mask of the current round of growth. More than half of the chain numbers within
-/// the mask are in use.
+/// Stores how many chains are in use, and the mask of the current round of growth. More than half of the chain numbers within the mask are in use.
 #[derive(Clone, Copy)]
 pub struct Slots {
     used: usize,
@@ -17,7 +16,7 @@ pub struct Slots {
 }
 
 impl Slots {
-    // The slots of a table with this many chains, all in use.
+    // The slots of a table with `count` chains, all of which are in use.
     pub(crate) fn all(count: usize) -> Slots
         requires some { 1 ≤ count }
         requires few { count ≤ 4294967296 }
@@ -31,8 +30,8 @@ impl Slots {
         Slots { used: count, mask }
     }
 
-    /// The chain where `hash` belongs: the one given by the bits of the mask, or if that chain is not in use yet, by those of half
-    /// the mask. O(1).
+    /// The number of the chain where `hash` belongs. The bits of the hash within the mask give the number, or the bits within half of the mask if that
+    /// chain is not in use yet. O(1).
     #[inline]
     pub fn slot(&self, hash: u64) -> usize
         requires well_formed { IsWellFormed self.now }
@@ -48,8 +47,7 @@ impl Slots {
         }
     }
 
-    // The slots with one more chain in use. If all numbers within the mask are in use, a round with a mask twice as
-    // large begins.
+    // The slots with one more chain in use. If all numbers within the mask are in use, the next round of growth begins, with a mask twice as large.
     pub(crate) fn grown(self) -> Slots
         requires well_formed { IsWellFormed self }
         requires few { self.used < 4294967296 }
@@ -67,7 +65,7 @@ impl Slots {
         }
     }
 
-    // The slots with one chain less in use, which undoes `grown`.
+    // The slots with one chain less in use, so that `shrunk` undoes `grown`.
     pub(crate) fn shrunk(self) -> Slots
         requires well_formed { IsWellFormed self }
         requires more { 2 ≤ self.used }
@@ -86,7 +84,7 @@ impl Slots {
         }
     }
 
-    // The chain that had the members of this one before this one was in use.
+    // The chain that had the members of chain `last` before chain `last` came into use.
     pub(crate) fn split(&self, last: usize) -> usize
         ensures { result ≡ split_of self.now last }
     {

@@ -1,4 +1,4 @@
-//! Keys that std's `Hash` hashes, by whatever hasher a `BuildHasher` makes.
+//! Keys can be hashed by the trait `Hash` of the standard library, with the hashers that any `BuildHasher` makes.
 //!
 //! ```text
 //! let by_name = StdHash::new(ByName, RandomState::new(&rt)?); // keys that an adversary may pick
@@ -10,17 +10,17 @@ ghost use Rattle.std.specs.Prelude.{◌≡◌};
 use crate::HashAdapter;
 use std::hash::{BuildHasher, Hash};
 
-/// Says which part of an object is its key, for keys with std's `Hash`.
+/// Says which part of an object is its key, for keys that implement the standard library's `Hash`.
 ///
-/// The key is a function of this value and of the object: while the object is not changed, the key stays the same.
+/// The key depends only on this value and on the object. While the object is not changed, its key does not change.
 pub trait KeyOf: Copy {
-    /// The type of the objects whose keys it returns.
+    /// The type of the objects whose keys `get_key` returns.
     type Value;
 
     /// The type of the keys, which the table compares and hashes.
     type Key: Hash;
 
-    // The key of a value.
+    // The key of a value, as `get_key` returns it.
     ghost key_of: { Self → Self.Value → Self.Key };
 
     /// The key of `value`, which is a part of it. O(1).
@@ -28,9 +28,9 @@ pub trait KeyOf: Copy {
         ensures { result.now ≡ key_of self.now value.now };
 }
 
-/// The adapter of a hash table by std's traits: a hasher of `S` computes a key's hash.
+/// An adapter of a hash table that uses the traits of the standard library: a hasher of `S` computes the hash of each key.
 ///
-/// `BuildHasherDefault<FoldHasher>` is quick, and its seed is fixed. `RandomState` is for keys that an adversary may pick.
+/// `BuildHasherDefault<FoldHasher>` is quick, and its seed is fixed. Use `RandomState` if an adversary may pick the keys.
 #[derive(Clone, Copy)]
 pub struct StdHash<K, S> {
     keys: K,
@@ -40,7 +40,7 @@ pub struct StdHash<K, S> {
 impl<K: KeyOf, S: BuildHasher + Copy> StdHash<K, S> {
     ghost use Rattle.ic_hash_table.specs.StdHash.{keys_of, state_of};
 
-    /// The adapter of these keys, with the hashers that `state` makes. O(1).
+    /// The adapter that finds keys by `keys`, and hashes them with the hashers that `state` makes. O(1).
     #[inline]
     pub fn new(keys: K, state: S) -> StdHash<K, S>
         ensures keys { keys_of result ≡ keys }

@@ -1,4 +1,4 @@
-//! Steps from one member to the next, through all chains.
+//! A step leads from one member of a hash table to the next, through all chains.
 //!
 //! ```text
 //! let mut at = table.next(&links, &objects, None); // the first member
@@ -18,7 +18,7 @@ use ic_link_ops::LinkOps;
 use ic_link_ops::singly_linked_list::SinglyLinkedListOps;
 use ic_unsafe_ref::{Place, Values};
 
-// The first member of the first chain that has one, from number `from` on.
+// The first member of the first chain that is not empty, among the chains from number `from` on.
 fn first_from<L: SinglyLinkedListOps, B: BucketRow>(
     links: &L,
     buckets: &B,
@@ -42,10 +42,9 @@ fn first_from<L: SinglyLinkedListOps, B: BucketRow>(
 impl<A: HashAdapter, B: BucketRow> HashTable<A, B> {
     ghost use Rattle.ic_hash_table.specs.HashTable.{Holds};
 
-    /// The member after this one, through all chains; after `None` the first one. Returns `None` if no member follows.
+    /// Returns the member after the given one, through all chains, or the first member of all if none is given. Returns `None` if no member follows.
     ///
-    /// It requires that the place is that of a member. A walk over all members takes one step for each member and each bucket, and no
-    /// look.
+    /// It requires that the place is that of a member. A walk over all members takes one step for each member and each bucket, and compares no keys.
     pub fn next<L: SinglyLinkedListOps, O: Values<A::Value>>(
         &self,
         links: &L,

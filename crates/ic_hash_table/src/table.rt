@@ -1,4 +1,4 @@
-//! The hash table: inserts, searches and removals.
+//! This file has the hash table, with its inserts, searches and removals.
 //!
 //! ```text
 //! table.insert(&mut links, &objects, object)?;
@@ -24,8 +24,8 @@ use ic_unsafe_ref::{Place, UnsafeRef, Values};
 
 /// An intrusive hash table: the adapter, the buckets with the first member of each chain, and how many members there are.
 ///
-/// It has the members that a table of links holds for it. In contracts they are one sequence, over objects that are placed with the keys
-/// that they were inserted by. Never change the key of a member: remove the object, change it, and insert it again.
+/// A table of links says which members a hash table has. In contracts the members are one sequence, and each has an object with the key that it was
+/// inserted by. Never change the key of a member: remove the object, change it, and insert it again.
 #[derive(Drop)]
 pub struct HashTable<A, B> {
     pub(crate) adapter: A,
@@ -37,7 +37,7 @@ pub struct HashTable<A, B> {
 impl<A, B> HashTable<A, B> {
     ghost use Rattle.ic_hash_table.specs.HashTable.{buckets_of, len_of, slots_of};
 
-    /// A reference to its buckets, which have the first member of each chain. O(1).
+    /// A reference to the buckets of the table, which store the first member of each chain. O(1).
     #[inline]
     pub fn buckets(&self) -> &B
         ensures { result.now ≡ buckets_of self.now }
@@ -45,7 +45,7 @@ impl<A, B> HashTable<A, B> {
         &self.buckets
     }
 
-    /// How many members it has. O(1).
+    /// The number of members of the table. O(1).
     #[inline]
     pub fn len(&self) -> usize
         ensures { result ≡ len_of self.now }
@@ -53,7 +53,7 @@ impl<A, B> HashTable<A, B> {
         self.len
     }
 
-    /// How many chains are in use. O(1).
+    /// The number of chains that are in use. O(1).
     #[inline]
     pub fn chains(&self) -> usize
         ensures { result ≡ (slots_of self.now).used }
@@ -61,7 +61,7 @@ impl<A, B> HashTable<A, B> {
         self.slots.used()
     }
 
-    /// Which chain has the members with a hash: `table.slots().slot(hash)`. O(1).
+    /// Decides which chain has the members with a hash: `table.slots().slot(hash)` is its number. O(1).
     #[inline]
     pub fn slots(&self) -> Slots
         ensures { result ≡ slots_of self.now }
@@ -69,7 +69,7 @@ impl<A, B> HashTable<A, B> {
         self.slots
     }
 
-    /// Whether it has no member. O(1).
+    /// Whether the table has no member. O(1).
     #[inline]
     pub fn is_empty(&self) -> bool
         ensures { IsTrue result ↔ (len_of self.now ≡ 0) }
@@ -81,7 +81,7 @@ impl<A, B> HashTable<A, B> {
 impl<A: Copy, B> HashTable<A, B> {
     ghost use Rattle.ic_hash_table.specs.HashTable.{adapter_of};
 
-    /// The adapter that it was made with. O(1).
+    /// The adapter with which the table was made. O(1).
     #[inline]
     pub fn adapter(&self) -> A
         ensures { result ≡ adapter_of self.now }
@@ -95,9 +95,9 @@ impl<A: HashAdapter, B: BucketRow> HashTable<A, B> {
     ghost use Rattle.ic_hash_table.specs.Slots.{IsWellFormed};
     ghost use Rattle.ic_hash_table.specs.declared.slots.Slots.{Slots};
 
-    /// A table with no member over these buckets, all in use: every table of links holds the empty sequence for it.
+    /// Makes a table with no member over these buckets, all of which are in use. Every table of links holds the empty sequence for the new table.
     ///
-    /// It requires that the buckets are empty, and that there are 1 to 4,294,967,296 of them. O(log n) for n buckets, and no memory.
+    /// It requires that the buckets are empty, and that there are 1 to 4,294,967,296 of them. O(log n) for n buckets. It takes no memory.
     pub fn new(adapter: A, buckets: B) -> HashTable<A, B>
         requires some { 1 ≤ length (B.fronts buckets) }
         requires few { length (B.fronts buckets) ≤ 4294967296 }
@@ -111,10 +111,9 @@ impl<A: HashAdapter, B: BucketRow> HashTable<A, B> {
         HashTable::with_used(adapter, buckets, used)
     }
 
-    /// A table with no member that uses the first `used` of these buckets. [`grow_one`](HashTable::grow_one) takes one
-    /// more into use.
+    /// Makes a table with no member that uses the first `used` of these buckets. [`grow_one`](HashTable::grow_one) takes one more bucket into use.
     ///
-    /// It requires what [`new`](HashTable::new) does, and that there are that many buckets. O(1).
+    /// It requires what [`new`](HashTable::new) requires, and that there are at least `used` buckets. O(log n) for n buckets.
     pub fn with_used(adapter: A, buckets: B, used: usize) -> HashTable<A, B>
         requires some { 1 ≤ used }
         requires within { used ≤ length (B.fronts buckets) }
@@ -133,10 +132,11 @@ impl<A: HashAdapter, B: BucketRow> HashTable<A, B> {
         }
     }
 
-    /// Makes a table again of buckets that have members, given how many chains the table had in use, and how many members.
+    /// Makes a table from the buckets of an earlier table, which may have members. `used` is how many chains were in use, and `len` is how many members
+    /// there were.
     ///
-    /// It requires what [`with_used`](HashTable::with_used) does, except that the buckets need not be empty. It reads no link. If all
-    /// parts are those of an earlier table, a table of links holds the same members for the new one. O(log n) for n chains, and no memory.
+    /// It requires what [`with_used`](HashTable::with_used) requires, except that the buckets need not be empty. It reads no link. If all arguments are
+    /// those of an earlier table, a table of links holds the earlier table's members for the new table. O(log n) for n chains. It takes no memory.
     pub fn from_buckets(adapter: A, buckets: B, used: usize, len: usize) -> HashTable<A, B>
         requires some { 1 ≤ used }
         requires within { used ≤ length (B.fronts buckets) }
@@ -157,7 +157,8 @@ impl<A: HashAdapter, B: BucketRow> HashTable<A, B> {
         }
     }
 
-    /// The buckets, with the first members that they have. [`from_buckets`](HashTable::from_buckets) makes the same table of them again. O(1).
+    /// Returns the buckets of the table, with the first members that they have. [`from_buckets`](HashTable::from_buckets) makes the same table from the
+    /// buckets again. O(1).
     pub fn into_buckets(self) -> B
         ensures { result ≡ buckets_of self }
     {
@@ -170,8 +171,7 @@ impl<A: HashAdapter, B: BucketRow> HashTable<A, B> {
         buckets
     }
 
-    /// Chain `at` as a list; its `iter` walks over the chain. It requires that the chain is in use, and that all members are placed.
-    /// O(1).
+    /// Returns chain `at` as a list, whose `iter` walks over the chain. It requires that the chain is in use, and that `objects` has every member. O(1).
     #[inline]
     pub fn chain<L: SinglyLinkedListOps, O: Values<A::Value>>(
         &self,
@@ -188,10 +188,10 @@ impl<A: HashAdapter, B: BucketRow> HashTable<A, B> {
         SinglyLinkedList::from_front(first)
     }
 
-    /// The first member that equals the searched key, or `None` if there is none.
+    /// The first member that equals the searched key, or `None` if no member does.
     ///
-    /// It requires that each value which equals the searched key has its hash, and that the probe's count leaves room for these looks.
-    /// It makes at most as many looks as the chain of the hash has members. No memory. O(length of the chain).
+    /// It requires that each value which equals the searched key has the hash of the key, and that the probe can count all comparisons. It makes at most
+    /// as many comparisons as the chain of the hash has members. It takes no memory. O(length of the chain).
     #[inline]
     pub fn find_by<L: SinglyLinkedListOps, P: Probe<A::Value>, O: Values<A::Value>>(
         &self,
@@ -218,9 +218,9 @@ impl<A: HashAdapter, B: BucketRow> HashTable<A, B> {
         }
     }
 
-    /// The first member with this key, or `None` if there is none: `find_by` with a `KeyProbe`.
+    /// The first member with `key`, or `None` if no member has `key`. It calls `find_by` with a `KeyProbe`.
     ///
-    /// It makes one look for each member of one chain, up to the one that it finds. O(length of the chain).
+    /// It compares the key with one member of a chain after another, up to the member that it finds. O(length of the chain).
     #[inline]
     pub fn find<L: SinglyLinkedListOps, O: Values<A::Value>>(
         &self,
@@ -239,10 +239,11 @@ impl<A: HashAdapter, B: BucketRow> HashTable<A, B> {
 impl<A: HashAdapter, B> HashTable<A, B> {
     ghost use Rattle.ic_hash_table.specs.HashTable.{adapter_of, slots_of, number, Holds, HoldsSome, HoldsWith, ChangesOnlyInMembers};
 
-    /// Inserts the object, unless its link is refused. O(1): one hash, no look, and no memory.
+    /// Inserts the object, unless its link is refused. O(1): it computes one hash, compares no keys, and takes no memory.
     ///
-    /// It requires that the object is placed, and that its place is covered. If the link is refused, the object is returned and the table
-    /// is as it was. A plain table of links refuses exactly an object that is linked in this field. Members with an equal key stay.
+    /// It requires that `objects` has the object, and that the table of links covers its place. If the link is refused, the call returns the object, and
+    /// the table is unchanged. A plain table of links refuses exactly those objects that it has linked already. Members with an equal key stay in the
+    /// table.
     #[inline]
     pub fn insert<L: SinglyLinkedListOps, O: Values<A::Value>>(
         &mut self,
@@ -267,10 +268,10 @@ impl<A: HashAdapter, B> HashTable<A, B> {
         self.insert_at(links, at, (None, front), object)
     }
 
-    /// Removes the object, and returns whether it was a member. If it was not, nothing has changed.
+    /// Removes the object, and returns whether it was a member. If it was not a member, nothing has changed.
     ///
-    /// It requires that the object is placed, with the key that it was inserted by. It walks along its chain: one hash, no look, and no
-    /// memory. O(length of the chain).
+    /// It requires that `objects` has the object, with the key that it was inserted by. The call computes one hash, walks along the object's chain without
+    /// comparing keys, and takes no memory. O(length of the chain).
     pub fn remove<L: SinglyLinkedListOps, O: Values<A::Value>>(
         &mut self,
         links: &mut L,
@@ -299,9 +300,9 @@ impl<A: HashAdapter, B> HashTable<A, B> {
 
     /// Inserts the object, unless a member has an equal key or its link is refused.
     ///
-    /// If a member has an equal key, it returns `Some` of the first such member, and nothing has changed. Otherwise it does what
-    /// [`insert`](HashTable::insert) does, and returns `None`; so a link is refused only if no member has an equal key. It makes as many
-    /// looks as `find`, and takes no memory. O(length of the chain).
+    /// If a member has an equal key, the call returns `Some` of the first such member, and changes nothing. If no member has an equal key, it does what
+    /// [`insert`](HashTable::insert) does, and returns `None`. A link is refused only if no member has an equal key. The call makes as many key
+    /// comparisons as `find`, and takes no memory. O(length of the chain).
     #[inline]
     pub fn insert_unique<L: SinglyLinkedListOps, O: Values<A::Value>>(
         &mut self,
@@ -332,9 +333,9 @@ impl<A: HashAdapter, B> HashTable<A, B> {
         Ok(None)
     }
 
-    /// Removes the first member with this key and returns it. If there is none, it returns `None` and changes nothing.
+    /// Removes the first member with `key` and returns it. If no member has `key`, it returns `None` and changes nothing.
     ///
-    /// It makes as many looks as `find`, and takes no memory. O(length of the chain).
+    /// It makes as many key comparisons as `find`, and takes no memory. O(length of the chain).
     #[inline]
     pub fn remove_by<L: SinglyLinkedListOps, O: Values<A::Value>>(
         &mut self,
@@ -367,7 +368,7 @@ impl<A: HashAdapter, B: BucketRow> HashTable<A, B> {
     ghost use Rattle.ic_hash_table.specs.Slots.{IsWellFormed};
     ghost use Rattle.ic_hash_table.specs.HashTable.{adapter_of, len_of, slots_of, fronts_of, front_at, number, BelongsIn, Holds, HoldsAt, HoldsSome};
 
-    // The chain where the object belongs.
+    // The number of the chain where the object belongs.
     #[inline]
     pub(crate) fn slot_of_object<O: Values<A::Value>>(&self, objects: &O, object: Place) -> usize
         requires placed { is_placed (O.values objects.now) object ≡ true }
@@ -380,7 +381,7 @@ impl<A: HashAdapter, B: BucketRow> HashTable<A, B> {
         self.slots.slot(self.adapter.hash(key))
     }
 
-    // The chain where objects with this key belong, and its first member with the key, with the one before it.
+    // Returns the number of the chain where objects with this key belong, the first member of the chain that has the key, and the member before it.
     #[inline]
     pub(crate) fn search<L: SinglyLinkedListOps, O: Values<A::Value>>(
         &self,
@@ -404,7 +405,7 @@ impl<A: HashAdapter, B: BucketRow> HashTable<A, B> {
         (at, before, found)
     }
 
-    // The chain of which the object is a member, and the member before it; `None` if it is not a member.
+    // Returns the number of the chain of which the object is a member, and the member before the object. Returns `None` if the object is not a member.
     pub(crate) fn locate<L: SinglyLinkedListOps, O: Values<A::Value>>(
         &self,
         links: &L,
@@ -433,7 +434,7 @@ impl<A: HashAdapter, B: BucketRow> HashTable<A, B> {
 impl<A: HashAdapter, B> HashTable<A, B> {
     ghost use Rattle.ic_hash_table.specs.HashTable.{adapter_of, slots_of, front_at, number, BelongsIn, Holds, HoldsAt, HoldsSome, ChangesOnlyInMembers};
 
-    // Inserts the object between two neighbors of chain `at`. It reads no object.
+    // Inserts the object between two neighbors of chain `at`. The function reads no object.
     #[inline]
     pub(crate) fn insert_at<L: SinglyLinkedListOps>(
         &mut self,
@@ -474,7 +475,7 @@ impl<A: HashAdapter, B> HashTable<A, B> {
         Ok(())
     }
 
-    // Removes the member after `before` from chain `at`. It reads no object.
+    // Removes the member `place`, which comes directly after `before`, from chain `at`. The function reads no object.
     #[inline]
     pub(crate) fn remove_at<L: SinglyLinkedListOps>(
         &mut self,

@@ -1,4 +1,4 @@
-//! Calls on a hash table as a whole.
+//! These calls are about all members of a hash table.
 //!
 //! ```text
 //! table.retain(&mut links, &objects, |task| task.is_ready()); // each other member is unlinked
@@ -34,10 +34,10 @@ fn clear_chain<L: SinglyLinkedListOps, B: BucketsFor<L>>(buckets: &mut B, links:
 impl<A, B> HashTable<A, B> {
     ghost use Rattle.ic_hash_table.specs.HashTable.{IsNew, IsRepresented, ChangesOnlyInMembers};
 
-    /// Removes all members: each is unlinked, and the table is empty.
+    /// Removes all members: each member is unlinked, and the table is empty afterwards.
     ///
-    /// It requires that the links represent its chains, whatever keys the members have now: they need not be placed. One step for each
-    /// member and each bucket, no look, and no memory. O(n) in the members and the buckets.
+    /// It requires that the links represent the table's chains, but it reads no objects, so that members may have other keys now. It takes one step for
+    /// each member and each bucket, compares no keys, and takes no memory. O(n) in the members and the buckets.
     pub fn clear<L: SinglyLinkedListOps>(&mut self, links: &mut L)
     where
         B: BucketsFor<L>,
@@ -62,11 +62,11 @@ impl<A: HashAdapter, B> HashTable<A, B> {
     ghost use Rattle.ic_hash_table.specs.HashTable.{number, Holds, HoldsSome, ChangesOnlyInMembers};
     ghost use Rattle.ic_hash_table.specs.Retained.{AreAnswers, passing, failing};
 
-    /// Removes each member whose object fails the test. The others stay, in their order.
+    /// Removes each member whose object fails the test. The other members stay, in their order.
     ///
-    /// It requires that all members are placed, with the keys that they were inserted by. The test is called once for each member, from the
-    /// first on. Removed members are unlinked, and stay placed. One step for each member and each bucket, and a walk along its chain for
-    /// each member that is removed. No look, and no memory. O(n) in the members and the buckets.
+    /// It requires that `objects` has every member, with the key that the member was inserted by. The test is called once for each member, from the first
+    /// on. Removed members are unlinked, and their objects stay where they are. The call takes one step for each member and each bucket, and a walk along
+    /// the chain of each member that is removed. It compares no keys, and takes no memory. O(n) in the members and the buckets.
     pub fn retain<L: SinglyLinkedListOps, O: Values<A::Value>, F: FnMut(&A::Value) -> bool>(
         &mut self,
         links: &mut L,
@@ -86,7 +86,7 @@ impl<A: HashAdapter, B> HashTable<A, B> {
         self.retain_by(links, objects, &mut keeps);
     }
 
-    // `retain` with a borrowed test, so that the caller sees its state after the last call.
+    // Does what `retain` does, with a borrowed test, so that the caller sees the state of the test after the last call.
     fn retain_by<L: SinglyLinkedListOps, O: Values<A::Value>, F: FnMut(&A::Value) -> bool>(
         &mut self,
         links: &mut L,

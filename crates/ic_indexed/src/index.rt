@@ -1,4 +1,4 @@
-//! Indexes, which find objects by their keys. A tree is an index, for example.
+//! An index finds objects by their keys. A tree is an index, for example.
 //!
 //! ```text
 //! index.insert_place(&mut links, &objects, place); // where its key belongs
@@ -18,27 +18,27 @@ use ic_pool::Tables;
 use ic_unsafe_ref::{Objects, Place};
 use std::alloc::Allocator;
 
-/// An index: it finds objects by their keys, with links in a table of its own.
+/// An index finds objects by their keys, with links in a table of its own.
 pub trait Index<T: HasKey, A: Allocator>: Drop {
-    /// The type of the table of its links.
+    /// The type of the table of the index's links.
     type Links: Tables + Drop;
 
-    /// The type of the words of the links in the list beside it, which are as wide as its own.
+    /// The type of the words of the list's links. They are as wide as the words of the index's links.
     type Order: PrevPlace;
 
-    // THE INDEX HAS EACH OBJECT, and nothing else is linked in its table.
+    // THE INDEX HAS EACH OBJECT, and no other place is linked in its table.
     ghost Has: { Self → Self.Links → Placed T → Type 0 };
 
-    // IT IS NEW: it has no object, and none of its links is written.
+    // THE INDEX IS NEW: it has no object, and none of its links is written.
     ghost IsNew: { Self → Type 0 };
 
-    // Into how many parts the index divides the objects: a search compares only objects of one part. No call changes this number.
+    // The number of parts into which the index divides the objects. A search compares only objects of one part, and no call changes the number of parts.
     ghost parts: { Self → ℕ };
 
-    // HOW MANY LOOKS (key comparisons) a search can make, given the number of parts, the searched key and the objects.
+    // HOW MANY LOOKS (key comparisons) a search can make: the definition gives a bound for a number of parts, a searched key and the objects.
     ghost IsFew: { ℕ → ℕ → List T → ℕ → Type 0 };
 
-    /// Returns the table for the links of a new index. It has no room for links yet, and the call allocates nothing. It requires that the index is
+    /// Returns the table for the links of a new index. The table has no room for links yet, and the call allocates nothing. It requires that the index is
     /// new.
     fn new_links(&self, alloc: A) -> Self::Links
         requires new { IsNew self.now }
@@ -57,16 +57,16 @@ pub trait Index<T: HasKey, A: Allocator>: Drop {
         ensures looks { (order : List Place) → IsOrderOf objects.now order
             → IsFew (parts self.now) key (values_at objects.now order) result.1 };
 
-    /// Inserts a new object where its key belongs. It requires that the index has every other object, and that its table covers the place. It takes
-    /// no memory.
+    /// Inserts a new object where its key belongs. It requires that the index has every other object, and that the index's table covers the place. It
+    /// takes no memory.
     fn insert_place(&mut self, links: &mut Self::Links, objects: &Objects<T, A>, place: Place)
         requires covered { Self.Links.Covers links.old place }
         requires lacks { LacksOne (Has self.old links.old) objects.now place }
         ensures has { Has self.new links.new objects.now }
         ensures parts { parts self.new ≡ parts self.old };
 
-    /// Removes an object from the index, before it leaves its place. It requires that the index has all objects, and that there is an object at the
-    /// place.
+    /// Removes an object from the index, before the object is taken from its place. It requires that the index has all objects, and that there is an
+    /// object at the place.
     fn remove_place(&mut self, links: &mut Self::Links, objects: &Objects<T, A>, place: Place)
         requires all { Has self.old links.old objects.now }
         requires placed { is_placed objects.now place ≡ true }
@@ -75,7 +75,8 @@ pub trait Index<T: HasKey, A: Allocator>: Drop {
         ensures covered { Self.Links.Covers links.new place }
         ensures parts { parts self.new ≡ parts self.old };
 
-    // The laws: an index still has the same objects after its table has grown, and after another value with the same key has replaced one.
+    // The laws: the index has the same objects after its table has grown. It also has the same objects after another value with an equal key has replaced
+    // the value of an object.
     ghost has_grown: { (index : Self) (old new : Self.Links) (objects : Placed T) → Self.Links.Keeps old new → Has index old objects → Has index new objects };
 
     ghost has_alike: { (index : Self) (links : Self.Links) (old new : Placed T) (place : Place) (out value : T) → object_at old place ≡ Some out

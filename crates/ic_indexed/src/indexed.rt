@@ -1,4 +1,4 @@
-//! Objects that are found by their keys and have an order: a pool, its two tables, the index and the list, as one value.
+//! A container finds its objects by their keys, and has them in an order. It is a pool, its two tables, the index and the list, as one value.
 //!
 //! ```text
 //! indexed.place_front(job)?;
@@ -26,10 +26,10 @@ use ic_unsafe_ref::{Place, UnsafeRef};
 use std::alloc::{Allocator, Global};
 use std::marker::Model;
 
-/// Objects that are each in an index by their key, and in a list. Several objects can have the same key.
+/// A container whose objects are all in an index by their keys, and in a list. Several objects can have the same key.
 ///
-/// A contract sees the objects by their places, the places along the list, and into how many parts the index divides the objects (`IndexedOrder`).
-/// `values_of` is the list of the objects themselves.
+/// A contract speaks of the objects by their places, of the places along the list, and of the number of parts into which the index divides the objects
+/// (`IndexedOrder`). `values_of` is the list of the objects themselves.
 #[derive(Drop)]
 pub struct Indexed<T: HasKey, I: Index<T, A>, A: Allocator = Global> {
     pool: Pool<T, (I::Links, PlainTable<I::Order, A>), A>,
@@ -37,10 +37,10 @@ pub struct Indexed<T: HasKey, I: Index<T, A>, A: Allocator = Global> {
     in_order: LinkedList<T>,
 }
 
-/// Objects in a tree by their keys and in a list.
+/// A container whose objects are in a tree by their keys, and in a list.
 pub type TreeIndexed<T, A = Global> = Indexed<T, RBTree<ByKey<T>>, A>;
 
-/// The same as `TreeIndexed` over links of 4-byte words. The links take half the memory, and there can be at most 536,870,911 objects.
+/// A container like `TreeIndexed`, over links of 4-byte words. The links take half the memory, and there can be at most 536,870,911 objects.
 pub type NarrowTreeIndexed<T, A = Global> = Indexed<T, RBTree<NarrowByKey<T>>, A>;
 
 impl<T: HasKey, I: Index<T, A>, A: Allocator> Model for Indexed<T, I, A> {
@@ -90,7 +90,8 @@ impl<T: HasKey, W: NodeWords, O: PrevPlace, A: Allocator> Indexed<T, RBTree<ByKe
 }
 
 impl<T: HasKey, I: Index<T, A>, A: Allocator> Indexed<T, I, A> {
-    /// Makes a container without objects, with this index: `Indexed::with_index(rt.alloc(), HashIndex::new(buckets))`. It takes no memory.
+    /// Makes a container without objects, with the given index, for example: `Indexed::with_index(rt.alloc(), HashIndex::new(buckets))`. It takes no
+    /// memory.
     ///
     /// It requires that the index is new. O(1).
     pub fn with_index(alloc: A, index: I) -> Indexed<T, I, A>
@@ -126,7 +127,7 @@ impl<T: HasKey, I: Index<T, A>, A: Allocator> Indexed<T, I, A> {
     }
 
     /// Makes room for the links of `additional` more objects, so that adding them takes memory only for the objects themselves. No object and no order
-    /// changes, even if it is refused. It makes at most one request for memory for each table. O(n) in the places that are new.
+    /// changes, even if the call is refused. For each table it makes at most one request for memory. O(n) in the places that are new.
     pub fn reserve(&mut self, additional: usize) -> Result<(), CoverError>
         ensures { self.new ≡ self.old }
     {
@@ -141,8 +142,8 @@ impl<T: HasKey, I: Index<T, A>, A: Allocator> Indexed<T, I, A> {
         Iter::new(self.in_order.iter(&self.pool.links.1, &self.pool.objects))
     }
 
-    /// Returns the place of an object with this key, if there is one. It costs what `find` does.
-    /// O(log n) by a tree, and O(length of a chain) by a hash table.
+    /// Returns the place of an object with this key, if there is one. The call costs as much as `find`. O(log n) by a tree, and O(length of a chain) by a
+    /// hash table.
     pub fn place_of(&self, key: u64) -> Option<Place>
         ensures found { IsFound T.key_of self.now.values key result }
         ensures whole { IsWhole (order_in self.now) }
@@ -152,8 +153,8 @@ impl<T: HasKey, I: Index<T, A>, A: Allocator> Indexed<T, I, A> {
 
     /// Returns the place of an object with this key, if there is one, and how many objects the search compared.
     ///
-    /// With a tree it costs O(log n): it compares at most 2 log2(n + 1) of n objects. With a hash table it costs O(1) on average: it compares at most
-    /// the objects in the chain of the key.
+    /// With a tree the search costs O(log n), and compares at most 2 log2(n + 1) of n objects. With a hash table it costs O(1) on average, and compares at
+    /// most the objects in the chain of the key.
     pub fn find(&self, key: u64) -> (Option<Place>, u64)
         ensures found { IsFound T.key_of self.now.values key result.0 }
         ensures looks { I.IsFew self.now.parts key (values_of self.now) result.1 }
@@ -163,7 +164,7 @@ impl<T: HasKey, I: Index<T, A>, A: Allocator> Indexed<T, I, A> {
             .find_key(&self.pool.links.0, &self.pool.objects, key)
     }
 
-    /// Returns the object at a place. It requires that there is one. O(1).
+    /// Returns the object at a place. It requires that there is an object at the place. O(1).
     #[inline]
     pub fn at(&self, place: Place) -> &T
         requires placed { is_placed self.now.values place ≡ true }
@@ -188,8 +189,8 @@ impl<T: HasKey, I: Index<T, A>, A: Allocator> Indexed<T, I, A> {
         self.in_order.last()
     }
 
-    /// Moves the object at a place to the front. The others keep their order. It requires that there is an object at the place. O(1), and it takes no
-    /// memory.
+    /// Moves the object at a place to the front. The other objects keep their order. It requires that there is an object at the place. O(1), and it takes
+    /// no memory.
     pub fn move_to_front(&mut self, place: Place)
         requires placed { is_placed self.old.values place ≡ true }
         ensures values { self.new.values ≡ self.old.values }
@@ -200,7 +201,7 @@ impl<T: HasKey, I: Index<T, A>, A: Allocator> Indexed<T, I, A> {
         lists::move_to_front(&mut self.in_order, &mut self.pool.links.1, place);
     }
 
-    /// Moves the object at a place to the back. Everything else is as for `move_to_front`. O(1).
+    /// Moves the object at a place to the back. In all other respects the call does what `move_to_front` does. O(1).
     pub fn move_to_back(&mut self, place: Place)
         requires placed { is_placed self.old.values place ≡ true }
         ensures values { self.new.values ≡ self.old.values }
@@ -211,9 +212,9 @@ impl<T: HasKey, I: Index<T, A>, A: Allocator> Indexed<T, I, A> {
         lists::move_to_back(&mut self.in_order, &mut self.pool.links.1, place);
     }
 
-    /// Removes the object at a place and returns it. It requires that there is an object at the place. The others keep their order.
+    /// Removes the object at a place and returns it. It requires that there is an object at the place. The other objects keep their order.
     ///
-    /// It costs about as much as a search of the index, O(log n) with a tree, and takes no memory.
+    /// The call costs about as much as a search of the index, which is O(log n) with a tree. It takes no memory.
     pub fn remove(&mut self, place: Place) -> T
         requires placed { is_placed self.old.values place ≡ true }
         ensures value { object_at self.old.values place ≡ Some result }
@@ -229,9 +230,9 @@ impl<T: HasKey, I: Index<T, A>, A: Allocator> Indexed<T, I, A> {
         self.pool.remove(object)
     }
 
-    /// Removes the first object and returns it, or returns `None` if there is no object. The others keep their order.
+    /// Removes the first object and returns it, or returns `None` if there is no object. The other objects keep their order.
     ///
-    /// It costs about as much as a search of the index, O(log n) with a tree, and takes no memory.
+    /// The call costs about as much as a search of the index, which is O(log n) with a tree. It takes no memory.
     pub fn pop_first(&mut self) -> Option<T>
         ensures popped { MatchOption result ((values_of self.old ≡ []) × (self.new ≡ self.old)) (λ first. values_of self.old ≡ first ∷ values_of self.new) }
         ensures parts { self.new.parts ≡ self.old.parts }
@@ -240,8 +241,8 @@ impl<T: HasKey, I: Index<T, A>, A: Allocator> Indexed<T, I, A> {
         Some(self.remove(place))
     }
 
-    /// Removes the last object and returns it, or returns `None` if there is no object. Everything else is as for `pop_first`.
-    /// O(log n) by a tree, and O(length of a chain) by a hash table.
+    /// Removes the last object and returns it, or returns `None` if there is no object. In all other respects the call does what `pop_first` does. O(log
+    /// n) by a tree, and O(length of a chain) by a hash table.
     pub fn pop_last(&mut self) -> Option<T>
         ensures popped { MatchOption result ((values_of self.old ≡ []) × (self.new ≡ self.old)) (λ last. values_of self.old ≡ values_of self.new ++ last ∷ []) }
         ensures parts { self.new.parts ≡ self.old.parts }
@@ -253,7 +254,7 @@ impl<T: HasKey, I: Index<T, A>, A: Allocator> Indexed<T, I, A> {
     /// Replaces the object at a place by a value, moves it to the front, and returns the old object. It requires that there is an object at the
     /// place.
     ///
-    /// It costs about as much as two searches of the index, O(log n) with a tree, and takes no memory.
+    /// The call costs about as much as two searches of the index, which is O(log n) with a tree. It takes no memory.
     pub fn renew(&mut self, place: Place, value: T) -> T
         requires placed { is_placed self.old.values place ≡ true }
         ensures value { object_at self.old.values place ≡ Some result }
@@ -269,10 +270,11 @@ impl<T: HasKey, I: Index<T, A>, A: Allocator> Indexed<T, I, A> {
 
     /// Adds an object at the front.
     ///
-    /// If it is refused, the caller gets the value back, and nothing has changed. The error is `NoPlaceLeft` exactly if all 4,294,967,296 places are
-    /// in use. Otherwise it is `OutOfMemory`, also if the links have 4-byte words and all 536,870,911 places that these can name are in use.
+    /// If the call is refused, the caller gets the value back, and nothing has changed. The error is `NoPlaceLeft` exactly if all 4,294,967,296 places are
+    /// in use. Every other error is `OutOfMemory`. It is also the error if the links have 4-byte words, and all 536,870,911 places are in use that such
+    /// words can name.
     ///
-    /// It costs about as much as a search of the index, O(log n) with a tree, and at most three requests for memory.
+    /// The call costs about as much as a search of the index, which is O(log n) with a tree. It makes at most three requests for memory.
     pub fn place_front(&mut self, value: T) -> Result<UnsafeRef<T>, PlaceError<T>>
         ensures placed { IfOk result (λ object. Places self.old.values self.new.values object value) }
         ensures added { OnOk result (values_of self.new ≡ value ∷ values_of self.old) }
@@ -288,7 +290,8 @@ impl<T: HasKey, I: Index<T, A>, A: Allocator> Indexed<T, I, A> {
         Ok(object)
     }
 
-    /// Adds an object at the back. Everything else is as for `place_front`. O(log n) by a tree, and O(length of a chain) by a hash table.
+    /// Adds an object at the back. In all other respects the call does what `place_front` does. O(log n) by a tree, and O(length of a chain) by a hash
+    /// table.
     pub fn place_back(&mut self, value: T) -> Result<UnsafeRef<T>, PlaceError<T>>
         ensures placed { IfOk result (λ object. Places self.old.values self.new.values object value) }
         ensures added { OnOk result (values_of self.new ≡ values_of self.old ++ value ∷ []) }

@@ -1,4 +1,4 @@
-//! How a new object is placed and added to its index.
+//! A new object is stored at a place, and added to the index.
 
 ghost use Rattle.std.specs.Prelude.{◌≡◌, ◌≤◌, ◌↔◌, ◌^◌, Err, IfOk, IfErr};
 ghost use Rattle.ic_unsafe_ref.specs.Objects.{Places};
@@ -9,7 +9,8 @@ use ic_pool::{PlaceError, Pool, Tables};
 use ic_unsafe_ref::UnsafeRef;
 use std::alloc::Allocator;
 
-// Places a value as a new object, and inserts it into the index where its key belongs. The list's links have room for it, and stay as they are.
+// Stores a value as a new object, and inserts the object into the index where its key belongs. The list's links have room for the object, and stay as they
+// are.
 pub(crate) fn place<T: HasKey, I: Index<T, A>, L: Tables, A: Allocator>(
     pool: &mut Pool<T, (I::Links, L), A>,
     index: &mut I,

@@ -1,4 +1,4 @@
-//! The tree as an index, which finds objects by their keys.
+//! A tree is an index, which finds objects by their keys.
 
 ghost use Rattle.std.specs.Prelude.{◌≡◌, None, length};
 ghost use Rattle.ic_rbtree.specs.Tree.{root_of};

@@ -1,4 +1,4 @@
--- Values with their own keys: the one of a key among others, and what is left without it.
+-- Each value has its own key, and these lemmas are about the value with a key, about the other values, and about what is left without it.
 use Rattle.std.proofs.Common.{◌≡◌, ℕ, ◌+◌, ◌-◌, ◌≤◌, Bool, true, false, not, cond, MatchOption, Option, None, Some, IsSome, is_some, List, [], ◌∷◌, ◌++◌, length, filter, refl, sym, ap, ◌∙◌, subst, arith, append-nil, eq-eqb, length-append, ne_eqb, true≢false}
 use Rattle.std.proofs.lemmas.Bool.{eqb-false}
 use Rattle.std.proofs.lemmas.Bool.Decides.{nat_tests}
@@ -20,7 +20,7 @@ use Rattle.ic_keyed.specs.Keyed.{has_key, value_with, without, touched, with_val
 use Rattle.ic_keyed.specs.Kept.{keyed_of}
 
 module _ {T : Type 0} where
-  -- THE FIRST of a list, and the last
+  -- THE FIRST VALUE of a list and the last value: if a list has a first or a last value, it begins or ends with this value
   pub first_cut : (values : List T) {first : T} → first_value values ≡ Some first → BeginsWith first values
   first_cut [] {first} e = absurd (none_not first e)
   first_cut (x ∷ values) e = (values, ap (λ (z : T). z ∷ values) (same_Some _ _ e))
@@ -35,26 +35,26 @@ module _ {T : Type 0} where
   last_after (x ∷ []) last = refl
   last_after (x ∷ y ∷ front) last = last_after (y ∷ front) last
 
-  -- there is one last
+  -- a list ends with only one value, so two last values of a list are equal
   pub one_last : {values : List T} {last other : T} → EndsWith last values → EndsWith other values → last ≡ other
   one_last {values} {last} {other} e f = same_Some _ _ (sym (last_after e.0 last) ∙ ap last_value (sym e.1 ∙ f.1) ∙ last_after f.0 other)
 
-  -- what is there
+  -- if an option is not none, it has a value
   pub some_there : (o : Option T) → IsSome o → (value : T) × (o ≡ Some value)
   some_there None h = absurd (true≢false (sym h))
   some_there (Some value) h = (value, refl)
 
-  -- where a search finds no place, there is no value
+  -- if a search finds no place, it finds no value
   pub none_there : (values : Objects T) (position : Option Place) {found : Option T} → object_there values position ≡ found → is_some position ≡ false → found ≡ None
   none_there values None is none = sym is
   none_there values (Some place) is none = absurd (true≢false none)
 
-  -- the same values in as many parts
+  -- two containers with equal values and with equally many parts are equal
   pub same_values : {parts more : ℕ} {values others : List T} → parts ≡ more → values ≡ others → ◌≡◌ {A = KeyedValues T} (record { values = values; parts = parts }) (record { values = others; parts = more })
   same_values alike same = λ i. record { values = same i; parts = alike i }
 
 module _ {T : Type 0} (key_of : T → ℕ) where
-  -- WHERE NONE HAS THE KEY, none is found, none is touched and none is taken out
+  -- IF NO VALUE HAS THE KEY, a search finds none, a use moves none, and a removal removes none
   pub without_none : (key : ℕ) (values : List T) → Lack key_of key values → without key_of key values ≡ values
   without_none key values lack = filter_pass (λ value. not (has_key key_of key value)) values (all_map (λ value h. ap not h) values lack)
 
@@ -77,7 +77,7 @@ module _ {T : Type 0} (key_of : T → ℕ) where
   pub without_nothing : (key : ℕ) (values : List T) → value_with key_of key values ≡ None → without key_of key values ≡ values
   without_nothing key values none = without_none key values (lack_found key values none)
 
-  -- WHERE ONE HAS THE KEY, it stands first after a use
+  -- IF A VALUE HAS THE KEY, this value is the first one after its use
   touched_some : (key : ℕ) (values : List T) {value : T} → value_with key_of key values ≡ Some value → (more : List T) × (filter (has_key key_of key) values ≡ value ∷ more)
   touched_some key [] {value} e = absurd (none_not value e)
   touched_some key (x ∷ values) {value} e = by (has_key key_of key x) e (touched_some key values {value = value}) where
@@ -90,16 +90,16 @@ module _ {T : Type 0} (key_of : T → ℕ) where
   pub touched_first : (key : ℕ) (values : List T) {value : T} → value_with key_of key values ≡ Some value → first_value (touched key_of key values) ≡ Some value
   touched_first key values e = ap (λ (l : List T). first_value (l ++ without key_of key values)) (touched_some key values e).1
 
-  -- WHAT IS FOUND has the key
+  -- THE VALUE THAT A SEARCH FINDS has the searched key
   pub found_key : (key : ℕ) (values : List T) {value : T} → value_with key_of key values ≡ Some value → key_of value ≡ key
   found_key key [] {value} e = absurd (none_not value e)
   found_key key (x ∷ values) {value} e = grind (arith, nat_tests, found_key key values {value = value})
 
-  -- one key is another, either way round
+  -- if the key of b is not the key of a, the key of a is not the key of b
   other_way : (a b : T) → has_key key_of (key_of a) b ≡ false → has_key key_of (key_of b) a ≡ false
   other_way a b h = ne_eqb (key_of a) (key_of b) (λ same. eqb-false (key_of b) (key_of a) h (sym same))
 
-  -- cut at a value: none before and none after has its key
+  -- if each value has its own key, no value before or after a value has the key of this value
   own_cut : (front : List T) (value : T) (back : List T) → HaveOwnKeys key_of (front ++ value ∷ back) → Lack key_of (key_of value) front × Lack key_of (key_of value) back × HaveOwnKeys key_of (front ++ back)
   own_cut [] value back own = (tt, own.0, own.1)
   own_cut (x ∷ front) value back own =
@@ -107,9 +107,9 @@ module _ {T : Type 0} (key_of : T → ℕ) where
       let apart = all_back (λ other. has_key key_of (key_of x) other ≡ false) front (value ∷ back) own.0 in
       ((other_way x value apart.0, cut.0), cut.1, (all_without (λ other. has_key key_of (key_of x) other ≡ false) front value back own.0, cut.2))
 
-  -- ONE VALUE OF THOSE, which have their own keys
+  -- ONE VALUE OF A LIST in which each value has its own key is removed, and the others stay
   module _ {value : T} {values rest : List T} (w : Without value values rest) where
-    -- none of the others has a key that none has
+    -- if no value of a list has a key, no value of the list without one value has it
     pub still_lack : (key : ℕ) → Lack key_of key values → Lack key_of key rest
     still_lack key lack =
         subst (Lack key_of key) (sym w.is) (all_without (λ other. has_key key_of key other ≡ false) w.front value w.back (subst (Lack key_of key) w.was lack))
@@ -124,20 +124,20 @@ module _ {T : Type 0} (key_of : T → ℕ) where
       pub rest_lack : Lack key_of (key_of value) rest
       rest_lack = subst (Lack key_of (key_of value)) (sym w.is) (all_both (λ other. has_key key_of (key_of value) other ≡ false) w.front w.back cut.0 cut.1)
 
-      -- it is found,
+      -- a search for the key of a value of the list finds this value
       pub found_it : value_with key_of (key_of value) values ≡ Some value
       found_it =
           ap (value_with key_of (key_of value)) w.was ∙ find-append (has_key key_of (key_of value)) w.front (value ∷ w.back)
           ∙ ap (λ (o : Option T). option_or o (value_with key_of (key_of value) (value ∷ w.back))) (found_none (key_of value) w.front cut.0) ∙ rw (eq-eqb (key_of value) (key_of value) refl) refl
 
-      -- the others are left without it,
+      -- without the value that has the key, the list has the other values
       pub without_it : without key_of (key_of value) values ≡ rest
       without_it =
           let test : T → Bool = λ other. not (has_key key_of (key_of value) other) in
           ap (without key_of (key_of value)) w.was ∙ filter-append test w.front (value ∷ w.back)
           ∙ rw (without_none (key_of value) w.front cut.0, eq-eqb (key_of value) (key_of value) refl, without_none (key_of value) w.back cut.1) (sym w.is)
 
-      -- and it goes before them
+      -- after a use of the value that has the key, this value comes first, and then come the other values
       pub touched_it : touched key_of (key_of value) values ≡ value ∷ rest
       touched_it =
           let first : filter (has_key key_of (key_of value)) values ≡ value ∷ [] =
@@ -145,7 +145,7 @@ module _ {T : Type 0} (key_of : T → ℕ) where
           ∙ rw (with_none (key_of value) w.front cut.0, eq-eqb (key_of value) (key_of value) refl, with_none (key_of value) w.back cut.1) refl in
           ap (λ (l : List T). l ++ without key_of (key_of value) values) first ∙ ap (λ (l : List T). value ∷ l) without_it
 
-      -- so it is of the key by which it is found
+      -- these facts hold for each key by which a search finds the value, because the value has this key
       module _ (key : ℕ) (found : value_with key_of key values ≡ Some value) where
         pub removed_it : rest ≡ without key_of key values
         removed_it = sym without_it ∙ ap (λ (n : ℕ). without key_of n values) (found_key key values found)
@@ -153,47 +153,47 @@ module _ {T : Type 0} (key_of : T → ℕ) where
         pub moved_it : value ∷ rest ≡ touched key_of key values
         moved_it = sym touched_it ∙ ap (λ (n : ℕ). touched key_of n values) (found_key key values found)
 
-  -- THE FIRST is taken out, and the others stand after it
+  -- THE FIRST VALUE IS REMOVED, and the other values come after it in the list
   pub without_first : {values rest : List T} {first : T} → HaveOwnKeys key_of values → Without first values rest → first_value values ≡ Some first → values ≡ first ∷ rest
   without_first {values} {rest} {first} own w e =
       let s = first_cut values e in
       let r : Without first values s.0 = record { front = []; back = s.0; was = s.1; is = refl } in
       s.1 ∙ ap (λ (l : List T). first ∷ l) (sym (without_it r own) ∙ without_it w own)
 
-  -- THE LAST is taken out, and the others stand before it
+  -- THE LAST VALUE IS REMOVED, and the other values come before it in the list
   pub without_last : {values rest : List T} {last : T} → HaveOwnKeys key_of values → Without last values rest → last_value values ≡ Some last → values ≡ rest ++ last ∷ []
   without_last {values} {rest} {last} own w e =
       let s = last_cut values e in
       let r : Without last values s.0 = record { front = s.0; back = []; was = s.1; is = sym (append-nil s.0) } in
       s.1 ∙ ap (λ (l : List T). l ++ last ∷ []) (sym (without_it r own) ∙ without_it w own)
 
-  -- WHAT A SEARCH FINDS is the value of the key
+  -- THE VALUE THAT A SEARCH FINDS is the value with the key
   module _ (store : IndexedOrder T) (whole : IsWhole (order_in store)) where
     pub found_value : HaveOwnKeys key_of (values_of store) → (key : ℕ) (position : Option Place) → IsFound key_of store.values key position → object_there store.values position ≡ value_with key_of key (values_of store)
     found_value own key None none =
         sym (found_none key (values_of store) (from_each (λ value. has_key key_of key value ≡ false) store.values (λ p value there. ne_eqb (key_of value) key (none p value there)) store.order))
     found_value own key (Some p) found = found.1 ∙ sym (found_it (whole_value whole p found.1).1 own) ∙ ap (λ (n : ℕ). value_with key_of n (values_of store)) found.2
 
-  -- EACH KEY ONCE, as before: with another value first, of a new key,
+  -- NO TWO VALUES HAVE EQUAL KEYS after a value is inserted at the front, whose key no value had
   pub own_added : (values : List T) (value : T) → HaveOwnKeys key_of values → value_with key_of (key_of value) values ≡ None → HaveOwnKeys key_of (value ∷ values)
   own_added values value own none = (lack_found (key_of value) values none, own)
 
   module _ {values rest : List T} {out : T} (w : Without out values rest) (own : HaveOwnKeys key_of values) (value : T) where
-    -- after a value in the place of one, of the same key or a new one,
+    -- no two values have equal keys after another value has replaced a value, if it has the key of the old value, or a key that no value had
     pub own_renewed : key_of out ≡ key_of value → HaveOwnKeys key_of (value ∷ rest)
     own_renewed same = (subst (λ (n : ℕ). Lack key_of n rest) same (rest_lack w own), rest_own w own)
 
     pub own_replaced : value_with key_of (key_of value) values ≡ None → HaveOwnKeys key_of (value ∷ rest)
     own_replaced none = (still_lack w (key_of value) (lack_found (key_of value) values none), rest_own w own)
 
-  -- after one moved after all others,
+  -- no two values have equal keys after a value has moved to the back
   pub own_after : {values rest : List T} {out : T} → Without out values rest → HaveOwnKeys key_of values → HaveOwnKeys key_of (rest ++ out ∷ [])
   own_after {values} {rest} {out} w own = by rest (rest_own w own) (rest_lack w own) where
     by : (s : List T) → HaveOwnKeys key_of s → Lack key_of (key_of out) s → HaveOwnKeys key_of (s ++ out ∷ [])
     by [] own lack = (tt, tt)
     by (x ∷ s) own lack = (all_both (λ other. has_key key_of (key_of x) other ≡ false) s (out ∷ []) own.0 (other_way out x lack.0, tt), by s own.1 lack.1)
 
-  -- and after one at an end is gone
+  -- no two values have equal keys after the first or the last value is removed
   own_front : (front back : List T) → HaveOwnKeys key_of (front ++ back) → HaveOwnKeys key_of front
   own_front [] back own = tt
   own_front (x ∷ front) back own = (all_front (λ other. has_key key_of (key_of x) other ≡ false) front back own.0, own_front front back own.1)
@@ -207,7 +207,7 @@ module _ {T : Type 0} (key_of : T → ℕ) where
     own_last_out None e = subst (λ (store : IndexedOrder T). HaveOwnKeys key_of (values_of store)) (sym e.1) own
     own_last_out (Some last) e = own_front (values_of new) (last ∷ []) (subst (HaveOwnKeys key_of) e own)
 
--- ONE OUT AT AN END, as clauses see it
+-- ONE VALUE IS REMOVED at the front or at the back, and the values of the container are the remaining ones
 module _ {T : Type 0} (old new : IndexedOrder T) (parts : new.parts ≡ old.parts) where
   pub first_popped : (o : Option T) → MatchOption o ((values_of old ≡ []) × (new ≡ old)) (λ first. values_of old ≡ first ∷ values_of new)
       → MatchOption o (((keyed_of old).values ≡ []) × (keyed_of new ≡ keyed_of old)) (λ first. keyed_of old ≡ with_values (keyed_of new) (first ∷ values_of new))

@@ -1,11 +1,12 @@
--- Turn by turn: what a test was not asked of yet stands before what it kept, and one value less after each pop.
+-- A test is called for one value after another. The values that are not tested yet come before those that were kept, and each removal leaves one value
+-- less.
 use Rattle.std.proofs.Common.{◌≡◌, ℕ, ◌+◌, ◌<◌, ◌≤◌, Bool, true, false, cond, MatchOption, Option, None, Some, List, [], ◌∷◌, ◌++◌, length, take, drop, filter, refl, sym, ap, ◌∙◌, subst, arith, append-nil, append_assoc, length-append}
 use Rattle.std.proofs.lemmas.Option.{same_Some}
 use Rattle.ic_container.specs.Values.{first_value}
 use Rattle.ic_keyed.specs.Keyed.{KeyedValues, with_values}
 use Rattle.ic_keyed.specs.Tests.{AreAnswers, Tests, passing}
 
--- OF THESE VALUES the test was asked of the first `turns`
+-- THE TEST WAS CALLED for the first `turns` values. The container now has the values that are left, and after them those that passed
 pub record Asked {T : Type 0} (tells : T → Bool → Type 0) (values now : List T) (turns : ℕ) : Type 0 where
   pub done : List T
   pub left : List T
@@ -16,7 +17,7 @@ pub record Asked {T : Type 0} (tells : T → Bool → Type 0) (values now : List
   pub are : now ≡ left ++ passing answers done
 
 module _ {T : Type 0} (tells : T → Bool → Type 0) where
-  -- ONE ANSWER MORE
+  -- ONE RESULT MORE: the test was called for one more value, and its result is added to the results
   pub said_more : (done : List T) (answers : List Bool) (first : T) (answer : Bool) → AreAnswers tells done answers → tells first answer → AreAnswers tells (done ++ first ∷ []) (answers ++ answer ∷ [])
   said_more [] [] first answer said told = (told, tt)
   said_more [] (b ∷ bs) first answer said told = absurd said
@@ -31,7 +32,7 @@ module _ {T : Type 0} (tells : T → Bool → Type 0) where
   passing_more (x ∷ done) (true ∷ bs) first answer said = ap (λ (l : List T). x ∷ l) (passing_more done bs first answer said.1)
   passing_more (x ∷ done) (false ∷ bs) first answer said = passing_more done bs first answer said.1
 
-  -- A TEST THAT ANSWERS ALIKE at each call lets those pass that it holds of
+  -- A TEST THAT RETURNS for each value what `holds` computes lets exactly those values pass for which `holds` is true
   pub passing_are : (holds : T → Bool) → Tests tells holds → (values : List T) (answers : List Bool) → AreAnswers tells values answers → passing answers values ≡ filter holds values
   passing_are holds tests [] [] said = refl
   passing_are holds tests [] (b ∷ bs) said = absurd said
@@ -44,7 +45,7 @@ module _ {T : Type 0} {tells : T → Bool → Type 0} {values : List T} where
   asked_none = record { done = []; left = values; answers = []; were = refl; many = refl; said = tt; are = sym (append-nil values) }
 
   module _ {now : List T} {turns : ℕ} (a : Asked tells values now turns) where
-    -- one more
+    -- the test is called for one more value
     pub asked_more : {new : List T} → turns < length values
         → ((first : T) (rest : List T) → now ≡ first ∷ rest → (answer : Bool) × tells first answer × (new ≡ rest ++ passing (answer ∷ []) (first ∷ []))) → Asked tells values new (turns + 1)
     asked_more {new} more tested = by a.left a.were a.are where
@@ -62,7 +63,7 @@ module _ {T : Type 0} {tells : T → Bool → Type 0} {values : List T} where
             are = t.2 ∙ append_assoc left (passing a.answers a.done) (passing (t.0 ∷ []) (first ∷ [])) ∙ ap (λ (s : List T). left ++ s) (sym (passing_more tells a.done a.answers first t.0 a.said));
           }
 
-    -- and of all
+    -- the test was called for all values, and the container has exactly those that passed
     pub asked_all : length values ≤ turns → (answers : List Bool) × AreAnswers tells values answers × (now ≡ passing answers values)
     asked_all all = by a.left a.were a.are where
       by : (left : List T) → values ≡ a.done ++ left → now ≡ left ++ passing a.answers a.done → (answers : List Bool) × AreAnswers tells values answers × (now ≡ passing answers values)
@@ -71,7 +72,7 @@ module _ {T : Type 0} {tells : T → Bool → Type 0} {values : List T} where
           (a.answers, subst (λ (s : List T). AreAnswers tells s a.answers) (sym same) a.said, are ∙ ap (passing a.answers) (sym same))
       by (first ∷ left) were are = absurd (omega (arith, all, a.many, ap length were, length-append a.done (first ∷ left)))
 
--- ONE TURN: the first value goes after all others, or out
+-- ONE TURN: the first value is moved to the back if it passes, or it is removed
 module _ {T : Type 0} {value first : T} {others rest : List T} (same : value ∷ others ≡ first ∷ rest) where
   pub same_first : value ≡ first
   same_first = same_Some _ _ (ap first_value same)
@@ -82,11 +83,11 @@ module _ {T : Type 0} {value first : T} {others rest : List T} (same : value ∷
   pub turn_gone : {answer : Bool} → answer ≡ false → others ≡ rest ++ passing (answer ∷ []) (first ∷ [])
   turn_gone h = ap (drop 1) same ∙ sym (append-nil rest) ∙ sym (ap (λ (b : Bool). rest ++ cond b (first ∷ []) []) h)
 
--- the same parts and these values
+-- a container with the old number of parts and these values is the old container with these values
 pub keyed_is : {T : Type 0} (old new : KeyedValues T) (values : List T) → new.parts ≡ old.parts → new.values ≡ values → new ≡ with_values old values
 keyed_is old new values alike same = λ i. record { values = same i; parts = alike i }
 
--- ONE POPPED, if there was one
+-- ONE VALUE IS REMOVED, if there was one, and the container has one value less
 module _ {T : Type 0} (old new : KeyedValues T) where
   pub one_out : (o : Option T) → MatchOption o ((old.values ≡ []) × (new ≡ old)) (λ last. old ≡ with_values new (new.values ++ last ∷ [])) → 1 ≤ length old.values → length new.values + 1 ≡ length old.values
   one_out None e some = absurd (omega (arith, some, ap length e.0))
@@ -96,7 +97,7 @@ module _ {T : Type 0} (old new : KeyedValues T) where
   same_parts None e = ap (λ (k : KeyedValues T). k.parts) e.1
   same_parts (Some last) e = sym (ap (λ (k : KeyedValues T). k.parts) e)
 
--- and none is left
+-- a list of length 0 is empty
 pub none_left : {T : Type 0} (values : List T) → length values ≡ 0 → values ≡ []
 none_left [] e = refl
 none_left (x ∷ values) e = absurd (omega (arith, e))

@@ -1,14 +1,14 @@
--- Values with a key each, in an order.
+-- A container has values in an order, and each value has a key.
 use Rattle.std.specs.Prelude.{◌≡◌, ℕ, Bool, false, not, eqb, Option, List, [], ◌∷◌, ◌++◌, filter, find}
 use Rattle.std.specs.List.{AllByRecursion}
 
--- the values, from the one that was used last to the oldest, and into how many parts the index divides them: a search compares only values of one
--- part
+-- `values` has the values, from the one that was used last to the oldest. `parts` is the number of parts into which the index divides them, and a search
+-- compares only values of one part
 pub record KeyedValues (T : Type 0) : Type 0 where
   pub values : List T
   pub parts : ℕ
 
--- the same container with other values
+-- the container `old` with other values, and with as many parts of its index
 abbrev pub with_values : {T : Type 0} → KeyedValues T → List T → KeyedValues T
 with_values old values = record { values = values; parts = old.parts }
 
@@ -25,7 +25,7 @@ module _ {T : Type 0} (key_of : T → ℕ) where
   abbrev pub without : ℕ → List T → List T
   without key values = filter (λ value. not (has_key key value)) values
 
-  -- TOUCHED: the value with the key, if there is one, is now first, and the others keep their order
+  -- TOUCHED: the value with the key, if there is one, is now first, and the other values keep their order
   abbrev pub touched : ℕ → List T → List T
   touched key values = filter (has_key key) values ++ without key values
 
@@ -33,18 +33,18 @@ module _ {T : Type 0} (key_of : T → ℕ) where
   abbrev pub Lack : ℕ → List T → Type 0
   Lack key values = AllByRecursion (λ value. has_key key value ≡ false) values
 
-  -- no two values have one key
+  -- no two values have equal keys
   abbrev pub HaveOwnKeys : List T → Type 0
   HaveOwnKeys [] = Unit {0}
   HaveOwnKeys (value ∷ values) = Lack (key_of value) values × HaveOwnKeys values
 
--- a value is the first of the values; a value is the last
+-- `BeginsWith` says that `first` is the first of the values, and `EndsWith` says that `last` is the last of the values
 abbrev pub BeginsWith : {T : Type 0} → T → List T → Type 0
 BeginsWith {T} first values = (rest : List T) × (values ≡ first ∷ rest)
 
 abbrev pub EndsWith : {T : Type 0} → T → List T → Type 0
 EndsWith {T} last values = (front : List T) × (values ≡ front ++ last ∷ [])
 
--- the last value is removed, and another one is inserted at the front
+-- the last value, `last`, is removed, and the value `value` is inserted at the front
 abbrev pub ReplacesLast : {T : Type 0} → T → T → KeyedValues T → KeyedValues T → Type 0
 ReplacesLast {T} last value old new = (front : List T) × (old.values ≡ front ++ last ∷ []) × (new ≡ with_values old (value ∷ front))

@@ -1,11 +1,11 @@
--- What a test returns.
+-- A test is called for values, and these definitions say what it returns.
 use Rattle.std.specs.Prelude.{◌≡◌, Bool, cond, List, [], ◌∷◌}
 
--- `tells v b`: the test may return b for the value v. It returns for each value what `holds` computes
+-- `tells v b` says that the test may return b for the value v. The test returns for each value what `holds` computes
 abbrev pub Tests : {T : Type 0} → (T → Bool → Type 0) → (T → Bool) → Type 0
 Tests {T} tells holds = (value : T) (answer : Bool) → tells value answer → answer ≡ holds value
 
--- THE TEST WAS CALLED with each of these values once, in their order, and returned these results
+-- THE TEST WAS CALLED once with each value of a sequence, in its order, and returned the given results
 abbrev pub AreAnswers : {T : Type 0} → (T → Bool → Type 0) → List T → List Bool → Type 0
 AreAnswers tells [] [] = Unit {0}
 AreAnswers tells [] (answer ∷ answers) = ⊥

@@ -1,4 +1,4 @@
-//! Values by their keys, in the order of their use.
+//! A container finds values by their keys, and has them in the order of their use.
 //!
 //! ```text
 //! let mut pages = Keyed::new(rt.alloc()); // by a tree; `with_index` by another index
@@ -22,10 +22,11 @@ use ic_rbtree::RBTree;
 use std::alloc::{Allocator, Global};
 use std::marker::Model;
 
-/// Values with unique keys, in the order of their use.
+/// A container of values with unique keys, in the order of their use.
 ///
-/// A contract sees the list of the values, from the one that was used last to the oldest (`values`), and into how many parts the index divides them
-/// (`parts`): one for a tree, and the number of chains for a hash table. No two values have the same key: `keys_differ` gives this fact to a proof.
+/// A contract speaks of the list of the values, from the value that was used last to the oldest (`values`). It also speaks of the number of parts into
+/// which the index divides the values (`parts`): one for a tree, and the number of chains for a hash table. No two values have the same key, and
+/// `keys_differ` gives this fact to a proof.
 ///
 /// Each call that searches costs O(log n) with a tree and O(1) on average with a hash table. Only `reserve` and the calls that add a value take
 /// memory.
@@ -34,10 +35,10 @@ pub struct Keyed<T: HasKey, I: Index<T, A>, A: Allocator = Global> {
     store: Indexed<T, I, A>,
 }
 
-/// Values with a tree as their index, whose searches take O(log n).
+/// A container of values with a tree as the index, whose searches take O(log n).
 pub type TreeKeyed<T, A = Global> = Keyed<T, RBTree<ByKey<T>>, A>;
 
-/// The same as `TreeKeyed` over links of 4-byte words. The links take half the memory, and there can be at most 536,870,911 values.
+/// A container like `TreeKeyed`, over links of 4-byte words. The links take half the memory, and there can be at most 536,870,911 values.
 pub type NarrowTreeKeyed<T, A = Global> = Keyed<T, RBTree<NarrowByKey<T>>, A>;
 
 impl<T: HasKey, I: Index<T, A>, A: Allocator> Model for Keyed<T, I, A> {
@@ -87,7 +88,7 @@ impl<T: HasKey, I: Index<T, A>, A: Allocator> Keyed<T, I, A> {
     ghost use Rattle.ic_keyed.specs.Refusals.{IsRefused};
     ghost use Rattle.ic_keyed.specs.Tests.{AreAnswers, Tests, passing};
 
-    /// Makes a container without values, with this index: `Keyed::with_index(rt.alloc(), HashIndex::new(buckets))`. It takes no memory.
+    /// Makes a container without values, with the given index, for example: `Keyed::with_index(rt.alloc(), HashIndex::new(buckets))`. It takes no memory.
     ///
     /// It requires that the index is new. O(1).
     pub fn with_index(alloc: A, index: I) -> Keyed<T, I, A>
@@ -102,7 +103,7 @@ impl<T: HasKey, I: Index<T, A>, A: Allocator> Keyed<T, I, A> {
         }
     }
 
-    /// Gives a caller's proof the fact that no two values have the same key. It does nothing itself. O(1).
+    /// Gives a caller's proof the fact that no two values have the same key. The call does nothing when it runs. O(1).
     #[inline]
     pub fn keys_differ(&self)
         ensures { HaveOwnKeys T.key_of self.now.values }
@@ -127,24 +128,25 @@ impl<T: HasKey, I: Index<T, A>, A: Allocator> Keyed<T, I, A> {
     }
 
     /// Makes room for the links of `additional` more values, so that inserting them takes memory only for the values themselves. The values and their
-    /// order stay the same, even if it is refused. It makes at most two requests for memory. O(n) in the places that are new.
+    /// order stay the same, even if the call is refused. It makes at most two requests for memory. O(n) in the places that are new.
     pub fn reserve(&mut self, additional: usize) -> Result<(), CoverError>
         ensures { self.new ≡ self.old }
     {
         self.store.reserve(additional)
     }
 
-    /// Returns a walk over the values from the one that was used last to the oldest, or back from the oldest. The order stays. O(1).
+    /// Returns a walk over the values, from the value that was used last to the oldest, or backwards from the oldest. The order of the values does not
+    /// change. O(1).
     pub fn iter(&self) -> Iter<'_, T, A, I::Order>
         ensures { result ≡ self.now.values }
     {
         self.store.iter()
     }
 
-    /// Returns the value with the key, if there is one, and how many values the search compared. The order stays.
+    /// Returns the value with the key, if there is one, and how many values the search compared. The order of the values does not change.
     ///
-    /// With a tree it compares at most 2 log2(n + 1) of n values, and with a hash table at most the values in the chain of the key.
-    /// O(log n) by a tree, and O(length of a chain) by a hash table.
+    /// With a tree the search compares at most 2 log2(n + 1) of n values. With a hash table it compares at most the values in the chain of the key. O(log
+    /// n) by a tree, and O(length of a chain) by a hash table.
     pub fn find(&self, key: u64) -> (Option<&T>, u64)
         ensures value { option_copied result.0 ≡ value_with T.key_of key self.now.values }
         ensures looks { I.IsFew self.now.parts key self.now.values result.1 }
@@ -156,7 +158,8 @@ impl<T: HasKey, I: Index<T, A>, A: Allocator> Keyed<T, I, A> {
         }
     }
 
-    /// Returns the value with the key, if there is one. The order stays. O(log n) by a tree, and O(length of a chain) by a hash table.
+    /// Returns the value with the key, if there is one. The order of the values does not change. O(log n) by a tree, and O(length of a chain) by a hash
+    /// table.
     pub fn peek(&self, key: u64) -> Option<&T>
         ensures { option_copied result ≡ value_with T.key_of key self.now.values }
     {
@@ -164,8 +167,8 @@ impl<T: HasKey, I: Index<T, A>, A: Allocator> Keyed<T, I, A> {
         Some(self.store.at(place))
     }
 
-    /// Returns the value with the key, if there is one, and moves it to the front, as the one that was used last. The others keep their order.
-    /// O(log n) by a tree, and O(length of a chain) by a hash table.
+    /// Returns the value with the key, if there is one, and moves it to the front, because it is now the value that was used last. The other values keep
+    /// their order. O(log n) by a tree, and O(length of a chain) by a hash table.
     pub fn get(&mut self, key: u64) -> Option<&T>
         ensures* touches { sem 𝓛 (EndsAs T.row I.row A.row I.Links.row I.Order.row T.HasKey I.Index I.Links.Tables I.Order.unlinked I.Order.is_linked I.Order.width I.Order.next_word I.Order.KeepsOthers I.Order.prev A.Allocator self.entry (touched T.key_of key self.old.values)) }
         ensures value { option_copied result ≡ value_with T.key_of key self.old.values }
@@ -175,8 +178,8 @@ impl<T: HasKey, I: Index<T, A>, A: Allocator> Keyed<T, I, A> {
         Some(self.store.at(used))
     }
 
-    /// Moves the value with the key to the front, and returns whether there is one. The others keep their order.
-    /// O(log n) by a tree, and O(length of a chain) by a hash table.
+    /// Moves the value with the key to the front, and returns whether there is such a value. The other values keep their order. O(log n) by a tree, and
+    /// O(length of a chain) by a hash table.
     pub fn touch(&mut self, key: u64) -> bool
         ensures found { result ≡ is_some (value_with T.key_of key self.old.values) }
         ensures touched { self.new ≡ with_values self.old (touched T.key_of key self.old.values) }
@@ -188,7 +191,7 @@ impl<T: HasKey, I: Index<T, A>, A: Allocator> Keyed<T, I, A> {
         true
     }
 
-    /// Returns the value that was used last, if there is one. The order stays. O(1).
+    /// Returns the value that was used last, if there is one. The order of the values does not change. O(1).
     pub fn first(&self) -> Option<&T>
         ensures { MatchOption result (self.now.values ≡ []) (λ first. BeginsWith first.now self.now.values) }
     {
@@ -196,7 +199,7 @@ impl<T: HasKey, I: Index<T, A>, A: Allocator> Keyed<T, I, A> {
         Some(self.store.at(newest))
     }
 
-    /// Returns the value that was used longest ago, if there is one. The order stays. O(1).
+    /// Returns the value that was used longest ago, if there is one. The order of the values does not change. O(1).
     pub fn last(&self) -> Option<&T>
         ensures { MatchOption result (self.now.values ≡ []) (λ last. EndsWith last.now self.now.values) }
     {
@@ -206,8 +209,9 @@ impl<T: HasKey, I: Index<T, A>, A: Allocator> Keyed<T, I, A> {
 
     /// Adds a value at the front.
     ///
-    /// It is refused if another value has its key, or if there is no room for one more. Then the caller gets the value back, and nothing has changed.
-    /// It costs two searches, and at most three requests for memory. O(log n) by a tree, and O(length of a chain) by a hash table.
+    /// The call is refused if another value has the key of the new value, or if there is no room for one more. If it is refused, the caller gets the value
+    /// back, and nothing has changed. It costs two searches, and at most three requests for memory. O(log n) by a tree, and O(length of a chain) by a hash
+    /// table.
     pub fn insert(&mut self, value: T) -> Result<(), InsertError<T>>
         ensures inserted { OnOk result ((value_with T.key_of (T.key_of value) self.old.values ≡ None) × (self.new ≡ with_values self.old (value ∷ self.old.values))) }
         ensures refused { IfErr result (λ refused. IsRefused T.key_of value self.old.values refused × (self.new ≡ self.old)) }
@@ -222,7 +226,7 @@ impl<T: HasKey, I: Index<T, A>, A: Allocator> Keyed<T, I, A> {
         Ok(())
     }
 
-    /// Adds a value before all others, without the search of `insert`. It requires that none has its key.
+    /// Adds a value before all others, without the search of `insert`. It requires that no value in the container has the key of the new value.
     ///
     /// If there is no room for one more, the caller gets the value back, and nothing has changed.
     /// O(log n) by a tree, and O(length of a chain) by a hash table.
@@ -238,10 +242,11 @@ impl<T: HasKey, I: Index<T, A>, A: Allocator> Keyed<T, I, A> {
         Ok(())
     }
 
-    /// Replaces the value that has the same key by this one, moves it to the front, and returns the old value. The others keep their order.
+    /// Replaces the value that has the same key as the given value, moves the given value to the front, and returns the old value. The other values keep
+    /// their order.
     ///
-    /// If no value has its key, it returns the given value, and nothing has changed. It makes one search.
-    /// O(log n) by a tree, and O(length of a chain) by a hash table.
+    /// If no value in the container has this key, the call returns the given value as an error, and nothing has changed. It makes one search. O(log n) by
+    /// a tree, and O(length of a chain) by a hash table.
     pub fn replace(&mut self, value: T) -> Result<T, T>
         ensures replaced { IfOk result (λ gone. (value_with T.key_of (T.key_of value) self.old.values ≡ Some gone)
             × (self.new ≡ with_values self.old (value ∷ without T.key_of (T.key_of value) self.old.values))) }
@@ -253,11 +258,11 @@ impl<T: HasKey, I: Index<T, A>, A: Allocator> Keyed<T, I, A> {
         Ok(self.store.renew(place, value))
     }
 
-    /// Replaces the value that was used longest ago by this one, moves it to the front, and returns the old value. The others keep their order. It
-    /// requires that no value has its key.
+    /// Replaces the value that was used longest ago by the given value, moves the given value to the front, and returns the old value. The other values
+    /// keep their order. It requires that no value in the container has the key of the given value.
     ///
-    /// If there is no value, it returns the given one, and nothing has changed. It costs two searches.
-    /// O(log n) by a tree, and O(length of a chain) by a hash table.
+    /// If there is no value in the container, the call returns the given value as an error, and nothing has changed. It costs two searches. O(log n) by a
+    /// tree, and O(length of a chain) by a hash table.
     pub fn replace_last(&mut self, value: T) -> Result<T, T>
         requires new { value_with T.key_of (T.key_of value) self.old.values ≡ None }
         ensures replaced { IfOk result (λ last. ReplacesLast last value self.old self.new) }
@@ -269,8 +274,8 @@ impl<T: HasKey, I: Index<T, A>, A: Allocator> Keyed<T, I, A> {
         Ok(self.store.renew(oldest, value))
     }
 
-    /// Removes the value with the key and returns it, if there is one. The others keep their order. It costs two searches.
-    /// O(log n) by a tree, and O(length of a chain) by a hash table.
+    /// Removes the value with the key and returns it, if there is one. The other values keep their order. It costs two searches. O(log n) by a tree, and
+    /// O(length of a chain) by a hash table.
     pub fn remove(&mut self, key: u64) -> Option<T>
         ensures value { result ≡ value_with T.key_of key self.old.values }
         ensures removed { self.new ≡ with_values self.old (without T.key_of key self.old.values) }
@@ -279,24 +284,24 @@ impl<T: HasKey, I: Index<T, A>, A: Allocator> Keyed<T, I, A> {
         Some(self.store.remove(leaving))
     }
 
-    /// Removes the value that was used last and returns it, if there is one. It costs about a search.
-    /// O(log n) by a tree, and O(length of a chain) by a hash table.
+    /// Removes the value that was used last and returns it, if there is one. The call costs about as much as a search. O(log n) by a tree, and O(length of
+    /// a chain) by a hash table.
     pub fn pop_first(&mut self) -> Option<T>
         ensures { MatchOption result ((self.old.values ≡ []) × (self.new ≡ self.old)) (λ first. self.old ≡ with_values self.new (first ∷ self.new.values)) }
     {
         self.store.pop_first()
     }
 
-    /// Removes the value that was used longest ago and returns it, if there is one. It costs about a search.
-    /// O(log n) by a tree, and O(length of a chain) by a hash table.
+    /// Removes the value that was used longest ago and returns it, if there is one. The call costs about as much as a search. O(log n) by a tree, and
+    /// O(length of a chain) by a hash table.
     pub fn pop_last(&mut self) -> Option<T>
         ensures { MatchOption result ((self.old.values ≡ []) × (self.new ≡ self.old)) (λ last. self.old ≡ with_values self.new (self.new.values ++ last ∷ [])) }
     {
         self.store.pop_last()
     }
 
-    /// Keeps the values that pass the test, in their order, and drops the others. It calls the test once for each value, beginning with the one that
-    /// was used last. It costs a few steps for each value, and about a search for each that it drops. O(n log n) by a tree.
+    /// Keeps the values that pass the test, in their order, and drops the other values. It calls the test once for each value, beginning with the value
+    /// that was used last. It takes a few steps for each value, and about as long as a search for each value that it drops. O(n log n) by a tree.
     pub fn retain<F: Fn(&T) -> bool>(&mut self, keeps: F)
     where
         T: Drop,
@@ -309,7 +314,7 @@ impl<T: HasKey, I: Index<T, A>, A: Allocator> Keyed<T, I, A> {
         }
     }
 
-    // Calls the test with the first value, and moves the value to the back if it passes, or removes it if it does not.
+    // Calls the test with the first value. If the value passes, it moves to the back, and otherwise it is removed.
     fn test_first<F: Fn(&T) -> bool>(&mut self, keeps: &F)
     where
         T: Drop,
@@ -328,7 +333,7 @@ impl<T: HasKey, I: Index<T, A>, A: Allocator> Keyed<T, I, A> {
         }
     }
 
-    /// Removes all values and drops them. It costs about a search for each value. O(n log n) by a tree.
+    /// Removes all values and drops them. For each value the call costs about as much as a search. O(n log n) by a tree.
     pub fn clear(&mut self)
     where
         T: Drop,

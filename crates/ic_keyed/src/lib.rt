@@ -1,4 +1,4 @@
-//! Values with unique keys, in the order of their use.
+//! A container has values with unique keys, in the order of their use.
 //!
 //! ```text
 //! let mut pages = Keyed::new(rt.alloc());
@@ -7,7 +7,7 @@
 //! let oldest = pages.pop_last();
 //! ```
 //!
-//! A contract sees one list of values, from the one that was used last to the oldest. Each call cuts, joins or filters that list.
+//! A contract speaks of one list of values, from the value that was used last to the oldest. Each call cuts, joins or filters this list of values.
 #![tactic(auto)]
 
 mod insert_error;

@@ -1,4 +1,4 @@
-//! Searches of a value by its key.
+//! These functions find a value by its key.
 
 ghost use Rattle.std.specs.Prelude.{◌≡◌, true, IfSome};
 ghost use Rattle.ic_link_ops.specs.Prelude.{is_placed, object_there};
@@ -22,7 +22,7 @@ pub(crate) fn find<T: HasKey, I: Index<T, A>, A: Allocator>(
     store.find(key)
 }
 
-// The same without the number of comparisons.
+// Returns the place of the value with the key, if there is one, without the number of comparisons.
 pub(crate) fn place_of<T: HasKey, I: Index<T, A>, A: Allocator>(
     store: &Indexed<T, I, A>,
     key: u64,

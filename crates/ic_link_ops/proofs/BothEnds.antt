@@ -1,9 +1,10 @@
--- What a walk from both ends gives out is its sequence.
+-- A walk from both ends returns exactly its sequence.
 use Rattle.std.proofs.Common.{◌≡◌, Option, Some, List, [], ◌∷◌, ◌++◌, map, reverse, refl, sym, ◌∙◌, ap, subst, append_assoc}
 use Rattle.std.proofs.lemmas.List.{reverse-append}
 use Rattle.ic_link_ops.specs.BothEnds.{Item, at_the_front, at_the_back, Leads, from_front, from_back}
 
--- `Left s w`: w is what is left at s. A call at the front takes its first, and one at the back its last
+-- `Left s w` says that w is the list of items which the walk has not returned in the state s. A call at the front returns the
+-- first item of w, and a call at the back returns the last item of w.
 module _ {S A B : Type 0} (view : A → B) (next_gives next_back_gives : S → Option A → S → Type 0) (Left : S → List B → Type 0)
     (takes_first : (s t : S) (x : A) (w : List B) → next_gives s (Some x) t → Left s w → (r : List B) × (w ≡ view x ∷ r) × Left t r)
     (takes_last : (s t : S) (x : A) (w : List B) → next_back_gives s (Some x) t → Left s w → (r : List B) × (w ≡ r ++ view x ∷ []) × Left t r) where
@@ -23,7 +24,7 @@ module _ {S A B : Type 0} (view : A → B) (next_gives next_back_gives : S → O
       ∙ sym k.1
 
 module _ {S A : Type 0} (next_gives next_back_gives : S → Option A → S → Type 0) where
-  -- calls, and then more calls
+  -- If one sequence of calls leads from s to t and another one leads from t to u, both together lead from s to u.
   pub leads_on : (s t u : S) (items more : List (Item A)) → Leads next_gives next_back_gives s items t → Leads next_gives next_back_gives t more u
       → Leads next_gives next_back_gives s (items ++ more) u
   leads_on s t u [] more before after = subst (λ (v : S). Leads next_gives next_back_gives v more u) (sym before) after
@@ -31,19 +32,19 @@ module _ {S A : Type 0} (next_gives next_back_gives : S → Option A → S → T
   leads_on s t u (at_the_back x ∷ items) more before after = (before.0, before.1, leads_on before.0 t u items more before.2 after)
 
 module _ {A B : Type 0} (view : A → B) where
-  -- what they gave at the front is what the first gave there, and then what the others did
+  -- The items that two sequences of calls returned at the front are those of the first sequence, followed by those of the second.
   pub from_front_on : (items more : List (Item A)) → from_front view (items ++ more) ≡ from_front view items ++ from_front view more
   from_front_on [] more = refl
   from_front_on (at_the_front x ∷ items) more = ap (λ (l : List B). view x ∷ l) (from_front_on items more)
   from_front_on (at_the_back x ∷ items) more = from_front_on items more
 
-  -- the same at the back
+  -- The items that two sequences of calls returned at the back are those of the first sequence, followed by those of the second.
   pub from_back_on : (items more : List (Item A)) → from_back view (items ++ more) ≡ from_back view items ++ from_back view more
   from_back_on [] more = refl
   from_back_on (at_the_front x ∷ items) more = from_back_on items more
   from_back_on (at_the_back x ∷ items) more = ap (λ (l : List B). view x ∷ l) (from_back_on items more)
 
-  -- a view of what was given is what was given, each item viewed
+  -- If `view` is applied to each item that was returned, the result is the list that the definition with `view` computes.
   pub from_front_map : (items : List (Item A)) → map view (from_front (λ x. x) items) ≡ from_front view items
   from_front_map [] = refl
   from_front_map (at_the_front x ∷ items) = ap (λ (l : List B). view x ∷ l) (from_front_map items)

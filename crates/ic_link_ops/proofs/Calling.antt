@@ -1,4 +1,4 @@
--- For callers: what holds after a call, of whatever kind of list.
+-- The facts in this file help callers of a list of any kind after a call.
 use Rattle.std.proofs.Common.{◌≡◌, true, false, Bool, Option, List, length, subst, Result, Ok, Err, OnOk, OnErr, IfErr, sym, ap, ◌∙◌, ◌<◌, Some, None, IfSome, [], ◌∷◌}
 use Rattle.std.proofs.lemmas.Iterator.{YieldsList}
 use Rattle.std.proofs.lemmas.Iterator.Consumers.{YieldsList-from_shown, YieldsList-from_copied}
@@ -13,40 +13,45 @@ use Rattle.ic_link_ops.specs.Chains.{ListHead, RepresentsChain}
 use Rattle.ic_link_ops.specs.Walk.{GivesFirst}
 use Rattle.ic_link_ops.proofs.RepresentedLists.{represents_kept}
 
--- AN UNLINKED OBJECT IS ACCEPTED where a refusal says that it was linked, as over a plain table: what holds of `Ok` holds
+-- AN UNLINKED OBJECT IS ACCEPTED if a refusal would mean that the object was linked, for example over a plain table. If the
+-- object was unlinked, the call returned `Ok`, and the statement about `Ok` holds.
 pub accepted : {A X P : Type 0} {was : Bool} (Same : Type 0) (r : Result A X) → was ≡ false → OnErr r ((was ≡ true) × Same) → OnOk r P → P
 accepted Same (Ok a) off refused holds = holds
 accepted Same (Err x) off refused holds = let never : false ≡ true = sym off ∙ refused.0 in absurd (cc)
 
--- WHATEVER A PUSH ANSWERED: what follows where it was accepted, and where it was refused and changed nothing
+-- A PUSH WAS ACCEPTED OR REFUSED: if the goal follows in the accepted case, and also in the refused case, in which nothing has
+-- changed, the goal holds.
 pub either : {A X P Q S Goal : Type 0} (R : X → Type 0) (r : Result A X) → OnOk r P → OnErr r Q → IfErr r (λ e. R e × S) → (P → Goal) → (Q → S → Goal) → Goal
 either R (Ok a) holds refused unchanged accepts refuses = accepts holds
 either R (Err e) holds refused unchanged accepts refuses = refuses refused unchanged.1
 
--- LISTS SURVIVE `cover`, whatever it answered: `stays` is its clause
+-- LISTS SURVIVE `cover`, whatever it returned: each list keeps its sequence, because no entry changed. The argument `stays` is
+-- the clause of the contract that says that no entry changed.
 pub still_represented : {E W : Type 0} {between : E → Option Place → Option Place → Type 0} {kept : Option Place → W} {old new : Table E} {list : ListHead W} {s : List Place}
     → ((q : Place) → new.entry q ≡ old.entry q) → RepresentsChain between kept old list s → RepresentsChain between kept new list s
 still_represented stays shown = represents_kept shown (λ q member. stays q)
 
--- WHAT A WALK LENDS, as a `for`, a `collect` and the like take it: `left s` are the objects left at s, and `is` the clause `walks` of `iter`
+-- WHAT A WALK LENDS in a `for` loop or to `collect`: the walk lends the objects in the list `left walk`, in order. The argument
+-- `is` is the clause `walks` of the contract of `iter`.
 module _ {S T : Type 0} (left : S → List T) where
   pub walk_yields : {walk : S} {xs : List T} → left walk ≡ xs → YieldsList (GivesFirst left) (λ x. x.now) walk xs
   walk_yields {walk} is =
       subst (YieldsList (GivesFirst left) (λ x. x.now) walk) is
       (YieldsList-from_shown (GivesFirst left) (λ x. x.now) left (λ s t gives. ap length gives.0.0) (λ s x t gives. gives.0) walk)
 
-  -- and as copies of them
+  -- If the objects of a walk are copied one after the other, the copies are the objects in the list that the walk lends, in
+  -- order.
   pub walk_copied : {walk : S} {copied : Copied S} {xs : List T} → copied_source copied ≡ walk → left walk ≡ xs
       → YieldsList (copies (GivesFirst left)) (λ x. x) copied xs
   walk_copied {walk} {copied} source is =
       let lent = walk_yields {walk = walk} is in YieldsList-from_copied {s = copied} (rw (← source) at lent)
 
--- A MEMBER of what is represented stands somewhere in it
+-- A MEMBER of a represented sequence has a position in it: some members are before it and some are after it.
 pub has_member : (shows : List Place → Type 0) {q : Place} (s : List Place) → shows s → IsMember q s → HasMember shows q
 has_member shows {q} s shown member =
     let m = member_split q s member in record { front = m.0; back = m.1; shown = subst shows m.2 shown }
 
--- WHAT WAS TAKEN OFF is still covered
+-- A REMOVED MEMBER is still covered by the table.
 module _ {L E H : Type 0} {Represents : Table E → H → List Place → Type 0} {table : L → Table E} {Trace : L → L → List LinkStep → Type 0} (linked : E → Bool)
     (replays : (a b : L) (s : List LinkStep) → Trace a b s → TraceIs linked (table a) (table b) s) (law : (t : L) (p : Place) → IsLinked linked (table t) p → IsCovered (table t) p) where
   pub removed_covered : {old new : CursorState L H} (r : Option Place) → IsValidCursor Represents table old → RemovesThere Represents table Trace old r new → IfSome r (λ p. IsCovered (table new.links) p)

@@ -1,4 +1,4 @@
--- Chains: cut, glued, turned at their ends, and kept where the entries of their members are.
+-- Chains can be cut and joined, the neighbors at their ends can be changed, and they stay if the entries of their members stay.
 use Rattle.std.proofs.Common.{◌≡◌, ◌≢◌, Option, Some, None, List, [], ◌∷◌, ◌++◌, reverse, Bool, true, false, refl, sym, ap}
 use Rattle.ic_link_ops.specs.Prelude.{Place, IsAbsent, IsDistinct, IsDisjoint, first_or, last_or, first, last, but_last}
 use Rattle.ic_link_ops.specs.Chains.{IsChain}
@@ -6,37 +6,37 @@ use Rattle.ic_link_ops.specs.Turns.{TurnsAfter, TurnsBefore}
 use Rattle.ic_link_ops.proofs.SequenceLemmas.{IsOutside, first_or-append, absent_left, absent_right, distinct_disjoint, distinct_left, distinct_right, distinct_middle, distinct_remove, last_outside, first_outside, last_not, none_not, some_same, disjoint_left, disjoint_right, disjoint_sym, reverse_cons, last_of_reverse}
 
 module _ {E : Type 0} (between : E → Option Place → Option Place → Type 0) where
-  -- a chain depends on the entries of its members alone
+  -- A chain stays if no entry of its members changes.
   pub chain_kept : (old new : Place → E) (b : Option Place) (s : List Place) (a : Option Place)
       → ((q : Place) → (IsAbsent q s → ⊥) → new q ≡ old q) → IsChain between old b s a → IsChain between new b s a
   chain_kept old new b [] a same c = tt
   chain_kept old new b (x ∷ s) a same c =
       (rw (same x (λ h. h.0 refl)) c.0, chain_kept old new (Some x) s a (λ q h. same q (λ k. h k.1)) c.1)
 
-  -- it stays where nothing but the entry at a place outside of it is changed
+  -- A chain stays if only the entry at the place `at` changes and this place is not a member of the chain.
   pub chain_beside : (old new : Place → E) (at b : Option Place) (s : List Place) (a : Option Place)
       → IsOutside at s → ((q : Place) → at ≢ Some q → new q ≡ old q) → IsChain between old b s a → IsChain between new b s a
   chain_beside old new at b s a out same c = chain_kept old new b s a (λ q member. same q (λ e. member (rw e at out))) c
 
-  -- and where nothing but entries at members of t is changed, which are not its own
+  -- A chain s stays if only entries at members of t change and s and t share no member.
   pub chain_frame : (old new : Place → E) (b : Option Place) (s : List Place) (a : Option Place) (t : List Place)
       → IsDisjoint s t → ((q : Place) → IsAbsent q t → new q ≡ old q) → IsChain between old b s a → IsChain between new b s a
   chain_frame old new b [] a t apart same c = tt
   chain_frame old new b (x ∷ s) a t apart same c = (rw (same x apart.0) c.0, chain_frame old new (Some x) s a t apart.1 same c.1)
 
-  -- a chain cut in two
+  -- A chain that is cut in two gives two chains: the part s, and the part r.
   pub chain_cut : (t : Place → E) (b : Option Place) (s r : List Place) (a : Option Place)
       → IsChain between t b (s ++ r) a → IsChain between t b s (first_or r a) × IsChain between t (last_or b s) r a
   chain_cut t b [] r a c = (tt, c)
   chain_cut t b (x ∷ s) r a c = let k = chain_cut t (Some x) s r a c.1 in ((rw (← first_or-append s r a) c.0, k.0), k.1)
 
-  -- and two chains glued
+  -- Two chains that fit together form one chain.
   pub chain_glue : (t : Place → E) (b : Option Place) (s r : List Place) (a : Option Place)
       → IsChain between t b s (first_or r a) → IsChain between t (last_or b s) r a → IsChain between t b (s ++ r) a
   chain_glue t b [] r a c k = k
   chain_glue t b (x ∷ s) r a c k = (rw (first_or-append s r a) c.0, chain_glue t (Some x) s r a c.1 k)
 
-  -- the last of a chain is turned
+  -- If the place after the last member of a chain changes from a to a', the chain continues to a'.
   pub chain_last : (old new : Place → E) (b : Option Place) (s : List Place) (a a' : Option Place)
       → TurnsAfter between old new (last s) a a' → IsDistinct s → IsChain between old b s a → IsChain between new b s a'
   chain_last old new b [] a a' turn d c = tt
@@ -46,14 +46,15 @@ module _ {E : Type 0} (between : E → Option Place → Option Place → Type 0)
     chain_last old new (Some x) (y ∷ s) a a' turn d.1 c.1,
   )
 
-  -- the first of a chain is turned
+  -- If the place before the first member of a chain changes from b to b', the chain begins after b'.
   pub chain_first : (old new : Place → E) (b b' : Option Place) (s : List Place) (a : Option Place)
       → TurnsBefore between old new (first s) b b' → IsDistinct s → IsChain between old b s a → IsChain between new b' s a
   chain_first old new b b' [] a turn d c = tt
   chain_first old new b b' (x ∷ s) a turn d c =
       (turn.turned x (first_or s a) refl c.0, chain_beside old new (Some x) (Some x) s a d.0 turn.others c.1)
 
-  -- THE TWO SIDES OF A GAP are turned: first the last of s, then the first of r
+  -- THE TWO SIDES OF A GAP change: first the place after the last member of s changes, and then the place before the first member
+  -- of r. Then s and r are chains with their new neighbors.
   pub chain_parts : (t0 t1 t2 : Place → E) (s r : List Place) (f g x y : Option Place) → IsDistinct (s ++ r)
       → TurnsAfter between t0 t1 (last s) f x → TurnsBefore between t1 t2 (first r) g y
       → IsChain between t0 None s f → IsChain between t0 g r None → IsChain between t2 None s x × IsChain between t2 y r None
@@ -63,7 +64,7 @@ module _ {E : Type 0} (between : E → Option Place → Option Place → Type 0)
         chain_first t1 t2 g y r None before (distinct_right s r d) (chain_beside t0 t1 (last s) g r None (last_outside None s r tt apart) after.others k),
       )
 
-  -- one place is put between two chains
+  -- One place p is put between two chains, and the three together are one chain.
   pub chain_filled : (t0 t1 t2 t3 : Place → E) (s : List Place) (p : Place) (r : List Place) (f g : Option Place) → IsDistinct (s ++ p ∷ r)
       → TurnsAfter between t0 t1 (last s) f (Some p) → TurnsBefore between t1 t2 (first r) g (Some p)
       → between (t3 p) (last s) (first r) → ((q : Place) → q ≢ p → t3 q ≡ t2 q)
@@ -75,7 +76,8 @@ module _ {E : Type 0} (between : E → Option Place → Option Place → Type 0)
       chain_glue t3 None s (p ∷ r) None (chain_beside t2 t3 (Some p) None s (Some p) (absent_left p s r out) others parts.0)
       (stands, chain_beside t2 t3 (Some p) (Some p) r None (absent_right p s r out) others parts.1)
 
-  -- another chain is put into a gap: the two sides of the gap are turned first, then its first and its last
+  -- A second chain is put into a gap of the first chain. First the entries on both sides of the gap are changed, and then the
+  -- entries of the second chain's first and last member.
   pub chain_spliced : (t0 t1 t2 t3 t4 : Place → E) (s : List Place) (x : Place) (mid r : List Place)
       → IsDistinct (s ++ r) → IsDistinct (x ∷ mid) → IsDisjoint (x ∷ mid) (s ++ r)
       → TurnsAfter between t0 t1 (last s) (first r) (Some x) → TurnsBefore between t1 t2 (first r) (last s) (last (x ∷ mid))
@@ -98,7 +100,7 @@ module _ {E : Type 0} (between : E → Option Place → Option Place → Type 0)
       let r4 = chain_beside t3 t4 (last m) (last m) r None (last_outside None m r tt m_r) turn4.others r3 in
       chain_glue t4 None s (m ++ r) None s4 (chain_glue t4 (last s) m r None m4 r4)
 
-  -- how the last of a chain stands, and the first
+  -- The entry of the last member of a chain names the members before and after it, and so does the entry of the first member.
   pub last_between : (t : Place → E) (b : Option Place) (s : List Place) (a : Option Place) {q : Place}
       → IsChain between t b s a → Some q ≡ last s → between (t q) (last_or b (but_last s)) a
   last_between t b [] a {q} c e = absurd (none_not q (sym e))
@@ -109,13 +111,13 @@ module _ {E : Type 0} (between : E → Option Place → Option Place → Type 0)
       → IsChain between t b (x ∷ s) a → q ≡ x → between (t q) b (first_or s a)
   first_between t b x s a c e = rw e c.0
 
-  -- a chain for a relation is one for a weaker relation
+  -- If a chain is a chain for one relation of neighbors, it is also a chain for every weaker relation.
   pub chain_weakened : (weaker : E → Option Place → Option Place → Type 0) → ((e : E) (b a : Option Place) → between e b a → weaker e b a)
       → (t : Place → E) (b : Option Place) (s : List Place) (a : Option Place) → IsChain between t b s a → IsChain weaker t b s a
   chain_weakened weaker weaken t b [] a c = tt
   chain_weakened weaker weaken t b (x ∷ s) a c = (weaken (t x) b (first_or s a) c.0, chain_weakened weaker weaken t (Some x) s a c.1)
 
-  -- two chains from one place on are one, if an entry and what stands before it tell what stands after
+  -- If an entry and the place before determine the place after, two chains that begin with the same place are equal.
   pub chain_one : ((e : E) (a b c : Option Place) → between e a b → between e a c → b ≡ c)
       → (t : Place → E) (b : Option Place) (s r : List Place) → first s ≡ first r → IsChain between t b s None → IsChain between t b r None → s ≡ r
   chain_one one t b [] [] e c k = refl
@@ -127,26 +129,26 @@ module _ {E : Type 0} (between : E → Option Place → Option Place → Type 0)
       rw same (ap (λ (l : List Place). x ∷ l) (chain_one one t (Some x) s r (one (t x) b (first s) (first r) c.0 k'.0) c.1 k'.1))
 
   module _ (linked : E → Bool) (law : (e : E) (b a : Option Place) → between e b a → linked e ≡ true) where
-    -- what is not linked is no member
+    -- A place that is not linked is no member of a chain of linked places.
     pub chain_absent : (t : Place → E) (b : Option Place) (s : List Place) (a : Option Place) (p : Place)
         → IsChain between t b s a → linked (t p) ≡ false → IsAbsent p s
     chain_absent t b [] a p c free = tt
     chain_absent t b (x ∷ s) a p c free =
         ((λ e. let k : linked (t p) ≡ true = rw e (law (t x) b (first_or s a) c.0) in cc), chain_absent t (Some x) s a p c.1 free)
 
--- the mirror of a relation: what stands before an entry changes places with what stands after
+-- The mirrored relation of neighbors exchanges the place before and the place after.
 abbrev pub mirrored : {E : Type 0} → (E → Option Place → Option Place → Type 0) → E → Option Place → Option Place → Type 0
 mirrored between e b a = between e a b
 
 module _ {E : Type 0} (between : E → Option Place → Option Place → Type 0) where
-  -- a chain read from its other end
+  -- A chain in reverse order is a chain for the mirrored relation.
   pub chain_mirrored : (t : Place → E) (b : Option Place) (s : List Place) (a : Option Place)
       → IsChain between t b s a → IsChain (mirrored between) t a (reverse s) b
   chain_mirrored t b [] a c = tt
   chain_mirrored t b (x ∷ s) a c =
       rw (reverse_cons x s) (chain_glue (mirrored between) t a (reverse s) (x ∷ []) b (chain_mirrored t (Some x) s a c.1) (rw (last_of_reverse a s) c.0, tt))
 
-  -- which is a chain for the same relation, if that is symmetric
+  -- If the relation of neighbors is symmetric, the chain in reverse order is a chain for the same relation.
   pub chain_reversed : ((e : E) (b a : Option Place) → between e b a → between e a b)
       → (t : Place → E) (b : Option Place) (s : List Place) (a : Option Place) → IsChain between t b s a → IsChain between t a (reverse s) b
   chain_reversed turn t b s a c =

@@ -1,4 +1,4 @@
--- A list whose members are unlinked one after the other, from the front. The same words serve every kind of list.
+-- The members of a list are unlinked one after the other, from the front. The facts in this file hold for every kind of list.
 use Rattle.std.proofs.Common.{◌≡◌, ◌≢◌, ◌<◌, Option, Some, None, List, [], ◌∷◌, ◌++◌, drop, length, refl, sym, ◌∙◌, ap, subst, arith, append_assoc, append-nil}
 use Rattle.ic_link_ops.specs.Prelude.{Place, IsAbsent, IsDistinct, first, last, Table, IsCovered}
 use Rattle.ic_link_ops.specs.Chains.{IsChain}
@@ -8,7 +8,8 @@ use Rattle.ic_link_ops.proofs.Chains.{chain_beside}
 use Rattle.ic_link_ops.proofs.Walks.{walk_blind, stretch_through}
 
 module _ {E : Type 0} (between : E → Option Place → Option Place → Type 0) where
-  -- the members of s from `current` on are still a chain; those before it are done
+  -- The members of s from `current` on are still a chain. The members before `current` are in `done`, and the members from
+  -- `current` on are in `rest`.
   pub record Releases (old new : Table E) (s : List Place) (current : Option Place) : Type 0 where
     pub done : List Place
     pub rest : List Place
@@ -18,7 +19,7 @@ module _ {E : Type 0} (between : E → Option Place → Option Place → Type 0)
     pub others : (q : Place) → IsAbsent q s → new.entry q ≡ old.entry q
 
 module _ {E : Type 0} {between : E → Option Place → Option Place → Type 0} where
-  -- at first none is done
+  -- Before the first step no member is in `done`.
   unfoldable pub releases_none : {t : Table E} {s : List Place} {current : Option Place} → IsChain between t.entry None s None → current ≡ first s
       → Releases between t t s current
   releases_none {t} {s} {current} chain starts = record {
@@ -30,16 +31,16 @@ module _ {E : Type 0} {between : E → Option Place → Option Place → Type 0}
     others = λ q out. refl;
   }
 
-  -- how the members that are left begin
+  -- The members that are left begin with the current member p.
   rest_is : {old new : Table E} {s : List Place} {p : Place} (k : Releases between old new s (Some p)) → k.rest ≡ p ∷ drop 1 k.rest
   rest_is k = first_is k.rest k.at
 
-  -- the next of them stands where the entry says
+  -- The entry of the current member p names its neighbors in the list.
   pub next_between : {old new : Table E} {s : List Place} {p : Place} (k : Releases between old new s (Some p))
       → between (new.entry p) (last k.done) (first (drop 1 k.rest))
   next_between {new = new} {p = p} k = let P : List Place → Type 0 = λ l. IsChain between new.entry (last k.done) l None in (subst P (rest_is k) k.chain).0
 
-  -- ONE STEP: it is unlinked, and the one after it is next
+  -- ONE STEP unlinks the current member p. The member p moves to `done`, and the member after p becomes the current member.
   pub releases_more : {old new new' : Table E} {s : List Place} {p : Place} {current : Option Place} → IsDistinct s
       → (k : Releases between old new s (Some p)) → ((q : Place) → q ≢ p → new'.entry q ≡ new.entry q)
       → current ≡ first (drop 1 k.rest) → (k' : Releases between old new' s current) × (k.rest ≡ p ∷ k'.rest) × (k'.done ≡ k.done ++ p ∷ [])
@@ -62,14 +63,15 @@ module _ {E : Type 0} {between : E → Option Place → Option Place → Type 0}
         refl,
       )
 
-  -- at last all of s is done
+  -- If no current member is left, all members of s are in `done`.
   pub releases_all : {old new : Table E} {s : List Place} {current : Option Place} (k : Releases between old new s current) → current ≡ None → k.done ≡ s
   releases_all {s = s} k over = whole k.rest k.parts (sym k.at ∙ over) where
     whole : (rest : List Place) → s ≡ k.done ++ rest → first rest ≡ None → k.done ≡ s
     whole [] parts none = sym (parts ∙ append-nil k.done)
     whole (x ∷ rest) parts none = absurd (none_not x (sym none))
 
-  -- what is left is what a walk from there comes by: `step e before` is what stands after the place of e
+  -- A walk from the current member on reaches exactly the members that are left. `step e before` is the place after the place of
+  -- the entry e.
   pub releases_left : (step : E → Option Place → Option Place) → ((e : E) (before after : Option Place) → between e before after → step e before ≡ after)
       → {old new : Table E} {s : List Place} {current : Option Place} → ((q : Place) (b a : Option Place) → between (new.entry q) b a → IsCovered new q)
       → IsDistinct s → (k : Releases between old new s current) → walked step new (last k.done) current None ≡ k.rest
@@ -77,13 +79,14 @@ module _ {E : Type 0} {between : E → Option Place → Option Place → Type 0}
       stretch_through step law new covered {b = last k.done} {from = current} {to = last k.rest}
       (record { distinct = distinct_right k.done k.rest (subst IsDistinct k.parts d); chain = k.chain; starts = k.at; ends = refl })
 
-  -- whatever stands before, where the entry alone tells what stands after
+  -- A walk from the current member on reaches exactly the members that are left. The walk uses no place before, because an entry
+  -- alone determines the place after.
   pub releases_left_blind : (next : E → Option Place) → ((e : E) (before after : Option Place) → between e before after → next e ≡ after)
       → {old new : Table E} {s : List Place} {current : Option Place} → ((q : Place) (b a : Option Place) → between (new.entry q) b a → IsCovered new q)
       → IsDistinct s → (k : Releases between old new s current) → walked (λ e before. next e) new None current None ≡ k.rest
   releases_left_blind next law {new = new} {current = current} covered d k =
       walk_blind next new.entry new.extent.places None (last k.done) current None ∙ releases_left (λ e before. next e) law covered d k
 
--- each step leaves one less
+-- After each step one member less is left.
 pub releases_fewer : {p : Place} {rest rest' was is : List Place} → was ≡ rest → is ≡ rest' → rest ≡ p ∷ rest' → length is < length was
 releases_fewer was is more = omega (arith, ap length was, ap length is, ap length more)

@@ -1,12 +1,13 @@
--- What follows for collections of every kind from five facts, which each kind brings.
+-- This file proves what follows, for collections of every kind, from five facts that each kind proves.
 use Rattle.std.proofs.Common.{◌≡◌, Bool, Option, List, [], append-nil}
 use Rattle.ic_link_ops.specs.Prelude.{Place, Cut, join, at_back, IsAbsent, IsDistinct, IsAfter, IsDisjoint, Table, ChangesOnlyIn, IsUnlinked}
 use Rattle.ic_link_ops.specs.Edits.{Splices, Splits}
 use Rattle.ic_link_ops.proofs.Covering.{frames_join}
 use Rattle.ic_link_ops.proofs.SequenceLemmas.{disjoint_nothing, disjoint_sym, distinct_disjoint}
 
--- what a kind brings: a collection keeps its sequence where only other entries change, what is unlinked is no member, no place
--- stands twice in a sequence, every table represents the empty one for the empty collection, and at most one for any
+-- A kind of collection proves five facts. A collection keeps its sequence if only entries of other places change. An unlinked
+-- place is no member. No place occurs twice in a sequence. Every table represents the empty sequence for an empty collection. A
+-- table represents at most one sequence for a collection.
 pub record IsKind {E H : Type 0} (Represents : Table E → H → List Place → Type 0) (linked : E → Bool) (empty : H) : Type 0 where
   pub frame : (old new : Table E) (list : H) (s touched : List Place)
       → Represents old list s → IsDisjoint s touched → ((q : Place) → IsAbsent q touched → new.entry q ≡ old.entry q) → Represents new list s
@@ -16,25 +17,27 @@ pub record IsKind {E H : Type 0} (Represents : Table E → H → List Place → 
   pub one : (t : Table E) (list : H) (s u : List Place) → Represents t list s → Represents t list u → s ≡ u
 
 module _ {E H : Type 0} {Represents : Table E → H → List Place → Type 0} {linked : E → Bool} {empty : H} (kind : IsKind Represents linked empty) where
-  -- EVERY TABLE SHOWS NOTHING for a new collection
+  -- EVERY TABLE REPRESENTS THE EMPTY SEQUENCE for a new collection.
   pub new_represents_nothing : (t : Table E) → Represents t empty []
   new_represents_nothing t = kind.nothing t
 
-  -- ONE SEQUENCE IS SHOWN for a collection, not two
+  -- A TABLE REPRESENTS AT MOST ONE SEQUENCE for a collection.
   pub one_sequence_is_represented : {t : Table E} {list : H} {s u : List Place} → Represents t list s → Represents t list u → s ≡ u
   one_sequence_is_represented {t} {list} {s} {u} shown other = kind.one t list s u shown other
 
-  -- A COLLECTION SURVIVES `cover`, whatever it answered: `stays` is its clause
+  -- A COLLECTION SURVIVES `cover`, whatever it returned: the collection keeps its sequence, because no entry changed. The
+  -- argument is the clause `stays` of the contract.
   pub kept_represented : {old new : Table E} {list : H} {s : List Place} → ((q : Place) → new.entry q ≡ old.entry q) → Represents old list s → Represents new list s
   kept_represented {old} {new} {list} {s} stays shown = kind.frame old new list s [] shown (disjoint_nothing s) (λ q out. stays q)
 
-  -- OTHER COLLECTIONS STAY: where nothing but entries of `touched` is changed, one that shares no member with them keeps its sequence
+  -- OTHER COLLECTIONS STAY: if only entries at members of `touched` change, a collection that shares no member with `touched`
+  -- keeps its sequence.
   pub others_stay : {old new : Table E} {list : H} {s : List Place} (touched : List Place)
       → Represents old list s → IsDisjoint s touched → ChangesOnlyIn old new touched → Represents new list s
   others_stay {old} {new} {list} {s} touched shown apart frame = kind.frame old new list s touched shown apart frame.others
 
-  -- A SPLIT AND THEN A SPLICE at one position give the old sequence, and change no entry of another place. `splits`, `splices`: what
-  -- the two calls say
+  -- A SPLIT AND THEN A SPLICE at one position give the old sequence, and change no entry of another place. `splits` and `splices`
+  -- are the results of the two calls.
   pub split_then_splice : {t u v : Table E} {list kept handed spliced : H} {position : Option Place} (gap : Cut) → Represents t list (join gap) → IsAfter gap position
       → (splits : (g : Cut) → Represents t list (join g) → IsAfter g position → Splits Represents t u kept handed g.front g.back)
       → (splices : (g : Cut) (s : List Place) → Represents u kept (join g) → IsAfter g position → Represents u handed s → IsDisjoint s (join g) → Splices Represents u v spliced g s)

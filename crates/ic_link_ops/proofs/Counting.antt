@@ -1,14 +1,14 @@
--- How many numbers below a bound pass a test.
+-- This file counts the numbers below a bound that pass a test.
 use Rattle.std.proofs.Common.{◌≡◌, ◌≢◌, ℕ, zero, suc, ◌+◌, ◌<◌, ◌≤◌, Bool, true, false, arith, refl, ap, sym, ◌∙◌, inl, inr}
 use Rattle.std.proofs.Math.Nat.{eq-or-lt_of_le}
 use Rattle.ic_link_ops.specs.TreeWords.{one_if}
 
--- how many numbers below n pass f
+-- `count f n` is the number of numbers below n that pass the test f.
 pub count : (ℕ → Bool) → ℕ → ℕ
 count f zero = 0
 count f (suc n) = one_if (f n) + count f n
 
--- the count is the same where the test changes only beyond the bound
+-- If two tests differ only at the number p, and p is not below the bound n, both counts are equal.
 pub count_same : (f f' : ℕ → Bool) (p : ℕ) (n : ℕ) → ((q : ℕ) → q ≢ p → f' q ≡ f q) → n ≤ p → count f' n ≡ count f n
 unfolding count
 count_same f f' p zero same h = refl
@@ -17,7 +17,7 @@ count_same f f' p (suc n) same h =
     let r = count_same f f' p n same (omega arith) in
     omega (arith, r, ap one_if e)
 
--- and it falls where one number passes no longer
+-- If the number p below n passes the test f but not the test f', and the tests differ only at p, the count falls.
 pub count_falls : (f f' : ℕ → Bool) (p : ℕ) (n : ℕ) → ((q : ℕ) → q ≢ p → f' q ≡ f q) → f p ≡ true → f' p ≡ false → p < n → count f' n < count f n
 unfolding count
 count_falls f f' p zero same on off h = absurd (omega arith)

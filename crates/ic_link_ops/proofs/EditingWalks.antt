@@ -1,5 +1,5 @@
--- A walk that edits on its way to null: what it has left after, what it has taken off, and what is ahead of it. The same words serve
--- every kind.
+-- A walk can remove members on its way. This file describes which members a walk has passed, which members it has removed, and
+-- which members it has not reached. The facts in this file hold for every kind of collection.
 use Rattle.std.proofs.Common.{◌≡◌, ◌∙◌, sym, refl, Option, Some, List, [], ◌∷◌, ◌++◌, append_assoc}
 use Rattle.ic_link_ops.specs.Prelude.{Place, Cut, first, IsAbsent, Table, ChangesOnlyIn, CursorState, site, MovesOn, LinkStep, releases_each}
 use Rattle.ic_link_ops.specs.EditsAt.{RemovesThere}
@@ -7,9 +7,10 @@ use Rattle.ic_link_ops.proofs.Covering.{frames_join}
 use Rattle.ic_link_ops.proofs.SequenceLemmas.{absent_without, last_of_push}
 use Rattle.ic_link_ops.proofs.StepLemmas.{releases_append}
 
--- `Represents t head s`: the table represents s for the collection with this head
+-- `Represents t head s` says that the table t represents the sequence s for the collection with this head.
 module _ {L E H : Type 0} (Represents : Table E → H → List Place → Type 0) (table : L → Table E) (Trace : L → L → List LinkStep → Type 0) where
-  -- from a table that showed s for the collection, the walk has come here
+  -- A walk started with the sequence s in the table `start`. The walk has passed the members `after`, removed the members `gone`,
+  -- and not yet reached the members `ahead`.
   pub record Walked (start : L) (s : List Place) (now : CursorState L H) (after gone ahead : List Place) : Type 0 where
     pub shown : Represents (table now.links) now.head (after ++ ahead)
     pub here : now.position ≡ first ahead
@@ -18,7 +19,7 @@ module _ {L E H : Type 0} (Represents : Table E → H → List Place → Type 0)
     pub within : (q : Place) → IsAbsent q s → IsAbsent q (after ++ ahead)
 
 module _ {L E H : Type 0} {Represents : Table E → H → List Place → Type 0} {table : L → Table E} {Trace : L → L → List LinkStep → Type 0} where
-  -- at first all is ahead
+  -- Before the first step the walk has reached no member of s.
   pub walk_begins : {now : CursorState L H} {s : List Place} → Trace now.links now.links [] → Represents (table now.links) now.head s → now.position ≡ first s
       → Walked Represents table Trace now.links s now [] [] s
   walk_begins nothing shown here = record {
@@ -30,7 +31,7 @@ module _ {L E H : Type 0} {Represents : Table E → H → List Place → Type 0}
   }
 
   module _ {start : L} {s : List Place} {now : CursorState L H} {after gone ahead : List Place} {p : Place} (w : Walked Represents table Trace start s now after gone (p ∷ ahead)) where
-    -- ONE STEP: the walk moves on, and the member is after it
+    -- ONE STEP: the walk moves on to the next member, and the member p joins the members that the walk has passed.
     pub walk_leaves : {position : Option Place} → MovesOn Represents table now position
         → Walked Represents table Trace start s (site now.links now.head position) (after ++ p ∷ []) gone ahead
     walk_leaves moves =
@@ -43,7 +44,7 @@ module _ {L E H : Type 0} {Represents : Table E → H → List Place → Type 0}
           within = λ q out. rw same (w.within q out);
         }
 
-    -- or it takes the member off
+    -- ONE STEP that removes: the walk removes the member p, and p joins the members that the walk has removed.
     pub walk_takes : ((a b c : L) (u v : List LinkStep) → Trace a b u → Trace b c v → Trace a c (u ++ v)) → {new : CursorState L H} {r : Option Place}
         → RemovesThere Represents table Trace now r new → Walked Represents table Trace start s new after (gone ++ p ∷ []) ahead
     walk_takes does_on {new} {r} e =

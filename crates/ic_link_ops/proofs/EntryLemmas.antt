@@ -1,4 +1,4 @@
--- The entries of a table as they are written and grow.
+-- This file proves what the entries of a table are after a write, and after the table has grown.
 use Rattle.std.proofs.Common.{◌≡◌, ◌≢◌, ℕ, ◌∷◌, ◌<◌, List, length, Option, Bool, true, false, slice_set, slice_index_or, sym, ap, ◌∙◌}
 use Rattle.std.proofs.lemmas.List.{get_or-set_other, get_or_default, length-set}
 use Rattle.std.proofs.Math.Seq.{map-set_same}
@@ -13,20 +13,20 @@ use Rattle.ic_link_ops.specs.LinkedList.{IsBetween}
 use Rattle.ic_link_ops.specs.declared.link.Link.{Link}
 
 module _ {E : Type 0} (d : E) where
-  -- a write at p changes no entry of another place
+  -- A write at the place p changes no entry of another place.
   pub others_same : (es : List E) (p : Place) (e : E) (i : ℕ) → i ≡ index_of p → (q : Place) → q ≢ p → entry_at d (slice_set es i e) q ≡ entry_at d es q
   others_same es p e i at_p q apart = get_or-set_other es i (index_of q) e d (λ k. apart (same_index q p (k ∙ at_p)))
 
-  -- and there it is
+  -- After the entry e is written at the place p, the entry of p is e.
   pub entry_same : (es : List E) (p : Place) (e : E) (i : ℕ) → i ≡ index_of p → index_of p < length es → entry_at d (slice_set es i e) p ≡ e
   entry_same es p e i at_p covered = get_or-set_at es i (index_of p) e d (sym at_p) (rw at_p covered)
 
-  -- what was read at p is its entry
+  -- An entry that was read at the index of the place p is the entry of p.
   pub entry_read : (es : List E) (p : Place) (e beyond : E) (i : ℕ) → i ≡ index_of p → index_of p < length es → e ≡ slice_index_or es i beyond → entry_at d es p ≡ e
   entry_read es p e beyond i at_p covered read = rw (← at_p) (get_or_default es i d beyond (rw at_p covered) ∙ sym read)
 
 module _ {W V : Type 0} (printed : List V → List ℕ) where
-  -- A WRITE AT p THAT LEAVES THE VALUE BESIDE changes only the entry of p
+  -- A WRITE AT p THAT KEEPS THE VALUE beside the link changes only the entry of p.
   pub changes_only : (d : Link W V) (es : List (Link W V)) (p : Place) (old new beyond : Link W V) (i : ℕ) → i ≡ index_of p → old ≡ slice_index_or es i beyond → value_of new ≡ value_of old
       → ChangesOnly (table_with d (printed (values_beside es)) es) (table_with d (printed (values_beside (slice_set es i new))) (slice_set es i new)) p
   changes_only d es p old new beyond i at_p read stays = record {
@@ -34,14 +34,14 @@ module _ {W V : Type 0} (printed : List V → List ℕ) where
     others = others_same d es p new i at_p;
   }
 
--- of a table that is lent as well
+-- In a lent table, a write at p that keeps the value beside the link changes only the entry of p.
 module _ {W V : Type 0} (printed : List V → List ℕ) where
   pub view_changes_only : {name : ℕ} (d : Link W V) (es : List (Link W V)) (p : Place) (old new beyond : Link W V) (i : ℕ) → i ≡ index_of p → old ≡ slice_index_or es i beyond → value_of new ≡ value_of old
       → ChangesOnly (table_with d (name ∷ printed (values_beside es)) es) (table_with d (name ∷ printed (values_beside (slice_set es i new))) (slice_set es i new)) p
   view_changes_only {name} = changes_only (λ vs. name ∷ printed vs)
 
 module _ {W V : Type 0} (is_linked : W → Bool) (d : Link W V) where
-  -- A WRITE THAT LINKS: the place was unlinked, is linked now, and all others are as they were
+  -- A WRITE THAT LINKS: the place p was unlinked and is linked now, and every other place is linked or unlinked as before.
   pub links_entry : {names names' : List ℕ} (es : List (Link W V)) (p : Place) (old new beyond : Link W V) (i : ℕ) → i ≡ index_of p → index_of p < length es
       → old ≡ slice_index_or es i beyond → linked_by is_linked old ≡ false → linked_by is_linked new ≡ true
       → LinksAlso (linked_by is_linked) (table_with d names es) (table_with d names' (slice_set es i new)) p
@@ -52,7 +52,8 @@ module _ {W V : Type 0} (is_linked : W → Bool) (d : Link W V) where
         others = λ q apart. ap linked (others_same d es p new i at_p q apart);
       }
 
-  -- A WRITE AT A LINKED PLACE CHANGES WHAT THE ENTRY SAYS as it changes what was read there
+  -- A WRITE AT A LINKED PLACE changes what the entry says of its place, by the same function by which the written link differs
+  -- from the link that was read.
   pub says_written : (starts : linked_by is_linked d ≡ false) {R : Type 0} (says : Link W V → R) (change : R → R) (es : List (Link W V)) (p : Place) (old new beyond : Link W V) (i : ℕ)
       → i ≡ index_of p → linked_by is_linked (entry_at d es p) ≡ true → old ≡ slice_index_or es i beyond → says new ≡ change (says old)
       → says (entry_at d (slice_set es i new) p) ≡ change (says (entry_at d es p))
@@ -61,34 +62,37 @@ module _ {W V : Type 0} (is_linked : W → Bool) (d : Link W V) where
       ap says (entry_same d es p new i at_p covered) ∙ written ∙ ap (λ e. change (says e)) (sym (entry_read d es p old beyond i at_p covered read))
 
 module _ {W : Type 0} (next_word : W → ℕ) (is_linked : W → Bool) where
-  -- a link whose next word is that for a place names it as the next
+  -- If the next word of a link is replaced by the word of a place, the link names that place as the next one, and nothing else
+  -- changes.
   pub successor_set : (old new : W) (next : Option Place) → is_linked new ≡ is_linked old → next_word new ≡ word_of next
       → successor_of next_word is_linked (link_of new) ≡ record (successor_of next_word is_linked (link_of old)) { next = next }
   successor_set old new next stays names =
       let after : place_at (next_word new) ≡ next = ap place_at names ∙ place_at_word next in
       λ k. record { linked = stays k; next = after k }
 
-  -- the same where it names the one before as well
+  -- If the next word of a link with a previous place is replaced, the link names the new next place and still names its previous
+  -- place.
   pub next_set : (prev : W → Option Place) (old new : W) (next : Option Place) → is_linked new ≡ is_linked old → next_word new ≡ word_of next → prev new ≡ prev old
       → neighbors_of next_word is_linked prev (link_of new) ≡ record (neighbors_of next_word is_linked prev (link_of old)) { next = next }
   next_set prev old new next stays names kept =
       let after : place_at (next_word new) ≡ next = ap place_at names ∙ place_at_word next in
       λ k. record { linked = stays k; prev = kept k; next = after k }
 
-  -- and where the one before is set
+  -- If the previous place of a link is replaced, the link names the new previous place and still names its next place.
   pub prev_set : (prev : W → Option Place) (old new : W) (place : Option Place) → is_linked new ≡ is_linked old → next_word new ≡ next_word old → prev new ≡ place
       → neighbors_of next_word is_linked prev (link_of new) ≡ record (neighbors_of next_word is_linked prev (link_of old)) { prev = place }
   prev_set prev old new place stays kept names =
       λ k. record { linked = stays k; prev = names k; next = place_at (kept k) }
 
-  -- what the link of a linked place says, where its next word is that for a place
+  -- If a link says that its place is linked and its next word is the word of a place, the link names that place as the next one.
   pub successor_is : (new : W) (next : Option Place) → is_linked new ≡ true → next_word new ≡ word_of next
       → successor_of next_word is_linked (link_of new) ≡ record { linked = true; next = next }
   successor_is new next linked names =
       let after : place_at (next_word new) ≡ next = ap place_at names ∙ place_at_word next in
       λ k. record { linked = linked k; next = after k }
 
-  -- and it stands between two, if it names the one before as well
+  -- If a linked place's link has the word of the next place and names the previous place, its entry says that the place is
+  -- between the previous and the next place.
   pub between_is : {V : Type 0} (prev : W → Option Place) (new : Link W V) (before next : Option Place) → linked_by is_linked new ≡ true → next_word (words_of new) ≡ word_of next
       → prev (words_of new) ≡ before → IsBetween (neighbors_of next_word is_linked prev) new before next
   between_is prev new before next linked names kept =

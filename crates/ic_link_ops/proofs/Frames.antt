@@ -1,4 +1,5 @@
--- A tree seen from one of its members: found there by the sequence, taken apart and put together again.
+-- This file takes a tree apart at one of its members and puts it together again. The member is found by its position in the
+-- sequence.
 use Rattle.std.proofs.Common.{◌≡◌, ◌≢◌, Option, Some, List, [], ◌∷◌, ◌++◌, refl, sym, ap, ◌∙◌, arith, append_assoc, append-nil}
 use Rattle.ic_unsafe_ref.specs.declared.place.Place.{Place}
 use Rattle.ic_link_ops.specs.declared.color.Color.{Color}
@@ -11,7 +12,7 @@ use Rattle.ic_link_ops.specs.Times.{times, times_around}
 use Rattle.ic_link_ops.proofs.Times.{one_at_self, times_absent, times_order}
 use Rattle.ic_link_ops.proofs.Trees.{at_same, at_left, at_right, tree_kept}
 
--- two ways to cut one sequence at a member
+-- One sequence is cut at its member q and at its member p. Then p comes before q, or p is q, or p comes after q.
 data SameCut (a : List Place) (q : Place) (b s : List Place) (p : Place) (t : List Place) : Type 0 where
   in_front : (m : List Place) → a ≡ s ++ p ∷ m → t ≡ m ++ q ∷ b → SameCut a q b s p t
   here : a ≡ s → q ≡ p → b ≡ t → SameCut a q b s p t
@@ -33,13 +34,13 @@ same_cut (x ∷ a) q b (z ∷ s) p t e =
     next x z a q b s p t h (here e f g) = here (cc) f g
     next x z a q b s p t h (following m e f) = following m (cc) f
 
--- the tree t0 below the frames fs0, seen from its member p, with s before p and t after it within t0
+-- The tree t0 below the frames fs0 contains the member p, with the members s before p and the members t after p within t0.
 abbrev pub Focused : List Frame → Tree → List Place → Place → List Place → Type 0
 Focused fs0 t0 s p t =
     (fs : List Frame) × (c : Color) × (a b : Tree) × (plug fs (fork c a p b) ≡ plug fs0 t0)
     × (before fs ++ in_order a ≡ before fs0 ++ s) × (in_order b ++ after fs ≡ t ++ after fs0)
 
--- from a sequence to a member of the tree
+-- If p is at a position in the sequence of a tree, the tree can be taken apart at p.
 pub focus : (t0 : Tree) (fs0 : List Frame) (s : List Place) (p : Place) (t : List Place) → in_order t0 ≡ s ++ p ∷ t → Focused fs0 t0 s p t
 focus leaf fs0 [] p t e = cc
 focus leaf fs0 (x ∷ s) p t e = cc
@@ -54,7 +55,8 @@ focus (fork c a q b) fs0 s p t e = elim (same_cut (in_order a) q (in_order b) s 
       (r.0, r.1, r.2, r.3, r.4, r.5 ∙ (simp append_assoc (ap (λ z. before fs0 ++ z) (sym f))), r.6)
 ]
 
--- the sequence of a tree, seen from a subtree
+-- The sequence of a whole tree consists of the members before a subtree, the members of the subtree, and the members after the
+-- subtree.
 pub in_order_parts : (fs : List Frame) (t : Tree) → in_order (plug fs t) ≡ before fs ++ (in_order t ++ after fs)
 in_order_parts [] t = sym (append-nil (in_order t))
 in_order_parts (frame Left c p b ∷ fs) t =
@@ -62,7 +64,8 @@ in_order_parts (frame Left c p b ∷ fs) t =
 in_order_parts (frame Right c p b ∷ fs) t = in_order_parts fs (fork c b p t) ∙ simp append_assoc
 
 module _ {E : Type 0} (n : E → Node) where
-  -- a tree depends on the entries of its members alone, in numbers
+  -- If no entry of a place that occurs in a tree changes, the entries still store the tree. Whether a place occurs is decided by
+  -- counting.
   pub tree_same : (old new : Place → E) (up : Option Place) (t : Tree)
       → ((q : Place) → (times q t ≡ 0 → ⊥) → new q ≡ old q) → IsTree n old up t → IsTree n new up t
   tree_same old new up t same h = tree_kept n old new up t (λ q m. same q (λ k. m (times_absent q (in_order t) (times_order q t ∙ k)))) h
@@ -72,7 +75,7 @@ module _ {E : Type 0} (n : E → Node) where
   side_same old new Left p c near far up e h = at_same (ap n e) h
   side_same old new Right p c near far up e h = at_same (ap n e) h
 
-  -- so does what stands around a subtree
+  -- The frames around a subtree stay in the entries if no entry of a place that occurs in the frames changes.
   pub around_same : (old new : Place → E) (fs : List Frame) (o : Option Place)
       → ((q : Place) → (times_around q fs ≡ 0 → ⊥) → new q ≡ old q) → IsAround n old fs o → IsAround n new fs o
   around_same old new [] o same h = tt
@@ -82,7 +85,7 @@ module _ {E : Type 0} (n : E → Node) where
     around_same old new fs (Some p) (λ q m. same q (λ k. m (omega arith))) h.2,
   )
 
-  -- so both stay where a place alone changes that does not stand there
+  -- If only the entry of the place p changes, and p does not occur in the tree or in the frames, the entries still store both.
   pub tree_apart : (old new : Place → E) (p : Place) (up : Option Place) (t : Tree)
       → times p t ≡ 0 → ((q : Place) → q ≢ p → new q ≡ old q) → IsTree n old up t → IsTree n new up t
   tree_apart old new p up t none same h = tree_same old new up t (λ q m. same q (λ e. m (rw e none))) h
@@ -91,7 +94,7 @@ module _ {E : Type 0} (n : E → Node) where
       → times_around p fs ≡ 0 → ((q : Place) → q ≢ p → new q ≡ old q) → IsAround n old fs o → IsAround n new fs o
   around_apart old new p fs o none same h = around_same old new fs o (λ q m. same q (λ e. m (rw e none))) h
 
-  -- the setter of the child on a side
+  -- If the child of the place p on the side d is set to x, p has the child x there and keeps its other parts.
   pub side_set : (old new : Place → E) (d : Side) (p : Place) (c : Color) (near far up x : Option Place) → n (new p) ≡ with_child d (n (old p)) x
       → IsAtSide n old d p c near far up → IsAtSide n new d p c x far up
   side_set old new Left p c near far up x set h = at_left x set h

@@ -1,4 +1,4 @@
--- Whether a place is a member: a walk from the front looks for it. The same words serve every kind of list.
+-- A walk from the front tests whether a place q is a member of a list. The facts in this file hold for every kind of list.
 use Rattle.std.proofs.Common.{◌≡◌, ◌≢◌, ◌↔◌, Option, Some, None, List, [], ◌∷◌, ◌++◌, drop, true, false, IsTrue, nat_eq, refl, sym, ◌∙◌, ap, subst, eqb-true}
 use Rattle.std.proofs.lemmas.Bool.{eqb-false}
 use Rattle.ic_link_ops.specs.Prelude.{Place, IsAbsent, IsMember, IsDistinct, first, last, Table, IsCovered}
@@ -9,19 +9,20 @@ use Rattle.ic_link_ops.proofs.SequenceLemmas.{absent_right, absent_both, first_i
 use Rattle.ic_link_ops.proofs.Clearing.{Releases, releases_none, releases_more, releases_all, releases_left, next_between}
 
 module _ {E : Type 0} (between : E → Option Place → Option Place → Type 0) where
-  -- the walk has come to `current`, and q is none of those before it. It is the walk that clears a list, with no entry changed
+  -- The walk has come to `current`, and q is none of the members before it. The definition uses the walk that clears a list, but
+  -- no entry is changed.
   pub record Seeks (t : Table E) (s : List Place) (q : Place) (current : Option Place) : Type 0 where
     pub walk : Releases between t t s current
     pub passed : IsAbsent q walk.done
 
 module _ {E : Type 0} {between : E → Option Place → Option Place → Type 0} where
-  -- at first nothing is passed
+  -- Before the first step no member is passed.
   unfoldable pub seeks_none : {t : Table E} {s : List Place} {q : Place} {current : Option Place} → IsChain between t.entry None s None → current ≡ first s
       → Seeks between t s q current
   unfolding releases_none
   seeks_none chain starts = record { walk = releases_none chain starts; passed = tt }
 
-  -- ONE STEP: the member is another place, and the one after it is next
+  -- ONE STEP: the current member p is not q, and the member after p becomes the current one.
   pub seeks_more : {t : Table E} {s : List Place} {q p : Place} {current : Option Place} → IsDistinct s → (k : Seeks between t s q (Some p))
       → nat_eq p.word q.word ≡ false → current ≡ first (drop 1 k.walk.rest)
       → (k' : Seeks between t s q current) × (k.walk.rest ≡ p ∷ k'.walk.rest) × (k'.walk.done ≡ k.walk.done ++ p ∷ [])
@@ -33,18 +34,18 @@ module _ {E : Type 0} {between : E → Option Place → Option Place → Type 0}
         more.2,
       )
 
-  -- for a step that asks what stands before, the walk keeps that beside it
+  -- If the step needs the place before, the walk also stores that place.
   module _ (step : E → Option Place → Option Place) (law : (e : E) (b a : Option Place) → between e b a → step e b ≡ a) where
     pub kept_next : {t : Table E} {s : List Place} {q p : Place} {before next : Option Place} (k : Seeks between t s q (Some p)) → before ≡ last k.walk.done
         → next ≡ step (t.entry p) before → next ≡ first (drop 1 k.walk.rest)
     kept_next {t} {p = p} k keeps read = read ∙ ap (step (t.entry p)) keeps ∙ law _ _ _ (next_between k.walk)
 
-    -- what is left, as the entries lead through it
+    -- A walk from `current` on along the entries reaches exactly the members that are left.
     pub kept_left : {t : Table E} {s : List Place} {q : Place} {current before : Option Place} → ((q : Place) (b a : Option Place) → between (t.entry q) b a → IsCovered t q)
         → IsDistinct s → (k : Seeks between t s q current) → before ≡ last k.walk.done → walked step t before current None ≡ k.walk.rest
     kept_left covered d k keeps = rw keeps (releases_left step law covered d k.walk)
 
-  -- IT IS FOUND where the member is that place
+  -- THE PLACE q IS FOUND if the current member is q: then q is a member of s.
   pub found : {t : Table E} {s : List Place} {q p : Place} → Seeks between t s q (Some p) → nat_eq p.word q.word ≡ true
       → IsTrue true ↔ IsMember q s
   found {s = s} {q = q} {p = p} k equal =
@@ -52,7 +53,7 @@ module _ {E : Type 0} {between : E → Option Place → Option Place → Type 0}
       let parts : s ≡ k.walk.done ++ p ∷ drop 1 k.walk.rest = k.walk.parts ∙ ap (λ (l : List Place). k.walk.done ++ l) (first_is k.walk.rest k.walk.at) in
       ((λ _ out. (absent_right q k.walk.done (p ∷ drop 1 k.walk.rest) (subst (IsAbsent q) parts out)).0 same), (λ _. refl))
 
-  -- AND NOWHERE where nothing is left
+  -- THE PLACE q IS NOT FOUND if no member is left: then q is not a member of s.
   pub nowhere : {t : Table E} {s : List Place} {q : Place} {current : Option Place} → Seeks between t s q current → current ≡ None
       → IsTrue false ↔ IsMember q s
   nowhere {q = q} k over = ((λ yes. cc), (λ member. absurd (member (subst (IsAbsent q) (releases_all k.walk over) k.passed))))

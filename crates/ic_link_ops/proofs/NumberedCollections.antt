@@ -1,4 +1,5 @@
--- For callers: several collections in one table, after each kind of edit of one of them.
+-- The facts in this file help callers that keep several numbered collections in one table. The facts say what is true after each
+-- kind of edit of one collection.
 use Rattle.std.proofs.Common.{◌≡◌, ◌≢◌, ℕ, Bool, Option, Some, None, IsSome, List, [], ◌∷◌, ◌++◌, drop, inl, inr, refl, sym, ap, ◌∙◌, subst, true≢false}
 use Rattle.std.proofs.lemmas.Bool.Decides.{eqb_tells}
 use Rattle.std.specs.List.{AllByRecursion, cons_option}
@@ -10,14 +11,14 @@ use Rattle.ic_link_ops.proofs.LinkedSets.{everywhere}
 use Rattle.ic_link_ops.proofs.PlacedValues.{stand_beside, stand_last, stand_first, stand_rest}
 use Rattle.ic_link_ops.proofs.SequenceLemmas.{absent_left, disjoint_cons, first_is, split_member}
 
--- ONE NUMBER CHANGED: at k it is the new value, at all others the old one
+-- ONE NUMBER CHANGED: the function has the new value x at the number k, and the old value at every other number.
 pub at_number : {X : Type 0} (f : ℕ → X) (k : ℕ) (x : X) → with_at f k x k ≡ x
 at_number f k x = elim (eqb_tells k k) [ inl e ↦ rw e.0 refl | inr n ↦ absurd (n.1 refl) ]
 
 pub at_others : {X : Type 0} (f : ℕ → X) (k : ℕ) (x : X) (i : ℕ) → i ≢ k → with_at f k x i ≡ f i
 at_others f k x i other = elim (eqb_tells k i) [ inl e ↦ absurd (other (sym e.1)) | inr n ↦ rw n.0 refl ]
 
--- what holds of the new values at k, and of the old ones elsewhere, holds at each number
+-- If a relation holds for the new values at k, and for the old values at every other number, it holds at each number.
 by_number : {X Y : Type 0} (R : ℕ → X → Y → Type 0) {f : ℕ → X} {g : ℕ → Y} {k : ℕ} {x : X} {y : Y} → R k x y → ((i : ℕ) → i ≢ k → R i (f i) (g i))
     → (i : ℕ) → R i (with_at f k x i) (with_at g k y i)
 by_number R {k = k} {x} {y} here others i = elim (eqb_tells k i) [
@@ -25,7 +26,7 @@ by_number R {k = k} {x} {y} here others i = elim (eqb_tells k i) [
   | inr n ↦ rw n.0 (others i (λ e. n.1 (sym e)))
 ]
 
--- and what holds of each held before, if it did at k
+-- If a statement holds for each new value, and for the old value at k, it held for each old value.
 before_at : {X : Type 0} (P : X → Type 0) (f : ℕ → X) (k : ℕ) (x : X) → (P x → P (f k)) → ((i : ℕ) → P (with_at f k x i)) → (i : ℕ) → P (f i)
 before_at P f k x back all i = elim (eqb_tells k i) [
   | inl e ↦ subst (λ j. P (f j)) e.1 (back (subst P (at_number f k x) (all k)))
@@ -33,12 +34,12 @@ before_at P f k x back all i = elim (eqb_tells k i) [
 ]
 
 module _ {T : Type 0} (number : T → ℕ) where
-  -- the object belongs to collection i
+  -- The optional object belongs to the collection with the number i.
   IsOf : ℕ → Option T → Type 0
   IsOf i None = ⊥
   IsOf i (Some v) = number v ≡ i
 
-  -- and to no other
+  -- An object belongs to only one collection.
   one_number : {i j : ℕ} (o : Option T) → IsOf i o → IsOf j o → i ≡ j
   unfolding IsOf
   one_number None h k = absurd h
@@ -55,7 +56,7 @@ module _ {T : Type 0} (number : T → ℕ) where
     all_of i [] placed own = tt
     all_of i (x ∷ s) placed own = let a = one_of i (values_at objects s) (object_at objects x) placed.0 own in (a.0, all_of i s placed.1 a.1)
 
-    -- so members of two collections differ
+    -- A member of the collection i is no member of the collection j, if i and j differ.
     elsewhere : {i j : ℕ} → i ≢ j → (x : Place) → IsOf i (object_at objects x) → (t : List Place) → AllByRecursion (λ p. IsOf j (object_at objects p)) t → IsAbsent x t
     elsewhere apart x is [] all = tt
     elsewhere {i} apart x is (y ∷ t) all = (λ e. apart (one_number (object_at objects y) (subst (λ z. IsOf i (object_at objects z)) e is) all.0), elsewhere apart x is t all.1)
@@ -65,7 +66,7 @@ module _ {T : Type 0} (number : T → ℕ) where
     none_shared apart (x ∷ s) t all_s all_t = (elsewhere apart x all_s.0 t all_t, none_shared apart s t all_s.1 all_t)
 
 module _ {E H T : Type 0} {Represents : Table E → H → List Place → Type 0} {linked : E → Bool} {empty : H} (kind : IsKind Represents linked empty) {number : T → ℕ} where
-  -- A TABLE THAT LINKS NOTHING has empty collections
+  -- A TABLE WITHOUT LINKED PLACES has only empty collections.
   pub numbered_none : {t : Table E} {heads : ℕ → H} (objects : Objects T) → ((i : ℕ) → heads i ≡ empty) → ((p : Place) → IsUnlinked linked t p)
       → HasNumbered Represents linked number t heads objects (λ i. [])
   numbered_none {t} objects none unlinked = record {
@@ -75,17 +76,17 @@ module _ {E H T : Type 0} {Represents : Table E → H → List Place → Type 0}
   }
 
   module _ {old : Table E} {heads : ℕ → H} {objects : Objects T} {values : ℕ → List T} (has : HasNumbered Represents linked number old heads objects values) where
-    -- two of them share no member,
+    -- Two collections with different numbers share no member.
     pub numbered_apart : (i j : ℕ) → i ≢ j → IsDisjoint (has.members i) (has.members j)
     numbered_apart i j apart = none_shared number objects apart (has.members i) (has.members j) (all i) (all j) where
       all : (i : ℕ) → AllByRecursion (λ p. IsOf number i (object_at objects p)) (has.members i)
       all i = let k = has.each i in all_of number objects i (has.members i) k.stand.placed (subst (AllByRecursion (λ v. number v ≡ i)) (sym k.stand.are) k.own)
 
-    -- and what is not linked is a member of none
+    -- A place that is not linked is a member of no collection.
     pub numbered_free : {p : Place} → IsUnlinked linked old p → (i : ℕ) → IsAbsent p (has.members i)
     numbered_free {p} off i = kind.free old (heads i) (has.members i) p (has.each i).shown off
 
-    -- AFTER `cover`, whatever it answered
+    -- AFTER `cover`, whatever it returned, each collection keeps its members, because no entry changed.
     pub numbered_covered : {new : Table E} → ((q : Place) → new.entry q ≡ old.entry q) → HasNumbered Represents linked number new heads objects values
     numbered_covered stays = record {
       members = has.members;
@@ -93,7 +94,7 @@ module _ {E H T : Type 0} {Represents : Table E → H → List Place → Type 0}
       only = λ p out. ap linked (stays p) ∙ has.only p out;
     }
 
-    -- AFTER AN OBJECT was placed or taken out that is not linked here
+    -- AFTER AN OBJECT was put at a place or removed from it, the collections keep their values, if the place is not linked here.
     pub numbered_beside : {new : Objects T} {p : Place} → IsUnlinked linked old p → ((q : Place) → q ≢ p → object_at new q ≡ object_at objects q)
         → HasNumbered Represents linked number old heads new values
     numbered_beside {new} {p} off same = record {
@@ -102,7 +103,8 @@ module _ {E H T : Type 0} {Represents : Table E → H → List Place → Type 0}
       only = has.only;
     }
 
-    -- AFTER `push_back` of an object onto the list where it belongs
+    -- AFTER `push_back` of an object at the end of the collection to which it belongs, that collection has the object as its last
+    -- value.
     module _ {new : Table E} {after : ℕ → H} {p : Place} {v : T} (there : object_at objects p ≡ Some v) where
       pub numbered_pushed : ((s : List Place) → Represents old (heads (number v)) s → Represents new (after (number v)) (s ++ p ∷ [])) → ((i : ℕ) → i ≢ number v → after i ≡ heads i)
           → LinksAlso linked old new p → ((s : List Place) → Represents old (heads (number v)) s → ChangesOnlyIn old new (p ∷ s))
@@ -129,9 +131,9 @@ module _ {E H T : Type 0} {Represents : Table E → H → List Place → Type 0}
             let apart = disjoint_cons p (has.members i) (has.members (number v)) (numbered_free also.was i) (numbered_apart i (number v) n) in
             record { shown = rw (others i n) (others_stay kind (p ∷ has.members (number v)) e.shown apart (frame (has.members (number v)) (has.each (number v)).shown)); stand = e.stand; own = e.own }
 
-    -- AFTER `pop_front` of one of them AND `into_box` of the object that came off
+    -- AFTER `pop_front` of one collection and `into_box` of the removed object, that collection has its values without the first.
     module _ {k : ℕ} {p : Place} {v : T} (is : Some p ≡ first (has.members k)) (there : object_at objects p ≡ Some v) where
-      -- it is the first of the values, and belongs there
+      -- The removed object is the first of the values of the collection k, and it belongs to k.
       pub numbered_first : values k ≡ v ∷ drop 1 (values k)
       numbered_first = stand_first objects p there is (has.each k).stand
 

@@ -1,10 +1,10 @@
--- Of members that are placed, the first one and the last one are.
+-- If each member of a sequence has an object, the first and the last member have objects as well.
 use Rattle.std.proofs.Common.{◌≡◌, true, Some, List, [], ◌∷◌, ◌++◌, sym, subst}
 use Rattle.std.specs.List.{AllByRecursion}
 use Rattle.ic_link_ops.specs.Prelude.{Place, Objects, is_placed, first, last, but_last, ArePlaced}
 use Rattle.ic_link_ops.proofs.SequenceLemmas.{first_is, split_last}
 
--- what holds of all members holds of all but the last, and of the last
+-- A statement that holds for each member holds for each member but the last, and for the last member.
 pub all_but_last : (P : Place → Type 0) (w : List Place) (p : Place) → AllByRecursion P (w ++ p ∷ []) → AllByRecursion P w × P p
 all_but_last P [] p h = (tt, h.0)
 all_but_last P (x ∷ w) p h = let k = all_but_last P w p h.1 in ((h.0, k.0), k.1)

@@ -1,4 +1,5 @@
--- For callers: the objects at the members of a sequence, after one object was placed or taken out, and after an edit of the sequence.
+-- The facts in this file help callers to know the objects at the members of a sequence. The facts are about an object that was
+-- put at a place or removed from it, and about an edit of the sequence.
 use Rattle.std.proofs.Common.{◌≡◌, ◌≢◌, ◌⊎◌, inl, inr, Option, Some, None, IsSome, is_some, List, [], ◌∷◌, ◌++◌, drop, length, ◌≤◌, arith, refl, sym, ap, ◌∙◌, subst, true≢false, append-nil}
 use Rattle.std.proofs.lemmas.List.Elements.{filter_map-append}
 use Rattle.std.specs.List.{AllByRecursion, cons_option}
@@ -8,7 +9,8 @@ use Rattle.ic_link_ops.proofs.SequenceLemmas.{first_is}
 use Rattle.ic_link_ops.proofs.Walks.{few_places}
 use Rattle.ic_link_ops.proofs.Each.{all_with}
 
--- BESIDE p, where the objects at all other places stay: what holds of each of a sequence holds still, and they are the same
+-- BESIDE p: if the objects at all places except p stay, and p is no member of s, the objects at the members of s stay as they
+-- were.
 module _ {T : Type 0} (old new : Objects T) (p : Place) (same : (q : Place) → q ≢ p → object_at new q ≡ object_at old q) where
   pub all_beside : (P : Option T → Type 0) (s : List Place) → IsAbsent p s → AllByRecursion (λ q. P (object_at old q)) s → AllByRecursion (λ q. P (object_at new q)) s
   all_beside P [] out h = tt
@@ -22,18 +24,19 @@ module _ {T : Type 0} (old new : Objects T) (p : Place) (same : (q : Place) → 
   stand_beside {s} out stand = record { placed = all_beside IsSome s out stand.placed; are = values_beside s out ∙ stand.are }
 
 module _ {T : Type 0} (objects : Objects T) (p : Place) where
-  -- a vacant place is no member of a sequence whose members are placed
+  -- A place without an object is no member of a sequence whose members all have objects.
   pub vacant_absent : object_at objects p ≡ None → (s : List Place) → ArePlaced objects s → IsAbsent p s
   vacant_absent none [] placed = tt
   vacant_absent none (x ∷ s) placed =
       (λ e. true≢false (sym placed.0 ∙ ap (λ q. is_some (object_at objects q)) (sym e) ∙ ap is_some none), vacant_absent none s placed.1)
 
-  -- the first of such a sequence is placed
+  -- If each member of a sequence has an object, the first member has an object.
   pub placed_first : (s : List Place) → Some p ≡ first s → ArePlaced objects s → IsSome (object_at objects p)
   placed_first s is placed = (subst (ArePlaced objects) (first_is s is) placed).0
 
   module _ {v : T} (there : object_at objects p ≡ Some v) where
-    -- ONE OBJECT MORE: put into a gap of the sequence, it stands in the same gap of the values
+    -- ONE OBJECT MORE: if p is put into a gap of the sequence, the object at p is in the corresponding gap of the list of
+    -- objects.
     pub stand_put : (front back : List Place) → ArePlaced objects (front ++ back) → StandAt objects (front ++ p ∷ back) (values_at objects front ++ v ∷ values_at objects back)
     stand_put front back placed = record {
       placed = all_with (λ q. IsSome (object_at objects q)) front p back (ap is_some there) placed;
@@ -46,7 +49,8 @@ module _ {T : Type 0} (objects : Objects T) (p : Place) where
       are = filter_map-append (object_at objects) s (p ∷ []) ∙ rw (there, stand.are) refl;
     }
 
-    -- ONE OBJECT LESS: the first of the sequence is the first of the values, and the others stand after it
+    -- ONE OBJECT LESS: the object at the first member of the sequence is the first of the values. The values after the first are
+    -- the objects at the members after the first.
     module _ {s : List Place} {values : List T} (is : Some p ≡ first s) (stand : StandAt objects s values) where
       begins : values ≡ v ∷ values_at objects (drop 1 s)
       begins = sym stand.are ∙ ap (values_at objects) (first_is s is) ∙ ap (λ (o : Option T). cons_option o (values_at objects (drop 1 s))) there
@@ -57,7 +61,7 @@ module _ {T : Type 0} (objects : Objects T) (p : Place) where
       pub stand_rest : StandAt objects (drop 1 s) (drop 1 values)
       stand_rest = record { placed = (subst (ArePlaced objects) (first_is s is) stand.placed).1; are = ap (drop 1) (sym begins) }
 
--- WHAT HOLDS OF EACH OBJECT holds of the values at any places
+-- A STATEMENT ABOUT EACH OBJECT is true for each value at the members of any sequence.
 pub from_each : {T : Type 0} (P : T → Type 0) (objects : Objects T) → ((p : Place) (value : T) → object_at objects p ≡ Some value → P value) → (s : List Place) → AllByRecursion P (values_at objects s)
 from_each P objects each [] = tt
 from_each {T} P objects each (p ∷ s) = by (object_at objects p) refl (from_each P objects each s) where
@@ -65,13 +69,13 @@ from_each {T} P objects each (p ∷ s) = by (object_at objects p) refl (from_eac
   by None e rest = rest
   by (Some value) e rest = (each p value e, rest)
 
--- AFTER `from_box`: those that stood there do, and so does the new object
+-- AFTER `from_box` the objects at the members of s are as before, and the new object is at the new last member p.
 pub stand_placed : {T : Type 0} {old new : Objects T} {p : Place} {v : T} → Places old new p v → {s : List Place} {values : List T} → StandAt old s values
     → StandAt new (s ++ p ∷ []) (values ++ v ∷ [])
 stand_placed {old = old} {new} {p} places {s} stand =
     stand_last new p (placed_there places) (stand_beside old new p (others_placed places) (vacant_absent old p places.vacant s stand.placed) stand)
 
--- the first of the values, and where it stands
+-- The first of the values is `value`, and it is the object at the first member `place`.
 pub record Begins {T : Type 0} (objects : Objects T) (s : List Place) (values : List T) : Type 0 where
   pub place : Place
   pub value : T
@@ -79,7 +83,7 @@ pub record Begins {T : Type 0} (objects : Objects T) (s : List Place) (values : 
   pub there : object_at objects place ≡ Some value
   pub begin : values ≡ value ∷ drop 1 values
 
--- THERE IS NO VALUE, or the first of them stands at the first member
+-- THERE IS NO VALUE, or the first of the values is the object at the first member of s.
 pub stand_begins : {T : Type 0} {objects : Objects T} (s : List Place) {values : List T} → StandAt objects s values → (values ≡ []) ⊎ Begins objects s values
 stand_begins [] stand = inl (sym stand.are)
 stand_begins {T} {objects} (p ∷ s) {values} stand = by (object_at objects p) refl stand.placed.0 where
@@ -87,7 +91,7 @@ stand_begins {T} {objects} (p ∷ s) {values} stand = by (object_at objects p) r
   by None e here = absurd (true≢false (sym here))
   by (Some v) e here = inr (record { place = p; value = v; first = refl; there = e; begin = stand_first objects p e refl stand })
 
--- THERE ARE FEW VALUES, as there are few places
+-- THERE ARE FEW VALUES: there are at most 8589934591 values at distinct members, because there are only so many places.
 pub few_values : {T : Type 0} {objects : Objects T} {s : List Place} {values : List T} → StandAt objects s values → IsDistinct s → length values ≤ 8589934591
 few_values {T} {objects} {s} {values} stand distinct = omega (arith, ap length stand.are, fewer s, few_places s distinct) where
   fewer : (s : List Place) → length (values_at objects s) ≤ length s

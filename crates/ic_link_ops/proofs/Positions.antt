@@ -1,4 +1,5 @@
--- Positions in a collection: the gaps beside them, and that they stand after a call.
+-- This file proves facts about positions in a collection: which gaps are beside a position, and that a position is valid after a
+-- call.
 use Rattle.std.proofs.Common.{◌≡◌, ◌∙◌, sym, Result, Ok, Err, OnOk, OnErr, IfErr, Option, Some, None, List, [], ◌∷◌, ◌++◌, drop, append-nil, append_assoc}
 use Rattle.ic_link_ops.specs.Prelude.{Place, Cut, join, splice, at_front, at_back, first, last, IsAfter, IsBefore, Table, CursorState, RepresentsAt, IsValidCursor, MovesOn, MovesBack, HasMember, IsSecondAfter, LinkStep, acquires}
 use Rattle.ic_link_ops.specs.declared.errors.AlreadyLinked.{AlreadyLinked}
@@ -7,38 +8,39 @@ use Rattle.ic_link_ops.specs.EditsAt.{InsertsBeside}
 use Rattle.ic_link_ops.proofs.SequenceLemmas.{gap_after, gap_before, first_is}
 
 module _ {L E H : Type 0} {Represents : Table E → H → List Place → Type 0} {table : L → Table E} where
-  -- A POSITION STANDS if a gap is before it,
+  -- A POSITION IS VALID if a gap is before it.
   pub stands_by_gap : {at : CursorState L H} (gap : Cut) → RepresentsAt Represents table at (join gap) → IsBefore gap at.position → IsValidCursor Represents table at
   stands_by_gap {at = at'} gap shown before =
       let k = gap_after gap at'.position before in record { gap = k.0; shown = rw k.1 shown; after = k.2 }
 
-  -- at null,
+  -- A position is valid if it is null and the table represents a sequence for the collection.
   pub stands_null : {at : CursorState L H} (s : List Place) → RepresentsAt Represents table at s → at.position ≡ None → IsValidCursor Represents table at
   stands_null s shown e = record { gap = at_front s; shown = shown; after = e }
 
-  -- at either end,
+  -- A position is valid if it is on the first member of the collection (`stands_first`) or on the last member (`stands_last`).
   pub stands_first : {at : CursorState L H} (s : List Place) → RepresentsAt Represents table at s → at.position ≡ first s → IsValidCursor Represents table at
   stands_first s shown e = stands_by_gap (at_front s) shown e
 
   pub stands_last : {at : CursorState L H} (s : List Place) → RepresentsAt Represents table at s → at.position ≡ last s → IsValidCursor Represents table at
   stands_last s shown e = record { gap = at_back s; shown = rw (append-nil s) shown; after = e }
 
-  -- and on a member
+  -- A position is valid if it is on a member of the represented sequence.
   pub stands_on : {at : CursorState L H} {p : Place} → HasMember (RepresentsAt Represents table at) p → at.position ≡ Some p → IsValidCursor Represents table at
   stands_on {p = p} member e = stands_by_gap (record { front = member.front; back = p ∷ member.back }) member.shown e
 
-  -- the gap before a position that stands
+  -- A valid position has a gap before it.
   pub gap_there : {at : CursorState L H} → IsValidCursor Represents table at → (gap : Cut) × RepresentsAt Represents table at (join gap) × IsBefore gap at.position
   gap_there {at = at'} stands =
       let k = gap_before stands.gap at'.position stands.after in (k.0, rw (← k.1) at stands.shown, k.2)
 
-  -- and the member that it is on
+  -- If a valid position is on a place, the place is a member of the represented sequence.
   pub member_there : {at : CursorState L H} {p : Place} → IsValidCursor Represents table at → at.position ≡ Some p → HasMember (RepresentsAt Represents table at) p
   member_there stands e =
       let k = gap_there stands in
       record { front = k.0.front; back = drop 1 k.0.back; shown = rw (first_is k.0.back (sym e ∙ k.2)) at k.1 }
 
-  -- WHAT A MOVE SAYS, of the gaps alone
+  -- A MOVE leads to a new position if the gap after the old position is the gap before the new position. The new position is then
+  -- valid.
   pub moves_on : {old : CursorState L H} {position : Option Place} → IsValidCursor Represents table old
       → ((gap : Cut) → RepresentsAt Represents table old (join gap) → IsAfter gap old.position → IsBefore gap position) → MovesOn Represents table old position
   moves_on stands leads = record { leads = leads; stands = stands_by_gap stands.gap stands.shown (leads stands.gap stands.shown stands.after) }
@@ -49,7 +51,7 @@ module _ {L E H : Type 0} {Represents : Table E → H → List Place → Type 0}
       let k = gap_there stands in
       record { leads = leads; stands = record { gap = k.0; shown = k.1; after = leads k.0 k.1 k.2 } }
 
-  -- A POSITION STANDS AFTER AN EDIT: before what was put into a gap, or after it,
+  -- A POSITION IS VALID AFTER AN EDIT: the members t were put into the gap after the position, or before it.
   pub put_after : {at : CursorState L H} (gap : Cut) (t : List Place) → RepresentsAt Represents table at (splice gap t) → IsAfter gap at.position → IsValidCursor Represents table at
   put_after gap t shown after = record { gap = record { front = gap.front; back = t ++ gap.back }; shown = shown; after = after }
 
@@ -57,26 +59,26 @@ module _ {L E H : Type 0} {Represents : Table E → H → List Place → Type 0}
   put_before gap t shown before =
       stands_by_gap (record { front = gap.front ++ t; back = gap.back }) (rw (append_assoc gap.front t gap.back) shown) before
 
-  -- where it stood, if the edit was refused,
+  -- If an edit was refused and nothing changed, the position is still valid.
   module _ {old new : CursorState L H} (stands : IsValidCursor Represents table old) where
     pub stands_still : table new.links ≡ table old.links → new.head ≡ old.head → new.position ≡ old.position → IsValidCursor Represents table new
     stands_still same head position = record { gap = stands.gap; shown = rw (same, head) stands.shown; after = position ∙ stands.after }
 
-    -- after what was taken off,
+    -- A position is valid after the member that it was on was removed and it moved to the next member.
     pub removed_stands : ((gap : Cut) → RepresentsAt Represents table old (join gap) → IsBefore gap old.position → Removes Represents (table old.links) (table new.links) new.head gap)
         → ((gap : Cut) → RepresentsAt Represents table old (join gap) → IsBefore gap old.position → IsSecondAfter gap new.position) → IsValidCursor Represents table new
     removed_stands removes moves =
         let k = gap_there stands in
         stands_by_gap (record { front = k.0.front; back = drop 1 k.0.back }) (removes k.0 k.1 k.2).shows (moves k.0 k.1 k.2)
 
-    -- on what was put in its member's place,
+    -- A position is valid after the place p replaced the member that it was on, and the position is on p.
     pub replaced_stands : {p : Place} → new.position ≡ Some p
         → ((gap : Cut) → RepresentsAt Represents table old (join gap) → IsBefore gap old.position → Replaces Represents (table old.links) (table new.links) new.head gap p)
         → IsValidCursor Represents table new
     replaced_stands position replaces =
         let k = gap_there stands in stands_on (record { front = k.0.front; back = drop 1 k.0.back; shown = (replaces k.0 k.1 k.2).shows }) position
 
-    -- before what was taken off after it, or put in that one's place,
+    -- A position stays valid after the next member was removed (`next_removed_stands`) or was replaced (`next_replaced_stands`).
     pub next_removed_stands : new.position ≡ old.position
         → ((gap : Cut) → RepresentsAt Represents table old (join gap) → IsAfter gap old.position → Removes Represents (table old.links) (table new.links) new.head gap)
         → IsValidCursor Represents table new
@@ -95,7 +97,7 @@ module _ {L E H : Type 0} {Represents : Table E → H → List Place → Type 0}
       after = position ∙ stands.after;
     }
 
-    -- and beside the cut, where a part was handed out
+    -- A position stays valid after a split at the gap beside it.
     pub split_after : {handed : H} → ((gap : Cut) → RepresentsAt Represents table old (join gap) → IsAfter gap old.position
         → Splits Represents (table old.links) (table new.links) new.head handed gap.front gap.back) → new.position ≡ old.position → IsValidCursor Represents table new
     split_after splits position = record {
@@ -109,7 +111,8 @@ module _ {L E H : Type 0} {Represents : Table E → H → List Place → Type 0}
     split_before splits position =
         let k = gap_there stands in stands_by_gap (at_front k.0.back) (splits k.0 k.1 k.2).keeps (position ∙ k.2)
 
-  -- WHAT AN INSERT SAYS, of the gaps alone: `keeps` is the law that a refusal changes no entry
+  -- WHAT AN INSERT PROVES: the position is valid after the call, whether the insert was accepted or refused. `keeps` is the law
+  -- that a refusal changes no entry.
   module _ {Refused : L → L → Place → Type 0} (keeps : (a b : L) (q : Place) → Refused a b q → table b ≡ table a) {old new : CursorState L H} (p : Place)
       (stands : IsValidCursor Represents table old) (position : new.position ≡ old.position) {T : Type 0} where
     either_way : (r : Result Unit (AlreadyLinked T)) {P : Type 0} → OnOk r P → (P → IsValidCursor Represents table new) → OnErr r (Refused old.links new.links p)

@@ -1,4 +1,5 @@
--- Represented sequences, of whatever kind: edited, read at a gap, and kept where the table keeps their entries.
+-- This file proves facts about the sequences that a table represents for lists of any kind: after an edit, at a gap, and if the
+-- table keeps their entries.
 use Rattle.std.proofs.Common.{◌≡◌, ◌≢◌, Option, Some, None, List, [], ◌∷◌, ◌++◌, reverse, Bool, true, false, refl, sym, ap, ◌∙◌, append-nil, append_assoc, drop}
 use Rattle.ic_link_ops.specs.Prelude.{Place, IsAbsent, IsDisjoint, first, last, but_last, Table}
 use Rattle.ic_link_ops.specs.Chains.{Ends, ListHead, end_of, TurnsTail, RepresentsChain, RepresentsBetween}
@@ -7,7 +8,7 @@ use Rattle.ic_link_ops.proofs.SequenceLemmas.{distinct_left, distinct_right, dis
 use Rattle.ic_link_ops.proofs.Chains.{chain_kept, chain_frame, chain_cut, chain_glue, chain_parts, chain_filled, chain_spliced, last_between, first_between, chain_one, chain_absent, chain_reversed}
 
 module _ {E W : Type 0} {between : E → Option Place → Option Place → Type 0} {kept : Option Place → W} where
-  -- a represented sequence stays where the table keeps the entries of its members
+  -- A list keeps its sequence if the table keeps the entries of its members.
   pub represents_kept : {old new : Table E} {list : ListHead W} {s : List Place}
       → RepresentsChain between kept old list s → ((q : Place) → (IsAbsent q s → ⊥) → new.entry q ≡ old.entry q) → RepresentsChain between kept new list s
   represents_kept {old} {new} {list} {s} h same = record {
@@ -17,12 +18,12 @@ module _ {E W : Type 0} {between : E → Option Place → Option Place → Type 
     tail = h.tail;
   }
 
-  -- it stays where another place changes
+  -- A list keeps its sequence if only the entry of a place that is no member changes.
   pub represents_beside : {old new : Table E} {list : ListHead W} {s : List Place} {p : Place}
       → RepresentsChain between kept old list s → IsAbsent p s → ((q : Place) → q ≢ p → new.entry q ≡ old.entry q) → RepresentsChain between kept new list s
   represents_beside {old} {new} {list} {s} {p} h out same = represents_kept h (λ q member. same q (λ e. member (rw e out)))
 
-  -- THE FRAME: a list which shares no member with s keeps its sequence where only entries of s change
+  -- THE FRAME: a list that shares no member with s keeps its sequence if only entries at members of s change.
   pub represents_frame : {old new : Table E} {list : ListHead W} {t : List Place} (s : List Place)
       → RepresentsChain between kept old list t → IsDisjoint t s → ((q : Place) → IsAbsent q s → new.entry q ≡ old.entry q) → RepresentsChain between kept new list t
   represents_frame {old} {new} {list} {t} s h apart same = record {
@@ -32,12 +33,12 @@ module _ {E W : Type 0} {between : E → Option Place → Option Place → Type 
     tail = h.tail;
   }
 
-  -- how a member stands between its neighbors
+  -- The entry of a member p names the members before and after p.
   pub represents_middle : {t : Table E} {list : ListHead W} (front back : List Place) {p : Place}
       → RepresentsChain between kept t list (front ++ p ∷ back) → between (t.entry p) (last front) (first back)
   represents_middle {t} front back {p} shown = (chain_cut between t.entry None front (p ∷ back) None shown.chain).1.0
 
-  -- how the member before a gap stands, and the one after it
+  -- `before_gap` gives the neighbors of the member before a gap, and `after_gap` gives the neighbors of the member after the gap.
   pub before_gap : {t : Table E} {list : ListHead W} (front back : List Place) {q : Place}
       → RepresentsChain between kept t list (front ++ back) → Some q ≡ last front → between (t.entry q) (last (but_last front)) (first back)
   before_gap {t} front back shown e =
@@ -49,12 +50,12 @@ module _ {E W : Type 0} {between : E → Option Place → Option Place → Type 
   after_gap {t} front (x ∷ back) shown e =
       first_between between t.entry (last front) x back None (chain_cut between t.entry None front (x ∷ back) None shown.chain).1 (some_same e)
 
-  -- the head is the first member
+  -- If the head of a list is the place p, the sequence of the list begins with p.
   pub represents_first : {t : Table E} {list : ListHead W} (s : List Place) {p : Place} → RepresentsChain between kept t list s → list.head ≡ Some p → s ≡ p ∷ drop 1 s
   represents_first [] {p} shown e = absurd (none_not p (sym shown.head ∙ e))
   represents_first (x ∷ s) {p} shown e = let k : Some x ≡ Some p = sym shown.head ∙ e in cc
 
-  -- what is no member is at neither end. `back`: the last member
+  -- A place that is no member of a list is neither its first member nor its last member. `back` is the last member.
   pub ends_not : {t : Table E} {list : ListHead W} {s : List Place} {q : Place} {back : Option Place} → RepresentsChain between kept t list s → back ≡ last s → IsAbsent q s
       → (list.head ≢ Some q) × (back ≢ Some q)
   ends_not {t} {list} {s} {q} shown is_back out = (
@@ -62,7 +63,8 @@ module _ {E W : Type 0} {between : E → Option Place → Option Place → Type 
     (λ e. last_not None s q (none_not q) out (sym is_back ∙ e)),
   )
 
-  -- INSERT: p is put into a gap. Its two sides are turned, and then p is set
+  -- INSERT: the place p is put into a gap. First the entries on both sides of the gap are changed, and then the entry of p is
+  -- set.
   pub represents_insert : {t0 t3 : Table E} {t1 t2 : Place → E} {list list' : ListHead W} (front back : List Place) {p : Place} {before after : Option Place}
       → before ≡ last front → after ≡ first back → RepresentsChain between kept t0 list (front ++ back) → IsAbsent p (front ++ back)
       → TurnsAfter between t0.entry t1 before after (Some p) → TurnsBefore between t1 t2 after before (Some p)
@@ -79,7 +81,7 @@ module _ {E W : Type 0} {between : E → Option Place → Option Place → Type 
         tail = tail (last (front ++ back)) shown.tail ∙ ap kept (new_tail front [] (p ∷ []) back is_after refl refl refl);
       }
 
-  -- REMOVE: p is taken out. Its two neighbors are turned to each other
+  -- REMOVE: the member p is removed. The entries of the two neighbors of p are changed so that the neighbors name each other.
   pub represents_remove : {t0 t2 : Table E} {t1 : Place → E} {list list' : ListHead W} (front back : List Place) (p : Place) {before after : Option Place}
       → before ≡ last front → after ≡ first back → RepresentsChain between kept t0 list (front ++ p ∷ back)
       → TurnsAfter between t0.entry t1 before (Some p) after → TurnsBefore between t1 t2.entry after (Some p) before
@@ -96,7 +98,8 @@ module _ {E W : Type 0} {between : E → Option Place → Option Place → Type 
         tail = tail (last (front ++ p ∷ back)) shown.tail ∙ ap kept (new_tail front (p ∷ []) [] back is_after is_before refl refl);
       }
 
-  -- REPLACE: r is put in the place of p. The two neighbors of p are turned, and then r is set
+  -- REPLACE: the place r replaces the member p. First the entries of the neighbors of p are changed, and then the entry of r is
+  -- set.
   pub represents_replace : {t0 t3 : Table E} {t1 t2 : Place → E} {list list' : ListHead W} (front back : List Place) (p : Place) {r : Place} {before after : Option Place}
       → before ≡ last front → after ≡ first back → RepresentsChain between kept t0 list (front ++ p ∷ back) → IsAbsent r (front ++ p ∷ back)
       → TurnsAfter between t0.entry t1 before (Some p) (Some r) → TurnsBefore between t1 t2 after (Some p) (Some r)
@@ -113,8 +116,8 @@ module _ {E W : Type 0} {between : E → Option Place → Option Place → Type 
         tail = tail (last (front ++ p ∷ back)) shown.tail ∙ ap kept (new_tail front (p ∷ []) (r ∷ []) back is_after refl refl refl);
       }
 
-  -- SPLICE: all of another list, whose last member is `end`, is put into a gap. The two sides of the gap are turned, and then the given first and
-  -- last
+  -- SPLICE: all members of another list, whose last member is `end`, are put into a gap. First the entries on both sides of the
+  -- gap are changed, and then the entries of the first and the last given member.
   pub represents_splice : {t0 t4 : Table E} {t1 t2 t3 : Place → E} {list list' given : ListHead W} (front mid back : List Place) (x : Place) {before after end : Option Place}
       → given.head ≡ Some x → end ≡ last mid → before ≡ last front → after ≡ first back
       → RepresentsChain between kept t0 list (front ++ back) → RepresentsChain between kept t0 given mid → IsDisjoint mid (front ++ back)
@@ -133,7 +136,8 @@ module _ {E W : Type 0} {between : E → Option Place → Option Place → Type 
     tail = tail (last (front ++ back)) shown.tail ∙ ap kept (new_tail front [] (y ∷ mid) back is_after is_end refl refl);
   }
 
-  -- SPLIT: a list is cut at a gap. Its two sides are turned, and each part is represented for its own ends, whichever is handed out
+  -- SPLIT: a list is cut at a gap. The entries on both sides of the gap are changed. The table then represents each part for a
+  -- list of its own, whichever part the call returns.
   pub represents_split : {t0 t2 : Table E} {t1 : Place → E} {list fronts backs : ListHead W} (front back : List Place) {before after : Option Place}
       → before ≡ last front → after ≡ first back → RepresentsChain between kept t0 list (front ++ back)
       → TurnsAfter between t0.entry t1 before after None → TurnsBefore between t1 t2.entry after before None
@@ -157,18 +161,18 @@ module _ {E W : Type 0} {between : E → Option Place → Option Place → Type 
         },
       )
 
-  -- A TABLE SHOWS AT MOST ONE SEQUENCE for a list, if an entry and what stands before it tell what stands after
+  -- A TABLE REPRESENTS AT MOST ONE SEQUENCE for a list, if an entry and the place before determine the place after.
   pub represents_one : ((e : E) (a b c : Option Place) → between e a b → between e a c → b ≡ c) → {t : Table E} {list : ListHead W} {s r : List Place}
       → RepresentsChain between kept t list s → RepresentsChain between kept t list r → s ≡ r
   represents_one one {t} {list} {s} {r} h k = chain_one between one t.entry None s r (sym h.head ∙ k.head) h.chain k.chain
 
-  -- `law`: what stands between two others is linked
+  -- `law` says that a place is linked if its entry says that it is between two others.
   module _ {linked : E → Bool} (law : (e : E) (b a : Option Place) → between e b a → linked e ≡ true) where
-    -- what is not linked is no member
+    -- A place that is not linked is no member of a list.
     pub free_absent : {t : Table E} {list : ListHead W} {s : List Place} {p : Place} → RepresentsChain between kept t list s → linked (t.entry p) ≡ false → IsAbsent p s
     free_absent {t} {list} {s} {p} shown free = chain_absent between linked law t.entry None s None p shown.chain free
 
-    -- the member before a gap is linked, and the one after it
+    -- The member before a gap is linked, and so is the member after it.
     pub gap_linked : {t : Table E} {list : ListHead W} (front back : List Place) {q : Place}
         → RepresentsChain between kept t list (front ++ back) → Some q ≡ last front → linked (t.entry q) ≡ true
     gap_linked front back shown e = law _ _ _ (before_gap front back shown e)
@@ -177,7 +181,7 @@ module _ {E W : Type 0} {between : E → Option Place → Option Place → Type 
         → RepresentsChain between kept t list (front ++ back) → Some q ≡ first back → linked (t.entry q) ≡ true
     gap_after_linked front back shown e = law _ _ _ (after_gap front back shown e)
 
-    -- so is the member after p
+    -- The member after the member p is linked.
     pub next_linked : {t : Table E} {list : ListHead W} (front : List Place) (p : Place) (back : List Place) {q : Place}
         → RepresentsChain between kept t list (front ++ p ∷ back) → Some q ≡ first back → linked (t.entry q) ≡ true
     next_linked {t} {list} front p back shown e = gap_after_linked {t = t} {list = list} (front ++ p ∷ []) back (rw append_assoc shown) e
@@ -185,7 +189,7 @@ module _ {E W : Type 0} {between : E → Option Place → Option Place → Type 
     pub last_linked : {t : Table E} {list : ListHead W} {s : List Place} {q : Place} → RepresentsChain between kept t list s → Some q ≡ last s → linked (t.entry q) ≡ true
     last_linked {t} {list} {s} shown e = gap_linked {t = t} {list = list} s [] (rw append-nil shown) e
 
--- REVERSE: a list of a symmetric kind, which keeps both ends, is turned round by them alone
+-- REVERSE: a list of a symmetric kind, which stores both its ends, is reversed if only its two ends are exchanged.
 pub represents_reversed : {E : Type 0} {between : E → Option Place → Option Place → Type 0} → ((e : E) (b a : Option Place) → between e b a → between e a b)
     → {t : Table E} {ends ends' : Ends} {s : List Place} → RepresentsBetween between t ends s → ends'.head ≡ ends.tail → ends'.tail ≡ ends.head
     → RepresentsBetween between t ends' (reverse s)

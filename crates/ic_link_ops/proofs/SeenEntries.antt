@@ -1,4 +1,4 @@
--- The entries of a table as they are written, where its words have room for some places alone.
+-- This file proves what the entries of a table are after a write, if the words of the table have room for only some places.
 use Rattle.std.proofs.Common.{◌≡◌, ◌≢◌, ℕ, ◌∷◌, ◌<◌, List, length, Bool, true, false, slice_set, slice_index_or, sym, ap, ◌∙◌}
 use Rattle.std.proofs.lemmas.List.{length-set}
 use Rattle.std.proofs.Math.Seq.{map-set_same}
@@ -13,22 +13,22 @@ use Rattle.ic_link_ops.proofs.EntryLemmas.{others_same, entry_same, entry_read}
 use Rattle.ic_link_ops.proofs.WidthLemmas.{nameable_read, nameable_written}
 
 module _ {E : Type 0} (w : Width) (d : E) where
-  -- a write at p changes no entry of another place
+  -- A write at the place p changes no entry of another place.
   pub others_seen : (es : List E) (p : Place) (e : E) (i : ℕ) → i ≡ index_of p → index_of p < length (nameable w es) → (q : Place) → q ≢ p
       → entry_at d (nameable w (slice_set es i e)) q ≡ entry_at d (nameable w es) q
   others_seen es p e i at_p covered q apart = ap (λ l. entry_at d l q) (nameable_written w es i e (rw at_p covered)) ∙ others_same d (nameable w es) p e i at_p q apart
 
-  -- and there it is
+  -- After the entry e is written at the place p, the entry of p is e.
   pub entry_set : (es : List E) (p : Place) (e : E) (i : ℕ) → i ≡ index_of p → index_of p < length (nameable w es) → entry_at d (nameable w (slice_set es i e)) p ≡ e
   entry_set es p e i at_p covered = ap (λ l. entry_at d l p) (nameable_written w es i e (rw at_p covered)) ∙ entry_same d (nameable w es) p e i at_p covered
 
-  -- what was read at p is its entry
+  -- An entry that was read at the index of a covered place p is the entry of p.
   pub entry_seen : (es : List E) (p : Place) (e beyond : E) (i : ℕ) → i ≡ index_of p → index_of p < length (nameable w es) → e ≡ slice_index_or es i beyond
       → entry_at d (nameable w es) p ≡ e
   entry_seen es p e beyond i at_p covered read = entry_read d (nameable w es) p e beyond i at_p covered (read ∙ sym (nameable_read w es i beyond (rw at_p covered)))
 
 module _ {E : Type 0} (w : Width) (d : E) where
-  -- A WRITE THAT LEAVES what an entry says of something leaves it of all
+  -- A WRITE AT p changes nothing that entries say of any place, if the new entry says of p what the old entry said.
   pub says_kept : {R : Type 0} (says : E → R) (es : List E) (p : Place) (old new beyond : E) (i : ℕ) → i ≡ index_of p → index_of p < length (nameable w es)
       → old ≡ slice_index_or es i beyond → says new ≡ says old → (q : Place) → says (entry_at d (nameable w (slice_set es i new)) q) ≡ says (entry_at d (nameable w es) q)
   says_kept says es p old new beyond i at_p covered read same q =
@@ -37,7 +37,7 @@ module _ {E : Type 0} (w : Width) (d : E) where
       (λ apart. ap says (others_seen w d es p new i at_p covered q apart))
 
 module _ {W V : Type 0} (printed : List V → List ℕ) where
-  -- A WRITE AT p THAT LEAVES THE VALUE BESIDE changes only the entry of p
+  -- A WRITE AT p THAT KEEPS THE VALUE beside the link changes only the entry of p.
   pub changes_only : (w : Width) (d : Link W V) (es : List (Link W V)) (p : Place) (old new beyond : Link W V) (i : ℕ) → i ≡ index_of p → index_of p < length (nameable w es)
       → old ≡ slice_index_or es i beyond → value_of new ≡ value_of old → ChangesOnly (nameable_table w d printed es) (nameable_table w d printed (slice_set es i new)) p
   changes_only w d es p old new beyond i at_p covered read stays =
@@ -50,7 +50,7 @@ module _ {W V : Type 0} (printed : List V → List ℕ) where
         others = others_seen w d es p new i at_p covered;
       }
 
--- of a table that is lent as well
+-- In a lent table, a write at p that keeps the value beside the link changes only the entry of p.
 module _ {W V : Type 0} (printed : List V → List ℕ) where
   pub view_changes_only : {name : ℕ} (w : Width) (d : Link W V) (es : List (Link W V)) (p : Place) (old new beyond : Link W V) (i : ℕ) → i ≡ index_of p
       → index_of p < length (nameable w es) → old ≡ slice_index_or es i beyond → value_of new ≡ value_of old
@@ -58,7 +58,7 @@ module _ {W V : Type 0} (printed : List V → List ℕ) where
   view_changes_only {name} = changes_only (λ vs. name ∷ printed vs)
 
 module _ {W V : Type 0} (is_linked : W → Bool) (w : Width) (d : Link W V) where
-  -- A WRITE THAT LINKS: the place was unlinked, is linked now, and all others are as they were
+  -- A WRITE THAT LINKS: the place p was unlinked and is linked now, and every other place is linked or unlinked as before.
   pub links_entry : {names names' : List ℕ} (es : List (Link W V)) (p : Place) (old new beyond : Link W V) (i : ℕ) → i ≡ index_of p → index_of p < length (nameable w es)
       → old ≡ slice_index_or es i beyond → linked_by is_linked old ≡ false → linked_by is_linked new ≡ true
       → LinksAlso (linked_by is_linked) (table_with d names (nameable w es)) (table_with d names' (nameable w (slice_set es i new))) p
@@ -70,11 +70,12 @@ module _ {W V : Type 0} (is_linked : W → Bool) (w : Width) (d : Link W V) wher
       }
 
   module _ (starts : linked_by is_linked d ≡ false) where
-    -- a linked place is covered
+    -- If a place is linked, its index is below the number of covered places.
     pub linked_seen : (es : List (Link W V)) (p : Place) → linked_by is_linked (entry_at d (nameable w es) p) ≡ true → index_of p < length (nameable w es)
     linked_seen es p = linked_in_range (linked_by is_linked) d starts (nameable w es) (index_of p)
 
-    -- A WRITE AT A LINKED PLACE CHANGES WHAT THE ENTRY SAYS as it changes what was read there
+    -- A WRITE AT A LINKED PLACE changes what the entry says of its place, by the same function by which the written link differs
+    -- from the link that was read.
     pub says_written : {R : Type 0} (says : Link W V → R) (change : R → R) (es : List (Link W V)) (p : Place) (old new beyond : Link W V) (i : ℕ)
         → i ≡ index_of p → linked_by is_linked (entry_at d (nameable w es) p) ≡ true → old ≡ slice_index_or es i beyond → says new ≡ change (says old)
         → says (entry_at d (nameable w (slice_set es i new)) p) ≡ change (says (entry_at d (nameable w es) p))
@@ -82,12 +83,13 @@ module _ {W V : Type 0} (is_linked : W → Bool) (w : Width) (d : Link W V) wher
         let covered = linked_seen es p linked in
         ap says (entry_set w d es p new i at_p covered) ∙ written ∙ ap (λ e. change (says e)) (sym (entry_seen w d es p old beyond i at_p covered read))
 
-    -- what was read at a linked place is a link of one
+    -- A link that was read at a linked place says that its place is linked.
     pub linked_read : (es : List (Link W V)) (p : Place) (old beyond : Link W V) (i : ℕ) → i ≡ index_of p → linked_by is_linked (entry_at d (nameable w es) p) ≡ true
         → old ≡ slice_index_or es i beyond → linked_by is_linked old ≡ true
     linked_read es p old beyond i at_p linked read = ap (linked_by is_linked) (sym (entry_seen w d es p old beyond i at_p (linked_seen es p linked) read)) ∙ linked
 
-  -- A WRITE THAT LINKS AND UNLINKS NO PLACE
+  -- A WRITE THAT LINKS AND UNLINKS NO PLACE: if the new link says the same as the old link about being linked, the same places
+  -- are linked as before.
   pub keeps_linked : (es : List (Link W V)) (p : Place) (old new beyond : Link W V) (i : ℕ) → i ≡ index_of p → index_of p < length (nameable w es)
       → old ≡ slice_index_or es i beyond → linked_by is_linked new ≡ linked_by is_linked old
       → (q : Place) → linked_by is_linked (entry_at d (nameable w (slice_set es i new)) q) ≡ linked_by is_linked (entry_at d (nameable w es) q)

@@ -1,11 +1,11 @@
--- Sequences of distinct places: their ends, cut and joined.
+-- This file proves facts about sequences of distinct places: their ends, and what is true if they are cut and joined.
 use Rattle.std.proofs.Common.{◌≡◌, ◌≢◌, ◌<◌, Option, Some, None, List, [], ◌∷◌, ◌++◌, drop, length, reverse, refl, sym, ◌∙◌, ap, subst, arith, append_assoc, append-nil, inl, inr}
 use Rattle.std.proofs.lemmas.List.{reverse-append}
 use Rattle.ic_link_ops.specs.Prelude.{Place, Cut, join, at_front, at_back, first, last, but_last, IsAfter, IsBefore, IsAbsent, IsMember, IsDistinct, IsDisjoint, first_or, last_or}
 use Rattle.ic_unsafe_ref.proofs.PlaceLemmas.{same_or_not}
 use Rattle.ic_link_ops.specs.Chains.{end_of}
 
--- an end that is no member of s
+-- The end is none, or it is a place that is no member of the sequence s.
 abbrev pub IsOutside : Option Place → List Place → Type 0
 IsOutside None s = Unit {0}
 IsOutside (Some q) s = IsAbsent q s
@@ -30,7 +30,8 @@ pub absent_both : (q : Place) (s t : List Place) → IsAbsent q s → IsAbsent q
 absent_both q [] t h k = k
 absent_both q (x ∷ s) t h k = (h.0, absent_both q s t h.1 k)
 
--- a member more, and one less
+-- `absent_with`: if the place q is absent from a sequence and is not p, q is still absent after p is inserted. `absent_without`:
+-- q is still absent after p is removed.
 pub absent_with : (s t : List Place) (p q : Place) → q ≢ p → IsAbsent q (s ++ t) → IsAbsent q (s ++ p ∷ t)
 absent_with [] t p q n h = (n, h)
 absent_with (x ∷ s) t p q n h = (h.0, absent_with s t p q n h.1)
@@ -61,33 +62,33 @@ distinct_remove [] t p d = d.1
 distinct_remove (x ∷ s) t p d =
     (absent_both x s t (absent_left x s (p ∷ t) d.0) (absent_right x s (p ∷ t) d.0).1, distinct_remove s t p d.1)
 
--- p replaced by r
+-- If p is replaced by a place r that was no member, the members are still distinct.
 pub distinct_replace : (s t : List Place) (p r : Place) → IsDistinct (s ++ p ∷ t) → IsAbsent r (s ++ p ∷ t) → IsDistinct (s ++ r ∷ t)
 distinct_replace s t p r d out = distinct_insert s t r (distinct_remove s t p d) (absent_without s t p r out)
 
--- what stands in the middle of a list with distinct members is at none of its other positions
+-- The member p of a list with distinct members is at no other position of the list.
 pub distinct_middle : (s t : List Place) (p : Place) → IsDistinct (s ++ p ∷ t) → IsAbsent p (s ++ t)
 distinct_middle [] t p d = d.0
 distinct_middle (x ∷ s) t p d =
     ((λ e. (absent_right x s (p ∷ t) d.0).0 (sym e)), distinct_middle s t p d.1)
 
--- the last of s is not in t
+-- If s and t share no member, the last member of s is not in t.
 pub last_outside : (b : Option Place) (s t : List Place) → IsOutside b t → IsDisjoint s t → IsOutside (last_or b s) t
 last_outside b [] t h d = h
 last_outside b (x ∷ s) t h d = last_outside (Some x) s t d.0 d.1
 
--- if no member of s is in t, then the first of t is not in s
+-- If s and t share no member, the first member of t is not in s.
 pub first_outside : (s t : List Place) → IsDisjoint s t → IsOutside (first_or t None) s
 first_outside s [] d = tt
 first_outside [] (y ∷ t) d = tt
 first_outside (x ∷ s) (y ∷ t) d = ((λ e. d.0.0 (sym e)), first_outside s (y ∷ t) d.1)
 
--- a place that is absent from s is not its last
+-- A place that is absent from s is not the last member of s.
 pub last_not : (b : Option Place) (s : List Place) (q : Place) → b ≢ Some q → IsAbsent q s → last_or b s ≢ Some q
 last_not b [] q n h e = n e
 last_not b (x ∷ s) q n h e = last_not (Some x) s q (λ k. h.0 (cc)) h.1 e
 
--- nor its first
+-- A place that is absent from s is not the first member of s.
 pub first_not : (s : List Place) (a : Option Place) (q : Place) → a ≢ Some q → IsAbsent q s → first_or s a ≢ Some q
 first_not [] a q n h e = n e
 first_not (x ∷ s) a q n h e = h.0 (cc)
@@ -95,7 +96,7 @@ first_not (x ∷ s) a q n h e = h.0 (cc)
 pub none_not : {A : Type 0} (q : A) → None ≢ Some q
 none_not q e = cc
 
--- what is no member is at neither side of a gap, and no neighbor of a member
+-- A place that is no member is neither before nor after a gap, so it is no neighbor of a member.
 pub gap_not : (front back : List Place) {q : Place} {before after : Option Place} → before ≡ last front → after ≡ first back → IsAbsent q (front ++ back)
     → (before ≢ Some q) × (after ≢ Some q)
 gap_not front back {q} e k out = (
@@ -111,17 +112,19 @@ end_of-last : (x : Place) (s : List Place) (fresh old : Option Place) → end_of
 end_of-last x [] fresh old = refl
 end_of-last x (y ∷ s) fresh old = end_of-last y s fresh old
 
--- THE NEW HEAD, where `rest` now stands after `front` in the place of `was`
+-- THE NEW HEAD of a sequence in which the part after `front` was replaced by `rest` is the first member of the new sequence.
+-- Before the change the part after `front` was `was`.
 pub new_head : (front was rest : List Place) {before fresh old new : Option Place} → before ≡ last front → fresh ≡ first rest → old ≡ first (front ++ was)
     → new ≡ end_of before fresh old → new ≡ first (front ++ rest)
 new_head [] was rest {before} {fresh} {old} e k h is = is ∙ ap (λ b. end_of b fresh old) e ∙ k
 new_head (x ∷ front) was rest {before} {fresh} {old} e k h is = is ∙ ap (λ b. end_of b fresh old) e ∙ end_of-last x front fresh old ∙ h
 
--- the last of three parts
+-- The last member of three joined parts is the last member of the last part that is not empty.
 last_of_parts : (front mid back : List Place) → last (front ++ (mid ++ back)) ≡ last_or (last_or (last front) mid) back
 last_of_parts front mid back = last_or-append None front (mid ++ back) ∙ last_or-append (last front) mid back
 
--- THE NEW TAIL, where `mid` now stands between `front` and `back` in the place of `was`
+-- THE NEW TAIL of a sequence in which the part between `front` and `back` was replaced by `mid` is the last member of the new
+-- sequence. Before the change the part between them was `was`.
 pub new_tail : (front was mid back : List Place) {after fresh old new : Option Place} → after ≡ first back → fresh ≡ last_or (last front) mid
     → old ≡ last (front ++ (was ++ back)) → new ≡ end_of after fresh old → new ≡ last (front ++ (mid ++ back))
 new_tail front was mid [] {after} {fresh} {old} e k h is =
@@ -140,25 +143,26 @@ pub last_some : (x : Place) (s : List Place) → last_or (Some x) s ≢ None
 last_some x [] e = cc
 last_some x (y ∷ s) e = last_some y s e
 
--- a sequence with a last member ends with it
+-- A sequence with the last member p consists of the other members, followed by p.
 pub split_last : (s : List Place) {p : Place} → last s ≡ Some p → s ≡ but_last s ++ p ∷ []
 split_last [] {p} e = absurd (none_not p e)
 split_last (x ∷ []) e = ap (λ (z : Place). z ∷ []) (some_same e)
 split_last (x ∷ y ∷ s) e = ap (λ (l : List Place). x ∷ l) (split_last (y ∷ s) e)
 
--- with nothing before, the first of all is the first of back
+-- If the front part is empty, the first member of the whole sequence is the first member of the back part.
 pub first_of_back : (front back : List Place) → None ≡ last_or None front → first_or (front ++ back) None ≡ first_or back None
 first_of_back [] back e = refl
 first_of_back (x ∷ s) back e = absurd (last_some x s (sym e))
 
--- a list whose members are none of the others put into them
+-- If a list with distinct members and a second list share no member, and the second list is put into a gap of the first, all
+-- members are distinct.
 pub distinct_splice : (front mid back : List Place) → IsDistinct (front ++ back) → IsDistinct mid → IsDisjoint mid (front ++ back) → IsDistinct (front ++ (mid ++ back))
 distinct_splice front [] back d m j = d
 distinct_splice front (x ∷ mid) back d m j =
     distinct_insert front (mid ++ back) x (distinct_splice front mid back d m.1 j.1)
     (absent_both x front (mid ++ back) (absent_left x front back j.0) (absent_both x mid back m.0 (absent_right x front back j.0)))
 
--- what is disjoint from t is disjoint from all that stays within t
+-- If s and t share no member, s shares no member with any sequence whose members are all members of t.
 pub absent_swap : (s t : List Place) → IsDisjoint s t → (u : List Place) → ((q : Place) → IsAbsent q t → IsAbsent q u) → IsDisjoint s u
 absent_swap [] t d u h = tt
 absent_swap (x ∷ s) t d u h = (h x d.0, absent_swap s t d.1 u h)
@@ -171,13 +175,13 @@ disjoint_rest : (y : Place) (s t : List Place) → IsDisjoint s (y ∷ t) → Is
 disjoint_rest y [] t d = tt
 disjoint_rest y (x ∷ s) t d = (d.0.1, disjoint_rest y s t d.1)
 
--- two lists are disjoint from either side
+-- If s and t share no member, t and s share no member.
 pub disjoint_sym : (s t : List Place) → IsDisjoint s t → IsDisjoint t s
 disjoint_sym s [] d = tt
 disjoint_sym s (y ∷ t) d = (absent_before y s t d, disjoint_sym s t (disjoint_rest y s t d))
 
--- a part of t is disjoint from s too
--- nothing shares a member with anything
+-- Every sequence shares no member with the empty sequence. `disjoint_left` and `disjoint_right` say that if s shares no member
+-- with a joined sequence, s shares none with either part.
 pub disjoint_nothing : (s : List Place) → IsDisjoint s []
 disjoint_nothing [] = tt
 disjoint_nothing (x ∷ s) = (tt, disjoint_nothing s)
@@ -188,12 +192,13 @@ disjoint_left s t r d = absent_swap s (t ++ r) d t (λ q h. absent_left q t r h)
 pub disjoint_right : (s t r : List Place) → IsDisjoint s (t ++ r) → IsDisjoint s r
 disjoint_right s t r d = absent_swap s (t ++ r) d r (λ q h. absent_right q t r h)
 
--- both parts, joined
+-- If s and t each share no member with u, the sequence of s followed by t shares no member with u.
 pub disjoint_both : (s t u : List Place) → IsDisjoint s u → IsDisjoint t u → IsDisjoint (s ++ t) u
 disjoint_both [] t u h k = k
 disjoint_both (x ∷ s) t u h k = (h.0, disjoint_both s t u h.1 k)
 
--- the same after p is inserted, removed, or replaced by r
+-- If a sequence shares no member with u, it still shares none after p is removed from it. The sequence also shares no member with
+-- u after p is inserted into it, if p is absent from u.
 pub disjoint_insert : (s t u : List Place) (p : Place) → IsDisjoint (s ++ t) u → IsAbsent p u → IsDisjoint (s ++ p ∷ t) u
 disjoint_insert [] t u p d out = (out, d)
 disjoint_insert (x ∷ s) t u p d out = (d.0, disjoint_insert s t u p d.1 out)
@@ -202,7 +207,7 @@ pub disjoint_remove : (s t u : List Place) (p : Place) → IsDisjoint (s ++ p �
 disjoint_remove [] t u p d = d.1
 disjoint_remove (x ∷ s) t u p d = (d.0, disjoint_remove s t u p d.1)
 
--- turned round: the ends change places, and the members stay
+-- A reversed sequence has its ends exchanged and its members unchanged.
 pub reverse_cons : (x : Place) (s : List Place) → reverse (x ∷ s) ≡ reverse s ++ x ∷ []
 reverse_cons x s = reverse-append (x ∷ []) s
 
@@ -224,7 +229,7 @@ distinct_reverse [] d = tt
 distinct_reverse (x ∷ s) d =
     rw (reverse_cons x s) (distinct_insert (reverse s) [] x (rw append-nil (distinct_reverse s d.1)) (rw append-nil (absent_reverse x s d.0)))
 
--- WHERE A CURSOR STANDS NEXT: one that has a gap before it has a gap of the same sequence after it
+-- WHERE A CURSOR IS NEXT: a cursor that has a gap before it also has a gap of the same sequence after it.
 pub gap_after : (gap : Cut) (cursor : Option Place) → IsBefore gap cursor → (next : Cut) × (join next ≡ join gap) × IsAfter next cursor
 gap_after gap cursor before = after gap.front gap.back cursor before where
   after : (front back : List Place) (cursor : Option Place) → cursor ≡ first back → (next : Cut) × (join next ≡ front ++ back) × IsAfter next cursor
@@ -232,7 +237,7 @@ gap_after gap cursor before = after gap.front gap.back cursor before where
   after front (x ∷ back) cursor before =
       (record { front = front ++ x ∷ []; back = back }, append_assoc front (x ∷ []) back, before ∙ sym (last_or-append None front (x ∷ [])))
 
--- and one that has a gap after it has a gap of the same sequence before it
+-- A cursor that has a gap after it also has a gap of the same sequence before it.
 pub gap_before : (gap : Cut) (cursor : Option Place) → IsAfter gap cursor → (prev : Cut) × (join prev ≡ join gap) × IsBefore prev cursor
 gap_before gap cursor after = before gap.front gap.back cursor after where
   before : (front back : List Place) (cursor : Option Place) → cursor ≡ last front → (prev : Cut) × (join prev ≡ front ++ back) × IsBefore prev cursor
@@ -244,22 +249,22 @@ gap_before gap cursor after = before gap.front gap.back cursor after where
     refl,
   )
 
--- with nothing after the gap, the last of all is the last first of it
+-- If no member is after the gap, the last member of the whole sequence is the last member before the gap.
 pub last_of_front : (front back : List Place) → None ≡ first back → last (front ++ back) ≡ last front
 last_of_front front [] e = ap last (append-nil front)
 last_of_front front (x ∷ s) e = absurd (none_not x e)
 
--- a sequence begins with its first
+-- A sequence with the first member p begins with p, followed by the other members.
 pub first_is : (s : List Place) {p : Place} → Some p ≡ first s → s ≡ p ∷ drop 1 s
 first_is [] {p} e = absurd (none_not p (sym e))
 first_is (x ∷ s) e = ap (λ (q : Place). q ∷ s) (sym (some_same e))
 
--- one with no last has no member to leave out
+-- A sequence without a last member is unchanged if its last member is removed, because it is empty.
 pub but_last_of_none : (s : List Place) → last s ≡ None → but_last s ≡ s
 but_last_of_none [] e = refl
 but_last_of_none (x ∷ s) e = absurd (last_some x s e)
 
--- what is put at the back is the last then, and the others are those of before
+-- If p is put at the back of a sequence, p is the last member, and the other members are those that the sequence had before.
 pub last_of_push : (s : List Place) (p : Place) → last (s ++ p ∷ []) ≡ Some p
 last_of_push s p = last_or-append None s (p ∷ [])
 
@@ -268,7 +273,7 @@ but_last_of_push [] p = refl
 but_last_of_push (x ∷ []) p = refl
 but_last_of_push (x ∷ y ∷ s) p = ap (λ (l : List Place). x ∷ l) (but_last_of_push (y ∷ s) p)
 
--- without its first a sequence is shorter, and without its last
+-- A sequence without its first member is shorter, and so is a sequence without its last member.
 pub fewer : (s : List Place) (p : Place) → Some p ≡ first s → length (drop 1 s) < length s
 fewer [] p e = absurd (none_not p (sym e))
 fewer (x ∷ s) p e = omega arith
@@ -278,11 +283,11 @@ fewer_back [] p e = absurd (none_not p (sym e))
 fewer_back (x ∷ []) p e = omega arith
 fewer_back (x ∷ y ∷ s) p e = omega (arith, fewer_back (y ∷ s) p e)
 
--- what is absent from two parts is absent from them in the other order
+-- A place that is absent from t followed by s is absent from s followed by t.
 pub absent_turned : (q : Place) (s t : List Place) → IsAbsent q (t ++ s) → IsAbsent q (s ++ t)
 absent_turned q s t h = absent_both q s t (absent_right q t s h) (absent_left q t s h)
 
--- OF DISTINCT MEMBERS only one gap is after each
+-- IN A SEQUENCE OF DISTINCT MEMBERS only one gap is after each member.
 last_inside : (b : Option Place) (y : Place) (s t : List Place) → IsOutside b (y ∷ s ++ t) → b ≢ last_or (Some y) s
 last_inside None y s t out e = last_some y s (sym e)
 last_inside (Some q) y s t out e = last_not (Some y) s q (λ h. out.0 (sym (some_same h))) (absent_left q s t out.1) (sym e)
@@ -302,7 +307,7 @@ pub same_gap : (gap other : Cut) → IsDistinct (join gap) → join gap ≡ join
     → (gap.front ≡ other.front) × (gap.back ≡ other.back)
 same_gap gap other d e k = same_front None gap.front gap.back other.front other.back tt d e k
 
--- A MEMBER stands between what is before it and what is after
+-- A MEMBER OF A SEQUENCE has a position in it: some members are before it and some are after it.
 pub member_split : (q : Place) (s : List Place) → IsMember q s → (front : List Place) × (back : List Place) × (s ≡ front ++ q ∷ back)
 member_split q [] member = absurd (member tt)
 member_split q (x ∷ s) member = elim (same_or_not q x) [
@@ -313,7 +318,7 @@ member_split q (x ∷ s) member = elim (same_or_not q x) [
 pub split_member : (front : List Place) (q : Place) (back : List Place) → IsMember q (front ++ q ∷ back)
 split_member front q back out = (absent_right q front (q ∷ back) out).0 refl
 
--- a sequence with no first member, or no last, is empty
+-- A sequence with no first member, or with no last member, is empty.
 pub nothing_first : (s : List Place) → None ≡ first s → s ≡ []
 nothing_first [] h = refl
 nothing_first (x ∷ s) h = absurd (none_not x h)

@@ -1,4 +1,4 @@
--- Singly linked lists: their setter turns, what their entries tell, and their walks.
+-- This file proves facts about singly linked lists: about their setter, their entries, and their walks.
 use Rattle.std.proofs.Common.{◌≡◌, ◌≤◌, Option, Some, None, List, [], ◌∷◌, length, Bool, true, refl, sym, ◌∙◌, ap}
 use Rattle.ic_link_ops.specs.Prelude.{Place, IsDistinct, Table, IsCovered, IsLinked, ChangesOnly}
 use Rattle.ic_link_ops.specs.Turns.{TurnsAfter, TurnsBefore}
@@ -10,19 +10,19 @@ use Rattle.ic_link_ops.proofs.Clearing.{Releases, releases_left_blind}
 use Rattle.ic_link_ops.proofs.RepresentedLists.{free_absent, represents_frame, represents_one}
 use Rattle.ic_link_ops.proofs.Walks.{walk_blind, stretch_through, stretch_length, stretch_empty, stretch_of, stretch_first}
 
--- ONLY COVERED PLACES ARE LINKED, as successors say it too
+-- ONLY COVERED PLACES ARE LINKED: if an entry says that its place is linked, the table covers the place.
 pub successors_covered : {L E : Type 0} {linked : E → Bool} (s : E → Successor) (table : L → Table E) → ((t : L) (q : Place) → IsLinked linked (table t) q → IsCovered (table t) q)
     → ((e : E) → (s e).linked ≡ linked e) → (t : L) (q : Place) → (s ((table t).entry q)).linked ≡ true → IsCovered (table t) q
 successors_covered s table covered alike t q h = covered t q (sym (alike _) ∙ h)
 
 module _ {E : Type 0} {s : E → Successor} where
-  -- THE SETTER gives a turn, whatever stood there
+  -- THE SETTER changes the place after p, whatever that place was, and changes no other entry.
   pub successor_turns : {old new : Table E} {p : Place} {to : Option Place} (from : Option Place) → ChangesOnly old new p
       → successor_at s new p ≡ record (successor_at s old p) { next = to } → TurnsAfter (IsFollowed s) old.entry new.entry (Some p) from to
   successor_turns from frame set =
       turns_after frame (λ a h. record { linked = ap (λ x. x.linked) set ∙ h.linked; next = ap (λ x. x.next) set })
 
-  -- and no entry says what stands before it, so nothing has to be written for that
+  -- No entry of a singly linked list names the place before. If the place before a member changes, nothing is written.
   pub unwritten : {t : Place → E} {at from to : Option Place} → TurnsBefore (IsFollowed s) t t at from to
   unwritten = record { turned = λ q b e h. record { linked = h.linked; next = h.next }; others = λ q apart. refl }
 
@@ -32,14 +32,14 @@ module _ {E : Type 0} {s : E → Successor} where
   pub followed_linked : {linked : E → Bool} → ((e : E) → (s e).linked ≡ linked e) → (e : E) (b a : Option Place) → IsFollowed s e b a → linked e ≡ true
   followed_linked alike e b a h = sym (alike e) ∙ h.linked
 
-  -- the walk gives the rest of a chain
+  -- A walk from the place `front` to the end lists the rest of the chain.
   pub walk_represented : (t : Table E) → ((q : Place) → (s (t.entry q)).linked ≡ true → IsCovered t q)
       → (front : Option Place) (w : List Place) → IsWalk s t.entry front w → members_from s t front ≡ w
   walk_represented t covered front w k =
       walk_blind (λ e. (s e).next) t.entry t.extent.places None k.before front None
       ∙ stretch_through (next_of s) (λ e b a h. h.next) t (λ q b a h. covered q h.linked) k.part
 
-  -- it goes on after its first member, which is linked
+  -- The first member p of a walk is linked, and the other members form a walk that begins with the place after p.
   pub walk_more : (t : Place → E) (p : Place) (w : List Place) → IsWalk s t (Some p) w → (r : List Place) × (w ≡ p ∷ r) × IsWalk s t ((s (t p)).next) r
   walk_more t p [] k = absurd (none_not p (sym k.part.starts))
   walk_more t p (x ∷ w) k =
@@ -58,7 +58,7 @@ module _ {E : Type 0} {s : E → Successor} where
   pub walk_empty : (t : Place → E) (front : Option Place) (w : List Place) → front ≡ None → IsWalk s t front w → w ≡ []
   walk_empty t front w e k = stretch_empty e k.part
 
-  -- a list's members are a walk, and no more than what the table covers
+  -- The members of a list are a walk from its head, and the walk has at most as many members as the table covers places.
   pub walk_of : (t : Table E) {list : Front} {m : List Place} → Represents s t list m → IsWalk s t.entry list.head m
   walk_of t h = record { before = None; part = stretch_of h }
 
@@ -70,12 +70,13 @@ module _ {E : Type 0} {s : E → Successor} where
       → (list : Front) (m : List Place) → Represents s t list m → length m ≤ t.extent.places
   represented_length t covered list m shown = stretch_length t (λ q b a h. covered q h.linked) (stretch_of shown)
 
-  -- and those that are left while a list is cleared
+  -- If a list is cleared from the front, the members that are not cleared yet are the members from the current member on.
   pub members_uncleared : {old new : Table E} {m : List Place} {current : Option Place} → ((q : Place) → (s (new.entry q)).linked ≡ true → IsCovered new q)
       → IsDistinct m → (k : Releases (IsFollowed s) old new m current) → members_from s new current ≡ k.rest
   members_uncleared covered d k = releases_left_blind (λ e. (s e).next) (λ e b a h. h.next) (λ q b a h. covered q h.linked) d k
 
--- the five facts of singly linked lists, where both traits say alike whether a place is linked
+-- Singly linked lists have the five facts of a collection, if the list's trait and the table's trait agree on whether a place is
+-- linked.
 pub singly_lists : {E : Type 0} {s : E → Successor} {linked : E → Bool} → ((e : E) → (s e).linked ≡ linked e) → IsKind (Represents s) linked (list_from None)
 singly_lists {s = s} alike = record {
   frame = λ old new list m touched shown apart same. represents_frame touched shown apart same;

@@ -1,4 +1,5 @@
--- The walk that takes the members off: each call leaves fewer, and what all give out is the sequence.
+-- A walk removes the members of a collection one by one. Each call leaves fewer members, and all calls together return the whole
+-- sequence.
 use Rattle.std.proofs.Common.{◌≡◌, ◌<◌, Bool, Option, Some, None, List, [], ◌++◌, reverse, drop, length, sym, ap, arith}
 use Rattle.std.specs.Iterator.{MakesProgress, item_count}
 use Rattle.ic_link_ops.specs.Prelude.{Place, but_last, Table, LinkStep}
@@ -8,9 +9,10 @@ use Rattle.ic_link_ops.proofs.BothEnds.{both_ends}
 use Rattle.ic_link_ops.proofs.SequenceLemmas.{split_last, first_is}
 use Rattle.ic_link_ops.proofs.CollectionLaws.{IsKind, one_sequence_is_represented}
 
--- `Left s w`: w are the members left at s, as `left` reads them
+-- `Left s w` says that w is the list of members left in the state s. The function `left` computes the list of members left in a
+-- state.
 module _ {S : Type 0} (Left : S → List Place → Type 0) (left : S → List Place) (law : (s : S) (w : List Place) → Left s w → left s ≡ w) where
-  -- a call that gave out a member leaves fewer
+  -- A call that returned a member leaves fewer members.
   pub goes : (end : List Place → Option Place) (others : List Place → List Place) → ((w : List Place) (p : Place) → Some p ≡ end w → length (others w) < length w)
       → (s t : S) (r : Option Place) → (can : (w : List Place) × Left s w) → r ≡ end can.0 → Left t (others can.0)
       → MakesProgress (λ s. (w : List Place) × Left s w) (item_count left) s r t
@@ -21,11 +23,11 @@ module _ {S : Type 0} (Left : S → List Place → Type 0) (left : S → List Pl
     rests = λ _. tt;
   }
 
--- `rest s`: what the walk s has left, and its table
+-- `rest s` is the part of the collection that the walk s has not removed yet, and the table that the walk borrows.
 module _ {S L E H : Type 0} {Represents : Table E → H → List Place → Type 0} {linked : E → Bool} {empty : H} (kind : IsKind Represents linked empty)
     (table : L → Table E) (Trace : L → L → List LinkStep → Type 0) (rest : S → Taking L H) where
-  -- WHAT A WALK FROM BOTH ENDS TAKES OFF until nothing is left is its sequence, each member once: the items from the front, and then
-  -- those from the back, turned round
+  -- WHAT A WALK FROM BOTH ENDS REMOVES, if it ends with no member left, is its sequence, with each member once. First come the
+  -- items from the front, and then the items from the back in reverse order.
   pub two_ended_taking : (start end : S) (w : List Place) (items : List (Item Place)) → Leaves Represents table (rest start) w
       → Leads (λ s r t. TakesFirst Represents table Trace (rest s) r (rest t)) (λ s r t. TakesLast Represents table Trace (rest s) r (rest t)) start items end
       → Leaves Represents table (rest end) [] → from_front (λ p. p) items ++ reverse (from_back (λ p. p) items) ≡ w

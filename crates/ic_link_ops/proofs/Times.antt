@@ -1,4 +1,5 @@
--- Distinctness in numbers: how often a place stands in a sequence, in a tree, and around a subtree.
+-- This file proves facts about how often a place occurs in a sequence, in a tree, and around a subtree, so that distinctness can
+-- be counted.
 use Rattle.std.proofs.Common.{◌≡◌, ◌≢◌, ◌+◌, ◌≤◌, List, [], ◌∷◌, ◌++◌, refl, arith, inl, inr, eq-eqb, ne_eqb}
 use Rattle.ic_link_ops.specs.Prelude.{Place, index_of, IsAbsent, IsDistinct}
 use Rattle.ic_unsafe_ref.proofs.PlaceLemmas.{same_index, same_or_not}
@@ -15,7 +16,7 @@ one_at_self p = rw (eq-eqb (index_of p) (index_of p) refl) refl
 pub one_at_other : (q p : Place) → q ≢ p → one_at q p ≡ 0
 one_at_other q p h = rw (ne_eqb (index_of q) (index_of p) (λ e. h (same_index q p e))) refl
 
--- what stands there 0 times is another place
+-- If the count that compares q with p is 0, the places q and p are different.
 pub apart : (q p : Place) → one_at q p ≡ 0 → q ≢ p
 apart q p h e = let k : one_at q p ≡ 1 = rw e (one_at_self p) in absurd (omega arith)
 
@@ -23,7 +24,7 @@ pub times_append : (q : Place) (s t : List Place) → times_in q (s ++ t) ≡ ti
 times_append q [] t = omega arith
 times_append q (x ∷ s) t = omega (arith, times_append q s t)
 
--- absent is 0 times
+-- A place that is absent from a sequence occurs 0 times in it.
 pub absent_times : (q : Place) (s : List Place) → IsAbsent q s → times_in q s ≡ 0
 absent_times q [] h = refl
 absent_times q (x ∷ s) h = omega (arith, one_at_other q x h.0, absent_times q s h.1)
@@ -32,7 +33,7 @@ pub times_absent : (q : Place) (s : List Place) → times_in q s ≡ 0 → IsAbs
 times_absent q [] h = tt
 times_absent q (x ∷ s) h = (apart q x (omega arith), times_absent q s (omega arith))
 
--- distinct is at most once
+-- In a sequence of distinct places each place occurs at most once.
 pub distinct_times : (s : List Place) → IsDistinct s → (q : Place) → times_in q s ≤ 1
 distinct_times [] d q = omega arith
 distinct_times (x ∷ s) d q = elim (same_or_not q x) [
@@ -45,7 +46,7 @@ times_distinct [] once = tt
 times_distinct (x ∷ s) once =
     (times_absent x s (omega (arith, once x, one_at_self x)), times_distinct s (λ q. omega (arith, once q)))
 
--- a tree has the members of its sequence
+-- A place occurs in a tree as often as in the tree's sequence from left to right.
 pub times_order : (q : Place) (t : Tree) → times_in q (in_order t) ≡ times q t
 times_order q leaf = refl
 times_order q (fork c a p b) = omega (arith, times_append q (in_order a) (p ∷ in_order b), times_order q a, times_order q b)

@@ -1,4 +1,5 @@
--- Trees in a table: their members, what a setter makes of them, and that below a root there is one tree at most.
+-- This file proves facts about trees in a table: which places are their members, what a setter changes, and that there is at most
+-- one tree below a root.
 use Rattle.std.proofs.Common.{◌≡◌, ◌≢◌, ◌<◌, Option, Some, [], ◌∷◌, true, false, refl, sym, ap, ◌∙◌, subst}
 use Rattle.std.specs.List.{AllByRecursion}
 use Rattle.ic_link_ops.specs.Prelude.{Place, index_of, IsAbsent, Table, IsCovered}
@@ -8,28 +9,28 @@ use Rattle.ic_link_ops.specs.RedBlackTree.{Node, IsAt, IsTree}
 use Rattle.ic_link_ops.proofs.SequenceLemmas.{absent_left, absent_right, absent_both, none_not, some_same, split_member}
 use Rattle.ic_link_ops.proofs.Each.{all_both}
 
--- a place that is no member is not the root
+-- A place that is no member of a tree is not its root.
 pub top_not : (t : Tree) (q : Place) → IsAbsent q (in_order t) → top t ≢ Some q
 top_not leaf q out e = none_not q e
 top_not (fork c a p b) q out e = (absent_right q (in_order a) (p ∷ in_order b) out).0 (sym (some_same e))
 
--- what is absent from a tree is not its root, and absent from both parts
+-- A place that is absent from a tree is not its root and is absent from both of its subtrees.
 pub absent_parts : (c : Color) (a : Tree) (p : Place) (b : Tree) (q : Place) → IsAbsent q (in_order (fork c a p b))
     → (q ≢ p) × IsAbsent q (in_order a) × IsAbsent q (in_order b)
 absent_parts c a p b q out =
     let k = absent_right q (in_order a) (p ∷ in_order b) out in (k.0, absent_left q (in_order a) (p ∷ in_order b) out, k.1)
 
--- a tree with no members is a leaf
+-- A tree with no members is a leaf.
 pub leaf_is : (t : Tree) → in_order t ≡ [] → t ≡ leaf
 leaf_is leaf e = refl
 leaf_is (fork c a p b) e = absurd (split_member (in_order a) p (in_order b) (rw e tt))
 
--- a linked place with these readings
+-- The parts of a linked place with this color, these two children and this parent.
 abbrev member : Color → Option Place → Option Place → Option Place → Node
 member c a b up = record { linked = true; left = a; right = b; parent = up; color = c }
 
 module _ {E : Type 0} {n : E → Node} {entry : Place → E} {p : Place} {c : Color} {a b up : Option Place} where
-  -- A SETTER: an entry that reads as f makes it of what p read
+  -- A SETTER: if the new entry is f of the old entry of p, it is f of the parts of p, which are its color, children and parent.
   at_set : (f : Node → Node) (e : Node) → e ≡ f (n (entry p)) → IsAt n entry p c a b up → e ≡ f (member c a b up)
   at_set f e set h = set ∙ ap f (λ k. record { linked = h.linked k; left = h.left k; right = h.right k; parent = h.parent k; color = h.color k })
 
@@ -43,7 +44,8 @@ module _ {E : Type 0} {n : E → Node} {entry : Place → E} {p : Place} {c : Co
   }
 
 module _ {E : Type 0} {n : E → Node} {old new : Place → E} {p : Place} {c : Color} {a b up : Option Place} where
-  -- so each setter changes its own reading, and none is changed where the entry reads the same
+  -- An entry that reads the same keeps its parts. Each setter of one part of an entry changes that part and keeps the other
+  -- parts.
   pub at_same : n (new p) ≡ n (old p) → IsAt n old p c a b up → IsAt n new p c a b up
   at_same same h = at_is (at_set (λ e. e) (n (new p)) same h)
 
@@ -60,12 +62,12 @@ module _ {E : Type 0} {n : E → Node} {old new : Place → E} {p : Place} {c : 
   at_color x set h = at_is (at_set (λ e. record e { color = x }) (n (new p)) set h)
 
 module _ {E : Type 0} (n : E → Node) where
-  -- a linked place, whatever it reads
+  -- A linked place has exactly the color, the children and the parent that its entry stores.
   pub at_loose : (entry : Place → E) (p : Place) → (n (entry p)).linked ≡ true
       → IsAt n entry p (n (entry p)).color (n (entry p)).left (n (entry p)).right (n (entry p)).parent
   at_loose entry p h = record { linked = h; left = refl; right = refl; parent = refl; color = refl }
 
-  -- a tree depends on the entries of its members alone
+  -- A tree stays if no entry of its members changes.
   pub tree_kept : (old new : Place → E) (up : Option Place) (t : Tree)
       → ((q : Place) → (IsAbsent q (in_order t) → ⊥) → new q ≡ old q) → IsTree n old up t → IsTree n new up t
   tree_kept old new up leaf same h = tt
@@ -75,7 +77,7 @@ module _ {E : Type 0} (n : E → Node) where
     tree_kept old new (Some p) b (λ q m. same q (λ k. m (absent_parts c a p b q k).2)) h.2,
   )
 
-  -- what is not linked is no member
+  -- A place that is not linked is no member of a tree.
   pub tree_absent : (entry : Place → E) (up : Option Place) (t : Tree) (q : Place)
       → IsTree n entry up t → (n (entry q)).linked ≡ false → IsAbsent q (in_order t)
   tree_absent entry up leaf q h free = tt
@@ -83,12 +85,12 @@ module _ {E : Type 0} (n : E → Node) where
       absent_both q (in_order a) (p ∷ in_order b) (tree_absent entry (Some p) a q h.1 free)
       ((λ e. let k : (n (entry q)).linked ≡ true = rw e h.0.linked in cc), tree_absent entry (Some p) b q h.2 free)
 
-  -- the root has the parent that the tree stands below
+  -- The entry of a tree's root names `up`, the place below which the tree is, as the parent.
   pub top_parent : (entry : Place → E) (up : Option Place) (t : Tree) (q : Place) → IsTree n entry up t → top t ≡ Some q → (n (entry q)).parent ≡ up
   top_parent entry up leaf q h e = absurd (none_not q e)
   top_parent entry up (fork c a p b) q h e = rw (← some_same e) h.0.parent
 
-  -- r is no member, and `read` gives children and parents: then a place that reads r is no member either
+  -- If r is no member, and `read` yields a child or a parent, then a place for which `read` yields r is no member either.
   pub read_absent : (entry : Place → E) (read : Node → Option Place) (r : Place)
       → ((p : Place) (c : Color) (a b up : Option Place) → IsAt n entry p c a b up → a ≢ Some r → b ≢ Some r → up ≢ Some r → read (n (entry p)) ≢ Some r)
       → (up : Option Place) (t : Tree) → IsTree n entry up t → up ≢ Some r → IsAbsent r (in_order t)
@@ -102,7 +104,7 @@ module _ {E : Type 0} (n : E → Node) where
         read_absent entry read r not (Some p) b h.2 below k.2 q e,
       )
 
-  -- A TABLE HAS AT MOST ONE TREE below a root
+  -- A TABLE HAS AT MOST ONE TREE below a root with a given parent.
   pub one_tree : (entry : Place → E) (up : Option Place) (t t' : Tree) → IsTree n entry up t → IsTree n entry up t' → top t ≡ top t' → t ≡ t'
   one_tree entry up leaf leaf h h' e = refl
   one_tree entry up leaf (fork c a p b) h h' e = absurd (none_not p e)
@@ -115,7 +117,7 @@ module _ {E : Type 0} (n : E → Node) where
       let right : b ≡ b' = one_tree entry (Some p) b b' h.2 (subst (λ (x : Place). IsTree n entry (Some x) b') same h'.2) (sym h.0.right ∙ at.right) in
       cc
 
-  -- its members are covered if what is linked is
+  -- Each member of a tree is covered by the table, if all linked places are covered.
   pub tree_covered : (t : Table E) → ((q : Place) → (n (t.entry q)).linked ≡ true → IsCovered t q) → (up : Option Place) (tree : Tree)
       → IsTree n t.entry up tree → AllByRecursion (λ q. index_of q < t.extent.places) (in_order tree)
   tree_covered t law up leaf h = tt

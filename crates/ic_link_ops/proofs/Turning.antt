@@ -1,11 +1,11 @@
--- A change at one place, as a turn there.
+-- This file proves that a change of one place's entry is a change of one neighbor of the place.
 use Rattle.std.proofs.Common.{◌≡◌, Option, Some, sym, ap}
 use Rattle.ic_link_ops.specs.Prelude.{Place, Table, ChangesOnly}
 use Rattle.ic_link_ops.specs.Turns.{TurnsAfter, TurnsBefore}
 use Rattle.ic_link_ops.proofs.SequenceLemmas.{some_same}
 
 module _ {E : Type 0} {between : E → Option Place → Option Place → Type 0} where
-  -- a change at p that gives it another neighbor on one side is a turn there
+  -- If a change at p replaces the neighbor of p on one side, the change is an edit of that neighbor and of no other entry.
   pub turns_after : {old new : Table E} {p : Place} {from to : Option Place} → ChangesOnly old new p
       → ((a : Option Place) → between (old.entry p) a from → between (new.entry p) a to) → TurnsAfter between old.entry new.entry (Some p) from to
   turns_after {old} {new} {p} {from} {to} frame turn = record {

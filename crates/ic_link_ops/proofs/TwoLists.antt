@@ -1,4 +1,4 @@
--- What a split leaves: two lists that share no member, for any kind of list.
+-- A split of a list of any kind leaves two lists that share no member.
 use Rattle.std.proofs.Common.{Bool, Option, List, append-nil}
 use Rattle.ic_link_ops.specs.Prelude.{Place, Cut, join, at_front, at_back, IsAfter, IsBefore, Table}
 use Rattle.ic_link_ops.specs.Edits.{Splits}
@@ -8,7 +8,7 @@ use Rattle.ic_link_ops.proofs.SequenceLemmas.{disjoint_sym, distinct_disjoint, g
 
 module _ {E H : Type 0} {Represents : Table E → H → List Place → Type 0} {linked : E → Bool} {empty : H} (kind : IsKind Represents linked empty)
     {t : Table E} {list other : H} {position : Option Place} (a : AreApart Represents t list other position) {t' : Table E} {list' handed : H} where
-  -- a part is the other list then
+  -- After a split, one part of the members is the first list and the other part is the second list, and they share no member.
   pub split_after : ((gap : Cut) → Represents t list (join gap) → IsAfter gap position → Splits Represents t t' list' handed gap.front gap.back)
       → AreApart Represents t' list' handed position
   split_after splits =

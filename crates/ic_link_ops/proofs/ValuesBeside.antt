@@ -1,4 +1,4 @@
--- The values beside the links of a table as they are read and set.
+-- This file proves facts about the values beside the links of a table if a value is read or set.
 use Rattle.std.proofs.Common.{◌≡◌, ℕ, ◌<◌, List, length, Some, true, slice_set, slice_index_or, ap, ◌∙◌, arith}
 use Rattle.std.proofs.lemmas.List.{get_or-map, length-map, map-set}
 use Rattle.ic_link_ops.specs.Prelude.{Place, index_of, object_at, is_placed, with_object, at_indexes}
@@ -8,7 +8,7 @@ use Rattle.ic_link_ops.specs.Links.{value_of}
 use Rattle.ic_link_ops.specs.PlainTables.{values_beside}
 
 module _ {W V : Type 0} where
-  -- where a value stands, the place is covered, and it is the one beside the link
+  -- If there is a value at a place, the place is covered, and the value is the one beside its link.
   pub value_read : (es : List (Link W V)) (p : Place) {i : ℕ} → i ≡ index_of p → is_placed (at_indexes (values_beside es)) p ≡ true
       → (i < length es) × ((e : Link W V) → object_at (at_indexes (values_beside es)) p ≡ Some (value_of (slice_index_or es i e)))
   value_read es p {i} at_index placed =
@@ -16,7 +16,7 @@ module _ {W V : Type 0} where
       let within : i < length es = omega (arith, there.0, length-map es value_of) in
       (within, λ e. there.1 (value_of e) ∙ ap Some (get_or-map value_of es i e (value_of e) within))
 
-  -- a value is written beside the link of a place, whatever is written to the link
+  -- A write of the link e at the place p writes the value of e as the value of p, whatever the words of e are.
   pub value_set : (es : List (Link W V)) (p : Place) (e : Link W V) {i : ℕ} → i ≡ index_of p → index_of p < length es
       → at_indexes (values_beside (slice_set es i e)) ≡ with_object (at_indexes (values_beside es)) p (value_of e)
   value_set es p e {i} at_index covered =

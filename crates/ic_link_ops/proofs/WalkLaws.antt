@@ -1,11 +1,11 @@
--- What a walk from both ends lends until nothing is left is its sequence, each object once: the items from the front, and then those
--- from the back, turned round.
+-- A walk from both ends, if it ends with nothing left, lends its whole sequence, each object once. First come the items from the
+-- front, and then the items from the back in reverse order.
 use Rattle.std.proofs.Common.{◌≡◌, List, [], ◌++◌, reverse, Bor, refl, sym, ◌∙◌}
 use Rattle.ic_link_ops.specs.Walk.{GivesFirst, GivesLast}
 use Rattle.ic_link_ops.specs.BothEnds.{Item, Leads, from_front, from_back}
 use Rattle.ic_link_ops.proofs.BothEnds.{both_ends}
 
--- `left s`: the objects that the walk s has not given out yet
+-- `left s` is the list of objects that the walk s has not lent yet.
 module _ {S T : Type 0} (left : S → List T) where
   pub two_ended_walk : (start end : S) (items : List (Item (Bor T))) → Leads (GivesFirst left) (GivesLast left) start items end → left end ≡ []
       → from_front (λ x. x.now) items ++ reverse (from_back (λ x. x.now) items) ≡ left start

@@ -1,4 +1,4 @@
--- Walks: the parts of chains that they give, step by step from either end.
+-- This file proves that a walk lists a part of a chain, and how it proceeds step by step from either end.
 use Rattle.std.proofs.Common.{◌≡◌, ◌≢◌, ℕ, zero, suc, ◌<◌, ◌≤◌, Option, Some, None, List, [], ◌∷◌, ◌++◌, drop, length, length-append, Bool, true, false, nat_eq, ◌||◌, Bor, refl, sym, ◌∙◌, ap, arith, subst, ne_eqb, eq-eqb, eqb-true}
 use Rattle.std.specs.Prelude.{IsSome}
 use Rattle.std.specs.Option.{option_copied}
@@ -16,7 +16,7 @@ use Rattle.ic_link_ops.proofs.Chains.{chain_cut, last_between, first_between}
 nat_eq_refl : (i : ℕ) → nat_eq i i ≡ true
 nat_eq_refl i = eq-eqb i i refl
 
--- an end that is not p, and one that is
+-- The test whether an end is the place p fails if the end is not p, and succeeds if it is p.
 pub is_end_not : (to : Option Place) (p : Place) → to ≢ Some p → is_end to p ≡ false
 is_end_not None p h = refl
 is_end_not (Some q) p h = ne_eqb (index_of q) (index_of p) (λ e. h (ap Some (same_index q p e)))
@@ -28,7 +28,7 @@ is_end_yes (Some q) p e = ap Some (same_index q p (eqb-true (index_of q) (index_
 pub is_end_no : (to : Option Place) (p : Place) → is_end to p ≡ false → to ≢ Some p
 is_end_no to p e h = let k : is_end (Some p) p ≡ true = nat_eq_refl (index_of p) in let m : is_end (Some p) p ≡ false = rw h at e in cc
 
--- whether the place at the index i is a member
+-- The test whether the place with the given index is a member of the sequence.
 abbrev member : List Place → ℕ → Bool
 member [] i = false
 member (x ∷ w) i = nat_eq (index_of x) i || member w i
@@ -44,11 +44,11 @@ length_count (x ∷ w) n d h =
     (rw nat_eq_refl refl) (member_absent x w d.0) h.0 in
     omega (arith, falls, length_count w n d.1 h.1)
 
--- distinct places below n are at most n
+-- A sequence of distinct places with indexes below n has at most n members.
 pub pigeonhole : (w : List Place) (n : ℕ) → IsDistinct w → AllByRecursion (λ q. index_of q < n) w → length w ≤ n
 pigeonhole w n d h = omega (arith, length_count w n d h, count_at_most (member w) n)
 
--- there are fewer than 2 ^ 33 places
+-- Each place has an index below 2 ^ 33 - 1, so there are fewer than 2 ^ 33 places.
 all_small : (s : List Place) → AllByRecursion (λ q. index_of q < 8589934591) s
 all_small [] = tt
 all_small (x ∷ s) = (index_small x, all_small s)
@@ -56,7 +56,7 @@ all_small (x ∷ s) = (index_small x, all_small s)
 pub few_places : (s : List Place) → IsDistinct s → length s ≤ 8589934591
 few_places s distinct = pigeonhole s 8589934591 distinct (all_small s)
 
--- a step that reads nothing of what stands before gives the same walk, whatever stands there
+-- If a step does not use the place before, walks that begin with different places before are equal.
 pub walk_blind : {E : Type 0} (next : E → Option Place) (t : Place → E) (fuel : ℕ) (b b' from to : Option Place)
     → walk (λ e before. next e) t fuel b from to ≡ walk (λ e before. next e) t fuel b' from to
 unfolding walk
@@ -64,7 +64,7 @@ walk_blind next t zero b b' from to = refl
 walk_blind next t (suc fuel) b b' None to = refl
 walk_blind next t (suc fuel) b b' (Some p) to = refl
 
--- the members of a chain are covered, if only covered places stand in chains
+-- Each member of a chain is covered by the table, if each place between two others is covered.
 chain_covered : {E : Type 0} (between : E → Option Place → Option Place → Type 0) (t : Table E)
     → ((q : Place) (b a : Option Place) → between (t.entry q) b a → IsCovered t q)
     → (b : Option Place) (w : List Place) (a : Option Place) → IsChain between t.entry b w a → AllByRecursion (λ q. index_of q < t.extent.places) w
@@ -72,7 +72,7 @@ chain_covered between t covered b [] a c = tt
 chain_covered between t covered b (x ∷ w) a c = (covered x b (first_or w a) c.0, chain_covered between t covered (Some x) w a c.1)
 
 module _ {E : Type 0} {between : E → Option Place → Option Place → Type 0} where
-  -- a part of a chain has no member where it has no first, or no last
+  -- A part of a chain without a first place, or without a last place, has no members.
   pub stretch_none : {t : Place → E} {b a : Option Place} → IsStretch between t b None None a []
   stretch_none = record { distinct = tt; chain = tt; starts = refl; ends = refl }
 
@@ -84,7 +84,7 @@ module _ {E : Type 0} {between : E → Option Place → Option Place → Type 0}
   stretch_empty_back {w = []} e k = refl
   stretch_empty_back {w = x ∷ w} e k = absurd (last_some x w (sym k.ends ∙ e))
 
-  -- one whose ends are one has one member
+  -- If both ends of a part of a chain are the same place p, p is its only member.
   pub stretch_one : {t : Place → E} {b a : Option Place} {p : Place} {w : List Place} → IsStretch between t b (Some p) (Some p) a w → w ≡ p ∷ []
   stretch_one {p = p} {w = []} k = absurd (none_not p (sym k.starts))
   stretch_one {p = p} {w = x ∷ []} k = let e : Some p ≡ Some x = k.starts in cc
@@ -92,7 +92,7 @@ module _ {E : Type 0} {between : E → Option Place → Option Place → Type 0}
       let e : p ≡ x = some_same k.starts in
       absurd (last_not (Some y) w x (λ h. k.distinct.0.0 (sym (some_same h))) k.distinct.0.1 (sym k.ends ∙ ap Some e))
 
-  -- all of a represented sequence is one
+  -- The whole sequence that a table represents for a list is one part of a chain.
   pub stretch_of : {W : Type 0} {kept : Option Place → W} {t : Table E} {list : ListHead W} {s : List Place} → RepresentsChain between kept t list s
       → IsStretch between t.entry None list.head (last s) None s
   stretch_of h = record { distinct = h.distinct; chain = h.chain; starts = h.head; ends = refl }
@@ -100,7 +100,8 @@ module _ {E : Type 0} {between : E → Option Place → Option Place → Type 0}
   pub stretch_between : {t : Table E} {list : Ends} {s : List Place} → RepresentsBetween between t list s → IsStretch between t.entry None list.head list.tail None s
   stretch_between h = record { distinct = h.distinct; chain = h.chain; starts = h.head; ends = h.tail }
 
-  -- how its first member stands, and its last
+  -- `stretch_first` and `stretch_last` say that the entry of the first and of the last member of a part of a chain names the
+  -- member's neighbors.
   pub stretch_first : {t : Place → E} {b to a : Option Place} {p : Place} {w : List Place} → IsStretch between t b (Some p) to a w
       → between (t p) b (first_or (drop 1 w) a)
   stretch_first {p = p} {w = []} k = absurd (none_not p (sym k.starts))
@@ -110,12 +111,12 @@ module _ {E : Type 0} {between : E → Option Place → Option Place → Type 0}
       → between (t p) (last_or b (but_last w)) a
   stretch_last {t} {b} {from} {a} {p} {w} k = last_between between t b w a k.chain k.ends
 
-  -- no part of a chain is longer than what the table covers, if only covered places stand in chains
+  -- A part of a chain has at most as many members as the table covers places, if each place between two others is covered.
   pub stretch_length : (t : Table E) → ((q : Place) (b a : Option Place) → between (t.entry q) b a → IsCovered t q)
       → {b from to a : Option Place} {w : List Place} → IsStretch between t.entry b from to a w → length w ≤ t.extent.places
   stretch_length t covered {b} {from} {to} {a} {w} k = pigeonhole w t.extent.places k.distinct (chain_covered between t covered b w a k.chain)
 
-  -- `law`: the step goes to what stands after
+  -- `law` says that a step goes to the place after.
   module _ (step : E → Option Place → Option Place) (law : (e : E) (b a : Option Place) → between e b a → step e b ≡ a) where
     walk_is : (t : Place → E) (w : List Place) (fuel : ℕ) (b a : Option Place) → IsDistinct w → IsChain between t b w a → length w ≤ fuel
         → walk step t fuel b (first w) (last w) ≡ w
@@ -129,7 +130,7 @@ module _ {E : Type 0} {between : E → Option Place → Option Place → Type 0}
         rw (is_end_not (last_or (Some y) w) x (last_not (Some y) w x (λ e. d.0.0 (sym (some_same e))) d.0.1), law (t x) b (Some y) c.0)
         (ap (λ (l : List Place). x ∷ l) r)
 
-    -- the walk gives a part of a chain, from its first to its last
+    -- A walk from the first place of a part of a chain to its last place lists this part.
     pub stretch_walked : (t : Table E) → ((q : Place) (b a : Option Place) → between (t.entry q) b a → IsCovered t q)
         → {b from to a : Option Place} {w : List Place} → IsStretch between t.entry b from to a w → walked step t b from to ≡ w
     stretch_walked t covered {b} {from} {to} {a} {w} k =
@@ -144,12 +145,13 @@ module _ {E : Type 0} {between : E → Option Place → Option Place → Type 0}
     walk_through t (x ∷ w) (suc m) b c h =
         rw (law (t x) b (first w) c.0) (ap (λ (l : List Place). x ∷ l) (walk_through t w m (Some x) c.1 (omega (arith, h))))
 
-    -- and, where no last is told, the rest of a chain
+    -- A walk without a given last place lists the rest of the chain.
     pub stretch_through : (t : Table E) → ((q : Place) (b a : Option Place) → between (t.entry q) b a → IsCovered t q)
         → {b from to : Option Place} {w : List Place} → IsStretch between t.entry b from to None w → walked step t b from None ≡ w
     stretch_through t covered {b} {from} {to} {w} k = rw k.starts (walk_through t.entry w t.extent.places b k.chain (stretch_length t covered k))
 
-    -- a part of a chain goes on after its first member
+    -- If the first member p of a part of a chain is not the last one, the other members form a part that begins with the place
+    -- after p.
     pub stretch_more : {t : Place → E} {b to a : Option Place} {p : Place} {w : List Place} → IsStretch between t b (Some p) to a w → to ≢ Some p
         → (r : List Place) × (w ≡ p ∷ r) × IsStretch between t (Some p) (step (t p) b) to a r
     stretch_more {p = p} {w = []} k apart = absurd (none_not p (sym k.starts))
@@ -166,7 +168,8 @@ module _ {E : Type 0} {between : E → Option Place → Option Place → Type 0}
           },
         )
 
-  -- and before its last, by a step back
+  -- If the last member p of a part of a chain is not the first one, the other members form a part that ends with the place before
+  -- p.
   pub stretch_less : (back : E → Option Place → Option Place) (law : (e : E) (b a : Option Place) → between e b a → back e a ≡ b)
       → {t : Place → E} {b from a : Option Place} {p : Place} {w : List Place} → IsStretch between t b from (Some p) a w → from ≢ Some p
       → (r : List Place) × (w ≡ r ++ p ∷ []) × IsStretch between t b from (back (t p) a) (Some p) r
@@ -187,7 +190,8 @@ module _ {E : Type 0} {between : E → Option Place → Option Place → Type 0}
         },
       )
 
-  -- WHAT STANDS BEHIND A GAP is what the entries lead through from there, where an entry alone tells what stands after
+  -- THE MEMBERS AFTER A GAP are what a walk along the entries reaches from the first member after the gap, if an entry alone
+  -- determines the place after.
   pub walked_from_gap : (next : E → Option Place) → ((e : E) (b a : Option Place) → between e b a → next e ≡ a)
       → (t : Table E) → ((q : Place) (b a : Option Place) → between (t.entry q) b a → IsCovered t q)
       → (front back : List Place) {position : Option Place} → IsDistinct (front ++ back) → IsChain between t.entry None (front ++ back) None → position ≡ first back
@@ -198,20 +202,20 @@ module _ {E : Type 0} {between : E → Option Place → Option Place → Type 0}
       (record { distinct = distinct_right front back d; chain = (chain_cut between t.entry None front back None c).1; starts = here; ends = refl })
 
 module _ {S T : Type 0} (rest : S → List T) where
-  -- a step over a placed object gives that object
+  -- A step that passes a member with an object lends that object.
   pub yields_placed : (s t : S) (r : Option (Bor T)) (o : Option T) → IsSome o → option_copied r ≡ o
       → rest s ≡ cons_option o (rest t) → GivesFirst rest s r t
   yields_placed s t r None placed e left = cc
   yields_placed s t None (Some v) placed e left = cc
   yields_placed s t (Some x) (Some v) placed e left = (left ∙ ap (λ v. v ∷ rest t) (sym (same_Some x.now v e)), tt)
 
-  -- a step that gave an object left one less
+  -- A step that lent an object leaves one object less.
   pub makes_progress : (can : S → Type 0) (s t : S) (r : Option (Bor T)) → can t → GivesFirst rest s r t → MakesProgress can (item_count rest) s r t
   makes_progress can s t None on given = record { on = λ _. tt; keeps = tt; rests = λ _. tt }
   makes_progress can s t (Some x) on given =
       let e = ap length given.0 in record { on = λ _. (on, tt, omega (arith, e)); keeps = on; rests = λ _. tt }
 
-  -- the same from the back
+  -- A step from the back that passes a member with an object lends that object.
   pub yields_placed_back : (s t : S) (r : Option (Bor T)) (o : Option T) → IsSome o → option_copied r ≡ o
       → rest s ≡ rest t ++ cons_option o [] → GivesLast rest s r t
   yields_placed_back s t r None placed e left = cc

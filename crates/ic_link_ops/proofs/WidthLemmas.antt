@@ -1,4 +1,4 @@
--- What words of each width have room for.
+-- This file proves for which numbers words of each width have room.
 use Rattle.std.proofs.Common.{◌≡◌, ℕ, ◌-◌, ◌<◌, ◌≤◌, max, Option, Some, None, List, length, take, slice_set, slice_index_or, bit_xor, inl, inr, arith, refl, sym, ◌∙◌}
 use Rattle.std.proofs.lemmas.List.{length-take, get_or-take}
 use Rattle.std.proofs.lemmas.Bool.Decides.{eqb_tells}
@@ -8,18 +8,18 @@ use Rattle.std.proofs.lemmas.Nat.{xor_lt}
 use Rattle.ic_link_ops.specs.Prelude.{Place, word_of, IsNameable}
 use Rattle.ic_link_ops.specs.Widths.{Width, wide, narrow, HasRoom, CanKeep, nameable, count_nameable, most_places}
 
--- there is room for the word of a place, or of none, for whose name there is room
+-- If words have room for the name of an end, they have room for its word. The end is a place or none.
 pub word_kept : (w : Width) (o : Option Place) → IsNameable (HasRoom w) o → CanKeep w (word_of o)
 word_kept wide o h = tt
 word_kept narrow None h = omega arith
 word_kept narrow (Some p) h = omega (arith, h)
 
--- and for the exclusive or of two words
+-- If words have room for two numbers, they have room for the exclusive or of them.
 pub xor_kept : (w : Width) (a b : ℕ) → CanKeep w a → CanKeep w b → CanKeep w (bit_xor a b)
 xor_kept wide a b h k = tt
 xor_kept narrow a b h k = xor_lt 32 a b h k
 
--- THE LINKS THAT ARE SEEN: how many there are,
+-- THE NAMEABLE LINKS of a list are as many as `count_nameable` computes from the number of all links.
 pub nameable_count : {E : Type 0} (w : Width) (es : List E) → length (nameable w es) ≡ count_nameable w (length es)
 nameable_count wide es = refl
 nameable_count narrow es = length-take 536870911 es
@@ -28,17 +28,18 @@ pub nameable_fits : {E : Type 0} (w : Width) (es : List E) → length (nameable 
 nameable_fits wide es = omega arith
 nameable_fits narrow es = omega (arith, length-take 536870911 es)
 
--- what is read at one of them,
+-- A link that is read among the nameable links is the link with the same index among all links.
 pub nameable_read : {E : Type 0} (w : Width) (es : List E) (i : ℕ) (d : E) → i < length (nameable w es) → slice_index_or (nameable w es) i d ≡ slice_index_or es i d
 nameable_read wide es i d h = refl
 nameable_read narrow es i d h = get_or-take 536870911 es i d (omega (arith, h, length-take 536870911 es))
 
--- and after a write to one of them
+-- If a nameable link is written, the nameable links are the old ones with that link written.
 pub nameable_written : {E : Type 0} (w : Width) (es : List E) (i : ℕ) (e : E) → i < length (nameable w es) → nameable w (slice_set es i e) ≡ slice_set (nameable w es) i e
 nameable_written wide es i e h = refl
 nameable_written narrow es i e h = take-set-lt 536870911 es i e (omega (arith, h, length-take 536870911 es))
 
--- they stay where all links stay, and there are as many as are covered
+-- If the link with the index i stays, the nameable link with the index i stays. The lemmas `nameable_grown`, `nameable_enough`
+-- and `nameable_at_most` count the covered places.
 pub nameable_stays : {E : Type 0} (w : Width) (d : E) (es fs : List E) (i : ℕ) → slice_index_or fs i d ≡ slice_index_or es i d
     → slice_index_or (nameable w fs) i d ≡ slice_index_or (nameable w es) i d
 nameable_stays wide d es fs i same = same

@@ -1,20 +1,21 @@
--- A walk from both ends: calls at the front and at the back, in any order.
+-- A walk from both ends returns items of a list by calls at the front and calls at the back, which may come in any order.
 use Rattle.std.specs.Prelude.{◌≡◌, Option, Some, List, [], ◌∷◌}
 
--- an item, and the end at which the walk returned it
+-- An item that a walk returned, with the end of the list (front or back) at which the walk returned it.
 pub data Item (A : Type 0) : Type 0 where
   at_the_front : A → Item A
   at_the_back : A → Item A
 
 module _ {S A : Type 0} (next_gives next_back_gives : S → Option A → S → Type 0) where
-  -- calls led from state s to state t and returned these items
+  -- A sequence of calls led the walk from the state s to the state t, and the calls returned the items in the list, in order.
   abbrev pub Leads : S → List (Item A) → S → Type 0
   Leads s [] t = s ≡ t
   Leads s (at_the_front x ∷ items) t = (u : S) × next_gives s (Some x) u × Leads u items t
   Leads s (at_the_back x ∷ items) t = (u : S) × next_back_gives s (Some x) u × Leads u items t
 
 module _ {A B : Type 0} (view : A → B) where
-  -- the items that were returned at the front, in the order of the calls, and those at the back
+  -- `from_front` lists the items that were returned at the front, and `from_back` those that were returned at the back, each in
+  -- the order of the calls.
   abbrev pub from_front : List (Item A) → List B
   from_front [] = []
   from_front (at_the_front x ∷ items) = view x ∷ from_front items

@@ -1,4 +1,5 @@
--- What a call states that edits a collection at a position, in the same words for every kind and for every cursor.
+-- This file describes the result of a call that edits a collection at a position. Each kind of collection and each cursor uses
+-- the definitions in this file.
 use Rattle.std.specs.Prelude.{◌≡◌, ◌≢◌, Option, Some, None, Result, OnOk, OnErr, OnSome, IfOk, IfErr, IfSome, IfNone, List, [], ◌∷◌}
 use Rattle.ic_unsafe_ref.specs.declared.place.Place.{Place}
 use Rattle.ic_link_ops.specs.declared.errors.AlreadyLinked.{AlreadyLinked}
@@ -10,18 +11,19 @@ use Rattle.ic_link_ops.specs.Edits.{Inserts, Removes, Replaces, Splices, Splits}
 use Rattle.ic_link_ops.specs.Errors.{object_of, ByCause}
 use Rattle.ic_link_ops.specs.Positions.{CursorState, RepresentsAt, IsValidCursor, IsSecondAfter}
 
--- WHAT A SPLICE STATES about each gap beside the position and the members of the given collection, if the two collections share no
--- member
+-- WHERE TWO COLLECTIONS ARE APART: `Holds gap t` is true for each gap beside the position and for the members t of the given
+-- collection, if the two collections share no member.
 module _ {L E H : Type 0} (Represents : Table E → H → List Place → Type 0) (table : L → Table E) where
   abbrev pub WhereApart : (Cut → Option Place → Type 0) → CursorState L H → H → (Cut → List Place → Type 0) → Type 0
   WhereApart IsBeside old given Holds = (gap : Cut) (t : List Place) → RepresentsAt Represents table old (join gap) → IsBeside gap old.position
       → Represents (table old.links) given t → IsDisjoint t (join gap) → Holds gap t
 
--- `Represents`: the kind's represents-relation. `table`, `Trace`: the table as contracts see it, and its steps. `old`, `new`: the states before
--- the call and after it
+-- `Represents t head s` says that the table t represents the sequence s for the collection with this head. `table` turns the
+-- links into a table as contracts describe it, and `Trace` lists the table's steps. `old` and `new` are the states before and
+-- after the call.
 module _ {L E H : Type 0} (Represents : Table E → H → List Place → Type 0) (table : L → Table E) (Trace : L → L → List LinkStep → Type 0) where
-  -- the object is inserted into the gap beside the position, or its link is refused and nothing else has changed. The position
-  -- stays
+  -- The object is inserted into the gap beside the position, or its link is refused and nothing else has changed. The position
+  -- stays, whether the object is inserted or refused.
   pub record InsertsBeside {T : Type 0} (Refused : L → L → Place → Type 0) (IsBeside : Cut → Option Place → Type 0)
       (old : CursorState L H) (object : Place) (result : Result Unit (AlreadyLinked T)) (new : CursorState L H) : Type 0 where
     pub inserted : (gap : Cut) → RepresentsAt Represents table old (join gap) → IsBeside gap old.position
@@ -32,8 +34,8 @@ module _ {L E H : Type 0} (Represents : Table E → H → List Place → Type 0)
     pub position : new.position ≡ old.position
     pub stands : IsValidCursor Represents table new
 
-  -- the member that the position is on is removed and returned, and the position moves to the one after it. At null the
-  -- result is none, and nothing has changed
+  -- The call removes and returns the member that the position is on, and the position moves to the next member. If the position
+  -- is null, the call returns none and nothing has changed.
   pub record RemovesThere (old : CursorState L H) (result : Option Place) (new : CursorState L H) : Type 0 where
     pub answer : result ≡ old.position
     pub removed : (gap : Cut) → RepresentsAt Represents table old (join gap) → IsBefore gap old.position
@@ -43,8 +45,8 @@ module _ {L E H : Type 0} (Represents : Table E → H → List Place → Type 0)
     pub null : IfNone result (new ≡ old)
     pub stands : IsValidCursor Represents table new
 
-  -- the object replaces the member that the position is on; the member is returned, and the position is on the object. At
-  -- null, and if its link is refused, the object is returned and nothing else has changed
+  -- The object replaces the member that the position is on. The call returns the replaced member, and the position is then on the
+  -- object. If the position is null or the object's link is refused, the call returns the object, and nothing else has changed.
   pub record ReplacesThere {T : Type 0} (Refused : L → L → Place → Type 0)
       (old : CursorState L H) (object : Place) (result : Result Place (ReplaceError T)) (new : CursorState L H) : Type 0 where
     pub answer : IfOk result (λ out. old.position ≡ Some out)
@@ -57,8 +59,8 @@ module _ {L E H : Type 0} (Represents : Table E → H → List Place → Type 0)
     pub unchanged : IfErr result (λ refused. (object_of refused ≡ object) × (new.head ≡ old.head) × (new.position ≡ old.position))
     pub stands : IsValidCursor Represents table new
 
-  -- the member after the position, or the first one at null, is removed and returned. If there is none, the result is none and
-  -- nothing has changed. The position stays
+  -- The call removes and returns the member after the position, or the first member if the position is null. If there is no
+  -- member to remove, the call returns none and nothing has changed. The position stays.
   pub record RemovesNext (old : CursorState L H) (result : Option Place) (new : CursorState L H) : Type 0 where
     pub answer : (gap : Cut) → RepresentsAt Represents table old (join gap) → IsAfter gap old.position → result ≡ first gap.back
     pub removed : (gap : Cut) → RepresentsAt Represents table old (join gap) → IsAfter gap old.position
@@ -68,8 +70,9 @@ module _ {L E H : Type 0} (Represents : Table E → H → List Place → Type 0)
     pub nothing : IfNone result (new ≡ old)
     pub stands : IsValidCursor Represents table new
 
-  -- the object replaces the member after the position, or the first one at null; that member is returned. If there is none, and if
-  -- the object's link is refused, the object is returned and nothing else has changed. The position stays
+  -- The object replaces the member after the position, or the first member if the position is null, and the call returns the
+  -- replaced member. If there is no member to replace or the object's link is refused, the call returns the object, and nothing
+  -- else has changed. The position stays.
   pub record ReplacesNext {T : Type 0} (Refused : L → L → Place → Type 0)
       (old : CursorState L H) (object : Place) (result : Result Place (ReplaceError T)) (new : CursorState L H) : Type 0 where
     pub answer : (gap : Cut) → RepresentsAt Represents table old (join gap) → IsAfter gap old.position → IfOk result (λ out. first gap.back ≡ Some out)
@@ -82,16 +85,16 @@ module _ {L E H : Type 0} (Represents : Table E → H → List Place → Type 0)
     pub position : new.position ≡ old.position
     pub stands : IsValidCursor Represents table new
 
-  -- all of the given collection, which shares no member with this one, is inserted into the gap beside the position. The
-  -- position stays
+  -- All members of the given collection are inserted into the gap beside the position, if the two collections share no member.
+  -- The position stays.
   pub record SplicesBeside (IsBeside : Cut → Option Place → Type 0) (old : CursorState L H) (given : H) (new : CursorState L H) : Type 0 where
     pub spliced : WhereApart Represents table IsBeside old given (Splices Represents (table old.links) (table new.links) new.head)
     pub trace_stays : Trace old.links new.links []
     pub position : new.position ≡ old.position
     pub stands : WhereApart Represents table IsBeside old given (λ gap t. IsValidCursor Represents table new)
 
-  -- the gap beside the position cuts the members in two: those of one part stay, and those of the other are handed out. The position
-  -- stays
+  -- The collection is split at the gap beside the position. The members on one side of the gap stay in the collection, and the
+  -- call returns the members on the other side as a new collection. The position stays.
   pub record SplitsBeside (IsBeside : Cut → Option Place → Type 0) (kept handed : Cut → List Place)
       (old : CursorState L H) (result : H) (new : CursorState L H) : Type 0 where
     pub split : (gap : Cut) → RepresentsAt Represents table old (join gap) → IsBeside gap old.position
@@ -100,7 +103,8 @@ module _ {L E H : Type 0} (Represents : Table E → H → List Place → Type 0)
     pub position : new.position ≡ old.position
     pub stands : IsValidCursor Represents table new
 
-  -- the gap after the position, and the gap before it
+  -- `SplitsAfter` splits at the gap after the position and keeps the members before the gap. `SplitsBefore` splits at the gap
+  -- before the position and keeps the members after the gap.
   abbrev pub SplitsAfter : CursorState L H → H → CursorState L H → Type 0
   SplitsAfter = SplitsBeside IsAfter (λ gap. gap.front) (λ gap. gap.back)
 

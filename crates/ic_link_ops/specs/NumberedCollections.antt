@@ -1,5 +1,5 @@
--- Several collections in one table. Each has a number, and its objects have the same number, so no two collections
--- share a member.
+-- This file describes several collections in one table. Each collection has a number, and each of its objects has the
+-- collection's number. Two collections share no member, because their objects have different numbers.
 use Rattle.std.specs.Prelude.{◌≡◌, ℕ, Bool, eqb, cond, List}
 use Rattle.std.specs.List.{AllByRecursion}
 use Rattle.ic_unsafe_ref.specs.declared.place.Place.{Place}
@@ -8,19 +8,22 @@ use Rattle.ic_link_ops.specs.PlacedObjects.{StandAt}
 use Rattle.ic_link_ops.specs.Sequences.{IsAbsent}
 use Rattle.ic_link_ops.specs.Tables.{Table, IsUnlinked}
 
--- the function that is x at k, and as before at every other number
+-- `with_at f k x` is the function which is x at the number k and equals f at every other number.
 abbrev pub with_at : {X : Type 0} → (ℕ → X) → ℕ → X → ℕ → X
 with_at f k x i = cond (eqb k i) x (f i)
 
--- `heads`: the collections. `number`: the number of the collection in which an object belongs
+-- In this module `heads` stores the head of each collection by its number. `number` computes, from an object, the number of the
+-- collection to which it belongs.
 module _ {E H T : Type 0} (Represents : Table E → H → List Place → Type 0) (linked : E → Bool) (number : T → ℕ) where
-  -- collection i has these members, the objects at them are these values, and each belongs in collection i
+  -- The collection with the number i has these members, these values are the objects at the members, and each object belongs to
+  -- the collection i.
   pub record IsNumbered (t : Table E) (heads : ℕ → H) (objects : Objects T) (i : ℕ) (members : List Place) (values : List T) : Type 0 where
     pub shown : Represents t (heads i) members
     pub stand : StandAt objects members values
     pub own : AllByRecursion (λ v. number v ≡ i) values
 
-  -- THE TABLE HAS THESE COLLECTIONS and nothing else: collection i has `values i`, and only members are linked
+  -- THE TABLE HAS THESE COLLECTIONS and nothing else: the collection i has the objects `values i`, and every place that is no
+  -- member is unlinked.
   pub record HasNumbered (t : Table E) (heads : ℕ → H) (objects : Objects T) (values : ℕ → List T) : Type 0 where
     pub members : ℕ → List Place
     pub each : (i : ℕ) → IsNumbered t heads objects i (members i) (values i)

@@ -1,17 +1,17 @@
--- Links of one word.
+-- This file describes links that consist of one word of 8 bytes.
 use Rattle.std.specs.Prelude.{ℕ, Bool}
 use Rattle.ic_link_ops.specs.declared.one_word.OneWord.{OneWord}
 use Rattle.ic_link_ops.specs.Words.{marked_bits_of, is_word, mark}
 
 module _ {K : Type 0} where
-  -- the mark of an unlinked place
+  -- The only word in the link of an unlinked place is the mark.
   abbrev pub no_word : OneWord K
   no_word = record { word = mark; of = record {} }
 
-  -- whether this is a word, and not the mark
+  -- `has_word` says whether the link stores a word, and not the mark of an unlinked place.
   abbrev pub has_word : OneWord K → Bool
   has_word w = is_word w.word
 
-  -- the word
+  -- The number that the only word of the link stores.
   abbrev pub next_word_of : OneWord K → ℕ
   next_word_of w = marked_bits_of w.word

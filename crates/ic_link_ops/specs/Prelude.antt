@@ -1,5 +1,5 @@
--- This file declares nothing. It re-exports the names that most contracts of collections cite: places and objects, sequences, tables,
--- positions, link steps.
+-- This file declares nothing, and it exports the names that most contracts of collections use: the names of places, objects,
+-- sequences, tables, positions and link steps.
 pub use Rattle.ic_unsafe_ref.specs.declared.place.Place.{Place}
 pub use Rattle.ic_unsafe_ref.specs.Places.{index_of, names_once, place_at, place_code, place_of, same_word, word_of}
 pub use Rattle.ic_unsafe_ref.specs.Objects.{Frees, Objects, Places, at_indexes, is_placed, object_at, objects_code, with_object}

@@ -1,4 +1,4 @@
--- What the words of a link state, for each kind of collection that they can serve.
+-- This file says what the words of a link mean, for each kind of collection that can use the link.
 use Rattle.std.specs.Prelude.{◌≡◌, ℕ, Bool, Option, bit_xor}
 use Rattle.ic_unsafe_ref.specs.declared.place.Place.{Place}
 use Rattle.ic_unsafe_ref.specs.Places.{place_at, word_of}
@@ -8,19 +8,21 @@ use Rattle.ic_link_ops.specs.SinglyLinkedList.{Successor}
 use Rattle.ic_link_ops.specs.LinkedList.{Neighbors}
 
 module _ {W V : Type 0} (next_word : W → ℕ) where
-  -- the next word is the exclusive or of the words of a and b
+  -- The next word of the link l is the exclusive or of the words of the places a and b, which are its neighbors in an XOR linked
+  -- list.
   abbrev pub HasXorNeighbors : Link W V → Option Place → Option Place → Type 0
   HasXorNeighbors l a b = next_word (words_of l) ≡ bit_xor (word_of a) (word_of b)
 
-  -- the place whose word is the next word without the word of a: the other neighbor
+  -- The neighbor other than a in an XOR linked list. The word of this neighbor is the exclusive or of the link's next word and
+  -- the word of a.
   abbrev pub xor_other : Link W V → Option Place → Option Place
   xor_other l a = place_at (bit_xor (next_word (words_of l)) (word_of a))
 
   module _ (is_linked : W → Bool) where
-    -- the place after: the one whose word is the next word
+    -- The parts of the link in a singly linked list: whether its place is linked, and the next place, which the next word names.
     abbrev pub successor_of : Link W V → Successor
     successor_of l = record { linked = is_linked (words_of l); next = place_at (next_word (words_of l)) }
 
-    -- the two neighbors
+    -- The parts of the link in a doubly linked list: whether its place is linked, the previous place, and the next place.
     abbrev pub neighbors_of : (W → Option Place) → Link W V → Neighbors
     neighbors_of prev l = record { linked = is_linked (words_of l); prev = prev (words_of l); next = place_at (next_word (words_of l)) }

@@ -1,4 +1,4 @@
--- Which sequence a table represents for a tree.
+-- This file defines which sequence of places a table represents for a red-black tree.
 use Rattle.std.specs.Prelude.{◌≡◌, Bool, true, Option, Some, None, List}
 use Rattle.ic_unsafe_ref.specs.declared.place.Place.{Place}
 use Rattle.ic_link_ops.specs.declared.color.Color.{Color}
@@ -7,7 +7,7 @@ use Rattle.ic_link_ops.specs.Tables.{Table}
 use Rattle.ic_link_ops.specs.Trees.{Tree, leaf, fork, top, in_order}
 use Rattle.ic_link_ops.specs.Shape.{IsRight}
 
--- what an entry states: whether its place is linked, its children, its parent and its color
+-- The parts of a tree entry: whether its place is linked, its left and its right child, its parent, and its color.
 pub record Node : Type 0 where
   pub linked : Bool
   pub left : Option Place
@@ -16,11 +16,11 @@ pub record Node : Type 0 where
   pub color : Color
 
 module _ {E : Type 0} (node : E → Node) where
-  -- the parts of the entry at p
+  -- The parts of the entry that the table t stores at the place p.
   abbrev pub node_at : Table E → Place → Node
   node_at t p = node (t.entry p)
 
-  -- p is linked and has this color, these children, a on the left and b on the right, and this parent
+  -- The place p is linked, and it has the color c, the left child a, the right child b, and the parent `up`.
   pub record IsAt (entry : Place → E) (p : Place) (c : Color) (a b up : Option Place) : Type 0 where
     pub linked : (node (entry p)).linked ≡ true
     pub left : (node (entry p)).left ≡ a
@@ -28,32 +28,33 @@ module _ {E : Type 0} (node : E → Node) where
     pub parent : (node (entry p)).parent ≡ up
     pub color : (node (entry p)).color ≡ c
 
-  -- the entries are those of this tree, whose root has this parent
+  -- The entries store this tree: each member has its color, its children and its parent in the tree. The parent of the root is
+  -- `up`.
   abbrev pub IsTree : (Place → E) → Option Place → Tree → Type 0
   IsTree entry up leaf = Unit {0}
   IsTree entry up (fork c a p b) = IsAt entry p c (top a) (top b) up × IsTree entry (Some p) a × IsTree entry (Some p) b
 
-  -- the table holds this tree: it has the in-order list s, in which no place occurs twice, its root has no parent, and the
-  -- entries have its children, parents and colors
+  -- The table holds the tree: its members from left to right are the list s, in which no place occurs twice. The entries store
+  -- the tree's children, parents and colors, and the root has no parent.
   pub record Holds (t : Table E) (tree : Tree) (s : List Place) : Type 0 where
     pub order : in_order tree ≡ s
     pub distinct : IsDistinct s
     pub entries : IsTree t.entry None tree
 
-  -- THE TABLE REPRESENTS s for the tree with this root: the table holds a binary tree with the in-order list s and this
-  -- root (none if s is empty), and its shape is right
+  -- THE TABLE REPRESENTS s for the tree with this root: the table holds a binary tree with this root and the members s from left
+  -- to right. The root is none if s is empty. The tree's shape is right.
   pub record Represents (t : Table E) (root : Option Place) (s : List Place) : Type 0 where
     pub tree : Tree
     pub held : Holds t tree s
     pub starts : root ≡ top tree
     pub shape : IsRight tree
 
-  -- the table represents a sequence for the tree with this root
+  -- The table represents some sequence of places for the tree with this root.
   abbrev pub RepresentsSome : Table E → Option Place → Type 0
   RepresentsSome t root = (s : List Place) × Represents t root s
 
-  -- THE TABLE REPRESENTS s BETWEEN TWO ENDS: the table holds a binary tree with the in-order list s, whatever its colors,
-  -- and the ends are the first and the last of s (none if s is empty)
+  -- THE TABLE REPRESENTS s BETWEEN TWO ENDS: the table holds a binary tree with the members s from left to right. The ends are
+  -- the first and the last of s, or none if s is empty. The colors may be any.
   pub record RepresentsEnds (t : Table E) (front back : Option Place) (s : List Place) : Type 0 where
     pub tree : Tree
     pub held : Holds t tree s

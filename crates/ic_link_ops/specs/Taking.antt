@@ -1,4 +1,4 @@
--- A walk that removes the members, as contracts see it, in the same words for every kind.
+-- This file describes a walk that removes the members of a collection. Each kind of collection uses the definitions in this file.
 use Rattle.std.specs.Prelude.{◌≡◌, Option, List, [], ◌∷◌, IfSome, IfNone, drop}
 use Rattle.std.specs.Borrow.{MutBor}
 use Rattle.ic_unsafe_ref.specs.declared.place.Place.{Place}
@@ -6,24 +6,26 @@ use Rattle.ic_link_ops.specs.Sequences.{first, last, but_last}
 use Rattle.ic_link_ops.specs.Tables.{Table, ChangesOnlyIn}
 use Rattle.ic_link_ops.specs.LinkSteps.{LinkStep, releases}
 
--- the part of the collection that the walk has not removed yet, and the table that it borrows
+-- The state of a walk that removes the members: the head of the part of the collection that is not removed yet, and the table
+-- that the walk borrows.
 pub record Taking (L H : Type 0) : Type 0 where
   pub head : H
   pub links : MutBor L
 
--- `Represents t head s`: the table represents s for the collection with this head
+-- `Represents t head s` says that the table t represents the sequence s for the collection with this head.
 module _ {L E H : Type 0} (Represents : Table E → H → List Place → Type 0) (table : L → Table E) where
-  -- w are the members that the walk has not returned yet
+  -- The sequence w consists of the members that the walk has not returned yet.
   abbrev pub Leaves : Taking L H → List Place → Type 0
   Leaves t w = Represents (table t.links.now) t.head w
 
-  -- some sequence of members remains for the walk, maybe the empty one
+  -- Some sequence of members remains for the walk, and it may be empty.
   abbrev pub CanTake : Taking L H → Type 0
   CanTake t = (w : List Place) × Leaves t w
 
   module _ (Trace : L → L → List LinkStep → Type 0) where
-    -- one call from state s returned r and left state t: the member at the end is returned and unlinked, and no other
-    -- step is made
+    -- One call of the walk led from the state s to the state t and returned r. The call returns and unlinks the member at the
+    -- given end of the remaining members, and makes no other step. If no member remains, the call returns none and changes
+    -- nothing.
     pub record Takes (end : List Place → Option Place) (others : List Place → List Place) (s : Taking L H) (r : Option Place) (t : Taking L H) : Type 0 where
       pub same_links : t.links.ghost_name ≡ s.links.ghost_name
       pub answer : (w : List Place) → Leaves s w → r ≡ end w
@@ -32,7 +34,8 @@ module _ {L E H : Type 0} (Represents : Table E → H → List Place → Type 0)
       pub empty : IfNone r ((t.head ≡ s.head) × (t.links.now ≡ s.links.now))
       pub frame : (w : List Place) → Leaves s w → ChangesOnlyIn (table s.links.now) (table t.links.now) w
 
-    -- such a call at the front, and one at the back
+    -- `TakesFirst` describes a call that removes and returns the first remaining member. `TakesLast` describes a call that
+    -- removes and returns the last remaining member.
     abbrev pub TakesFirst : Taking L H → Option Place → Taking L H → Type 0
     TakesFirst = Takes first (drop 1)
 

@@ -1,4 +1,4 @@
--- Links of three words.
+-- This file describes links of a tree that consist of three words of 8 bytes.
 use Rattle.std.specs.Prelude.{ℕ, Bool, Option, None, List, [], ◌∷◌}
 use Rattle.ic_unsafe_ref.specs.declared.place.Place.{Place}
 use Rattle.ic_unsafe_ref.specs.Places.{place_at, word_of}
@@ -9,22 +9,22 @@ use Rattle.ic_link_ops.specs.Words.{bits_of, printed, none}
 use Rattle.ic_link_ops.specs.TreeWords.{unlinked, number_of}
 use Rattle.ic_link_ops.specs.RedBlackTree.{Node}
 
--- the words of an unlinked place
+-- The words in the link of an unlinked place.
 abbrev pub no_words : ThreeWords
 no_words = record { left = None; right = none; third = unlinked }
 
--- whether the place is linked according to the third word
+-- `has_link` reads from the third word whether the link's place is linked.
 abbrev pub has_link : ThreeWords → Bool
 has_link w = w.third.linked
 
--- the place on the left, and the word on the right
+-- `left_of` is the left child that a link stores, and `right_word_of` is the number of the word that names the right child.
 abbrev pub left_of : ThreeWords → Option Place
 left_of w = w.left
 
 abbrev pub right_word_of : ThreeWords → ℕ
 right_word_of w = bits_of w.right
 
--- the parts of a tree's entry that the words store
+-- The parts of a tree entry, read from the three words: whether the place is linked, its children, its parent and its color.
 abbrev pub node_in : ThreeWords → Node
 node_in w = record {
   linked = w.third.linked;
@@ -37,6 +37,7 @@ node_in w = record {
 abbrev pub node_of : {V : Type 0} → Link ThreeWords V → Node
 node_of l = node_in (words_of l)
 
--- the words as they are printed; the third one has the flags and twice the parent's number
+-- The numbers that are printed for the three words of a link. The third number contains the flags and twice the parent's number,
+-- which is 2 * (index + 1).
 abbrev pub printed_words : ThreeWords → List ℕ
 printed_words w = printed (word_of w.left) ∷ printed (bits_of w.right) ∷ number_of w.third ∷ []

@@ -1,25 +1,26 @@
--- How often a place occurs in a sequence, in a tree, and around a subtree.
+-- This file counts how often a place occurs in a sequence, in a tree, and in the part of a tree around a subtree.
 use Rattle.std.specs.Prelude.{ℕ, ◌+◌, cond, nat_eq, List, [], ◌∷◌}
 use Rattle.ic_unsafe_ref.specs.declared.place.Place.{Place}
 use Rattle.ic_unsafe_ref.specs.Places.{index_of}
 use Rattle.ic_link_ops.specs.Trees.{Tree, leaf, fork}
 use Rattle.ic_link_ops.specs.Frames.{Frame, frame}
 
--- 1 if q is p
+-- The count is 1 if the places q and p are equal, and 0 otherwise.
 abbrev pub one_at : Place → Place → ℕ
 one_at q p = cond (nat_eq (index_of q) (index_of p)) 1 0
 
--- how often q occurs in a sequence
+-- The count of how often the place q occurs in a sequence.
 abbrev pub times_in : Place → List Place → ℕ
 times_in q [] = 0
 times_in q (x ∷ s) = one_at q x + times_in q s
 
--- how often q occurs in a tree
+-- The count of how often the place q occurs in a tree.
 abbrev pub times : Place → Tree → ℕ
 times q leaf = 0
 times q (fork c a p b) = times q a + one_at q p + times q b
 
--- how often q occurs in these frames and beside them, around the subtree below
+-- The count of how often the place q occurs in a tree outside one subtree. The frames describe the rest of the tree around the
+-- subtree.
 abbrev pub times_around : Place → List Frame → ℕ
 times_around q [] = 0
 times_around q (frame d c p b ∷ fs) = one_at q p + times q b + times_around q fs

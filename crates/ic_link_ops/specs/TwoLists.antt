@@ -1,12 +1,12 @@
--- Two lists of one table, of whatever kind, and a position in the first.
+-- This file describes two lists of any kind in one table, and a position in the first list.
 use Rattle.std.specs.Prelude.{Option, List}
 use Rattle.ic_unsafe_ref.specs.declared.place.Place.{Place}
 use Rattle.ic_link_ops.specs.Sequences.{Cut, join, IsAfter, IsDisjoint}
 use Rattle.ic_link_ops.specs.Tables.{Table}
 
--- `Represents t head s`: the table represents s for the list with this head
+-- `Represents t head s` says that the table t represents the sequence s for the list with this head.
 module _ {E H : Type 0} (Represents : Table E → H → List Place → Type 0) where
-  -- the table represents two lists that share no member, and the position is one of the first
+  -- The table represents two lists that share no member, and the position is valid in the first list.
   pub record AreApart (t : Table E) (list other : H) (position : Option Place) : Type 0 where
     pub gap : Cut
     pub rest : List Place

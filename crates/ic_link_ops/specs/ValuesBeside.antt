@@ -1,4 +1,4 @@
--- Values beside links.
+-- This file describes tables whose links have a value beside their words.
 use Rattle.std.specs.Prelude.{◌≡◌, ◌<◌, true, ℕ, List, [], ◌∷◌, drop, length, refl, ⊤}
 use Rattle.std.proofs.Common.{ap, arith, sym, ◌∙◌}
 use Rattle.std.proofs.lemmas.List.{length-map}
@@ -11,23 +11,23 @@ use Rattle.ic_link_ops.specs.Links.{value_of}
 use Rattle.ic_link_ops.specs.PlainTables.{values_beside}
 use Rattle.ic_link_ops.specs.Tables.{Extent}
 
--- two lists of units are equal if they have the same length
+-- Two lists of units are equal if they have the same length, because a unit has only one value.
 pub all_alike : (s t : List ⊤) → length s ≡ length t → s ≡ t
 all_alike [] [] e = refl
 all_alike [] (y ∷ t) e = absurd (omega (arith, e))
 all_alike (x ∷ s) [] e = absurd (omega (arith, e))
 all_alike (x ∷ s) (y ∷ t) e = ap (λ rest. tt ∷ rest) (all_alike s t (omega (arith, e)))
 
--- each covered place has a value
+-- At each place that the table covers there is a value.
 pub placed_where_covered : {W V : Type 0} (es : List (Link W V)) (p : Place) → index_of p < length es → is_placed (at_indexes (values_beside es)) p ≡ true
 placed_where_covered es p covered = placed_in_range (values_beside es) p (omega (arith, covered, length-map es value_of))
 
 module _ {W V : Type 0} (printed : List V → List ℕ) (tells : (s t : List V) → length s ≡ length t → printed s ≡ printed t → s ≡ t) where
-  -- an extent with the values of these links, after the parts of its identity that come before them
+  -- The extent of a table with the links es. The identity in the extent is `names`, which can contain the numbers of the values.
   abbrev extent_beside : List ℕ → List (Link W V) → Extent
   extent_beside names es = record { places = length es; identity = names }
 
-  -- THE VALUES STAY if the extent stays, since the extent has their count and their numbers
+  -- THE VALUES STAY if the extent of the table stays, because the extent contains the count and the numbers of the values.
   same_values : (es fs : List (Link W V)) → length fs ≡ length es → printed (values_beside fs) ≡ printed (values_beside es) → at_indexes (values_beside fs) ≡ at_indexes (values_beside es)
   same_values es fs long same = ap at_indexes (tells (values_beside fs) (values_beside es) (length-map fs value_of ∙ long ∙ sym (length-map es value_of)) same)
 
@@ -35,7 +35,8 @@ module _ {W V : Type 0} (printed : List V → List ℕ) (tells : (s t : List V) 
       → at_indexes (values_beside fs) ≡ at_indexes (values_beside es)
   values_kept es fs e = same_values es fs (ap (λ (x : Extent). x.places) e) (ap (λ (x : Extent). x.identity) e)
 
-  -- the same for a lent view, where the values come after the name of its borrow
+  -- The values beside the links of a lent table stay if its extent stays. In the identity of a lent table, the numbers of the
+  -- values come after the name of its borrow.
   pub lent_kept : {name name' : ℕ} (es fs : List (Link W V)) → extent_beside (name' ∷ printed (values_beside fs)) fs ≡ extent_beside (name ∷ printed (values_beside es)) es
       → at_indexes (values_beside fs) ≡ at_indexes (values_beside es)
   lent_kept es fs e = same_values es fs (ap (λ (x : Extent). x.places) e) (ap (λ (x : Extent). drop 1 x.identity) e)

@@ -1,4 +1,4 @@
--- The laws of words that are the exclusive or of two places' words.
+-- This file proves the laws of words that are the exclusive or of the words of two places.
 use Rattle.std.proofs.Common.{◌≡◌, ℕ, Option, bit_xor, sym, ap, ◌∙◌}
 use Rattle.std.proofs.lemmas.Nat.{xor_comm}
 use lib.Bits.{xor_assoc, xor_self}
@@ -6,31 +6,32 @@ use Rattle.ic_unsafe_ref.specs.declared.place.Place.{Place}
 use Rattle.ic_unsafe_ref.specs.Places.{word_of, place_at}
 use Rattle.ic_unsafe_ref.proofs.PlaceLemmas.{place_at_word}
 
--- a word that is taken into the exclusive or twice cancels out
+-- The exclusive or of a, b and again a is b, because a cancels out.
 pub xor_back : (a b : ℕ) → bit_xor (bit_xor a b) a ≡ b
 xor_back a b = xor_comm (bit_xor a b) a ∙ sym (xor_assoc a a b) ∙ ap (λ (x : ℕ). bit_xor x b) (xor_self a)
 
--- a word is the word of one place, or of none
+-- If two places have the same word, the places are equal. A missing place has a word of its own.
 pub word_same : (a b : Option Place) → word_of a ≡ word_of b → a ≡ b
 word_same a b e = sym (place_at_word a) ∙ ap place_at e ∙ place_at_word b
 
--- the two sides can be exchanged
+-- If a word is the exclusive or of the words of a and b, it is also the exclusive or of the words of b and a.
 pub joins_symmetric : (w : ℕ) (a b : Option Place) → w ≡ bit_xor (word_of a) (word_of b) → w ≡ bit_xor (word_of b) (word_of a)
 joins_symmetric w a b j = j ∙ xor_comm (word_of a) (word_of b)
 
--- a word without one place's word is the other place's word
+-- If w is the exclusive or of the words of a and b, the exclusive or of w and the word of a is the word of b.
 pub joins_rest : (w : ℕ) (a b : Option Place) → w ≡ bit_xor (word_of a) (word_of b) → bit_xor w (word_of a) ≡ word_of b
 joins_rest w a b j = ap (λ (x : ℕ). bit_xor x (word_of a)) j ∙ xor_back (word_of a) (word_of b)
 
--- that word names the other place
+-- If w is the exclusive or of the words of a and b, the exclusive or of w and the word of a names b.
 pub joins_finds_other : (w : ℕ) (a b : Option Place) → w ≡ bit_xor (word_of a) (word_of b) → place_at (bit_xor w (word_of a)) ≡ b
 joins_finds_other w a b j = ap place_at (joins_rest w a b j) ∙ place_at_word b
 
--- one place determines the other
+-- If w is the exclusive or of the words of a and b, the word w and the place a determine the place b.
 pub joins_one_other : (w : ℕ) (a b c : Option Place) → w ≡ bit_xor (word_of a) (word_of b) → w ≡ bit_xor (word_of a) (word_of c) → b ≡ c
 joins_one_other w a b c j k = word_same b c (sym (joins_rest w a b j) ∙ joins_rest w a c k)
 
--- a word with one place in place of another
+-- If w joins the words of `old` and x by exclusive or, taking out the word of `old` and putting in the word of `new` joins `new`
+-- and x.
 pub joins_replaced : (w : ℕ) (old new x : Option Place) → w ≡ bit_xor (word_of old) (word_of x)
     → bit_xor (bit_xor w (word_of old)) (word_of new) ≡ bit_xor (word_of new) (word_of x)
 joins_replaced w old new x j =

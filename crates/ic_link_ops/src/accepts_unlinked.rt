@@ -1,4 +1,4 @@
-//! Tables that refuse to link a place only if it is linked already.
+//! This file defines the trait of tables that refuse to link a place only if the place is linked already.
 //!
 //! ```text
 //! links.acquire_link(place) // false exactly if the place is linked in this table
@@ -11,10 +11,10 @@ use std::alloc::Allocator;
 
 /// A table that links each place that it covers, unless the place is linked in it already.
 ///
-/// Plain tables are such tables, whatever the width of their words, with values or without, and so is a lent view of their links. A table
-/// of claimed links is not: it also refuses a place that another holder has claimed.
+/// Every plain table has this trait, whatever the width of its words is, with values or without. A lent plain table also has this
+/// trait. A table of claimed links does not have it, because that table also refuses a place that another holder has claimed.
 pub trait AcceptsUnlinked: LinkOps {
-    // The law: a place whose link is refused is linked.
+    // The law: if a table refuses the link of a place, the place is linked in the table.
     ghost refused_is_linked: { (old new : Self) (p : Place) → Self.Refused old new p → IsLinked Self.linked (Self.table old) p };
 }
 

@@ -4,7 +4,7 @@
 //! links.set_color(place, Color::Red);
 //! ```
 
-/// Red or black.
+/// The color of a member of a red-black tree is red or black.
 #[derive(Clone, Copy, PartialEq, Eq, Debug)]
 pub enum Color {
     /// No red member has a red child.

@@ -1,4 +1,4 @@
-//! The errors of calls that are refused.
+//! This file defines the errors of calls that are refused.
 //!
 //! ```text
 //! if let Err(refused) = list.push_back(&mut links, object) {
@@ -7,8 +7,8 @@
 //! list.push_back(&mut links, other)?; // in a function that returns an `anyhow::Result`
 //! ```
 //!
-//! Each is a `std::error::Error`, whatever the objects are, so `?` passes it on to an `anyhow::Error`. The contract of each states
-//! the text that it prints.
+//! Each error is a `std::error::Error`, whatever the type of the objects is, so `?` turns the error into an `anyhow::Error`. The
+//! contract of each error type states the text that the error prints.
 
 ghost use Rattle.std.specs.Prelude.{◌≡◌, Some, codes};
 
@@ -16,10 +16,10 @@ use ic_unsafe_ref::UnsafeRef;
 use std::{error, fmt};
 use thiserror::Error;
 
-/// The object that the caller wanted to insert is linked already. The error returns it.
+/// The object that the caller wanted to insert is linked already. The error contains the object.
 pub struct AlreadyLinked<T>(pub UnsafeRef<T>);
 
-/// It prints the place of the object.
+/// The debug text of the error contains the place of the object.
 impl<T> fmt::Debug for AlreadyLinked<T> {
     fn fmt<W: fmt::Write>(&self, f: &mut fmt::Formatter<W>) -> fmt::Result {
         f.debug_tuple("AlreadyLinked").field(&self.0).finish()
@@ -53,11 +53,11 @@ impl<T> Drop for AlreadyLinked<T> {
     }
 }
 
-/// Why nothing was replaced. The error returns the object that the caller passed.
+/// The reason why a call replaced no member. The error contains the object that the caller passed.
 pub enum ReplaceError<T> {
     /// The cursor was on no member, or there was no member at the position that the call replaces.
     Null(UnsafeRef<T>),
-    /// The object is linked already. This includes the case that it is the member itself.
+    /// The object is linked already. An object that is itself the member which the call would replace is also linked already.
     AlreadyLinked(UnsafeRef<T>),
 }
 
@@ -76,7 +76,7 @@ impl<T> ReplaceError<T> {
     }
 }
 
-/// It prints the cause, and the place of the object.
+/// The debug text of the error contains the cause and the place of the object.
 impl<T> fmt::Debug for ReplaceError<T> {
     fn fmt<W: fmt::Write>(&self, f: &mut fmt::Formatter<W>) -> fmt::Result {
         match self {
@@ -112,10 +112,10 @@ impl<T> Drop for ReplaceError<T> {
     }
 }
 
-/// Why a table could not cover more places.
+/// The reason why a table could not cover more places.
 #[derive(Clone, Copy, PartialEq, Eq, Debug, Error)]
 pub enum CoverError {
-    /// The caller requested more than 4,294,967,296 places.
+    /// The caller requested more than 4,294,967,296 places, or more than 536,870,911 places if the words have 4 bytes.
     #[error("TooManyPlaces")]
     TooManyPlaces = 1,
     /// There was no memory for the entries.

@@ -1,4 +1,4 @@
-//! A lent plain table: a view of its links, for a loop that makes many calls.
+//! A lent plain table gives access to the links that a plain table lends, for a loop that makes many calls.
 //!
 //! ```text
 //! fn pop_all(list: &mut LinkedList<Job>, links: &mut [Link]) {
@@ -16,11 +16,12 @@ use crate::link_ops::LinkOps;
 use crate::link_value::LinkValue;
 use ic_unsafe_ref::Place;
 
-/// A view of the links that a plain table lends. It is a table for as long as the links are borrowed.
+/// A table of the links that a plain table lends. The lent table exists for as long as the links are borrowed.
 ///
-/// It has the link traits that the table has. Each call over the table itself reads the address of the links; in a loop over
-/// the view no call does. When the view ends, the table has the links as the view left them. Pass the lent links to a
-/// function that contains the loop, as above, whose contract states the links that it leaves.
+/// A lent table has the same link traits as the plain table. Each call on the plain table reads the address of the links. In a
+/// loop over the lent table no call reads the address. When the borrow ends, the plain table has the links as the lent table left
+/// them. Pass the lent links to a function that contains the loop, as in the example at the top of this file. The contract of the
+/// function that contains the loop states the links that the loop leaves.
 pub struct LentTable<'a, W, V = ()> {
     pub(crate) entries: &'a mut [Link<W, V>],
 }
@@ -36,10 +37,10 @@ impl<W, V> Drop for LentTable<'_, W, V> {
 impl<'a, W, V> LentTable<'a, W, V> {
     ghost use Rattle.ic_link_ops.specs.LentTables.{IsView};
 
-    /// A view of the links that [`PlainTable::lend`](crate::PlainTable::lend) lends. O(1).
+    /// The lent table of the links that [`PlainTable::lend`](crate::PlainTable::lend) lends. O(1).
     ///
-    /// The view covers the places that its words can name: the first 536,870,911 if the words have 4 bytes, otherwise
-    /// all.
+    /// The lent table covers the places that its words can name. If the words have 4 bytes, the lent table covers the first
+    /// 536,870,911 places, and otherwise it covers all places.
     #[inline]
     pub fn new(links: &'a mut [Link<W, V>]) -> LentTable<'a, W, V>
         ensures { IsView links.entry result }
@@ -53,7 +54,7 @@ impl<W: Words, V: LinkValue> LentTable<'_, W, V> {
     ghost use Rattle.ic_link_ops.specs.PlainTables.{linked_by};
     ghost use Rattle.ic_link_ops.specs.LentTables.{lent_entries, lent_table};
 
-    /// The number of places that are covered. A place is covered if its index is smaller than this number. O(1).
+    /// The number of places that the table covers. A place is covered if its index is smaller than this number. O(1).
     #[inline]
     #[tactic(auto, using(crate::proofs::WidthLemmas::nameable_count, crate::proofs::WidthLemmas::nameable_fits, crate::proofs::WidthLemmas::nameable_read))]
     pub fn covers(&self) -> usize
@@ -62,7 +63,7 @@ impl<W: Words, V: LinkValue> LentTable<'_, W, V> {
         W::count_nameable(self.entries.len())
     }
 
-    // The index of the link of a place.
+    // The index, in the lent slice, of the link of the place.
     #[inline]
     #[tactic(auto, using(crate::proofs::WidthLemmas::nameable_fits))]
     pub(crate) fn slot(&self, place: Place) -> usize
@@ -73,7 +74,7 @@ impl<W: Words, V: LinkValue> LentTable<'_, W, V> {
         place.index()
     }
 
-    /// The link of `place`. It requires that the place is covered. O(1).
+    /// The link of `place`. The call requires that the table covers `place`. O(1).
     #[inline]
     #[tactic(auto, using(crate::proofs::WidthLemmas::nameable_count, crate::proofs::WidthLemmas::nameable_fits, crate::proofs::WidthLemmas::nameable_read))]
     pub fn link(&self, place: Place) -> &Link<W, V>
@@ -84,7 +85,7 @@ impl<W: Words, V: LinkValue> LentTable<'_, W, V> {
         &entries[place.index()]
     }
 
-    /// Whether `place` is linked. It requires that the place is covered. O(1).
+    /// Whether `place` is linked. The call requires that the table covers `place`. O(1).
     #[inline]
     pub fn is_linked(&self, place: Place) -> bool
         requires covered { IsCovered (lent_table W.width W.unlinked V.initial V.printed self.now) place }

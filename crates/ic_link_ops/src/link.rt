@@ -1,4 +1,4 @@
-//! Links: what a table stores at a place.
+//! A link is what a table stores at a place.
 //!
 //! ```text
 //! let link = links.link(place); // &Link
@@ -15,63 +15,64 @@ use ic_unsafe_ref::Place;
 use std::alloc::AllocError;
 use std::fmt;
 
-/// The words of a link. They store whether its place is linked, and what the traits below read.
+/// The words of a link. The words store whether the link's place is linked, and the places and the color that the traits
+/// `NextWord`, `PrevPlace` and `NodeWords` read.
 pub trait Words: Drop {
     // The words of a place that no call has linked.
     ghost unlinked: { Self };
 
-    // Whether the words are those of a linked place.
+    // `is_linked` says whether the words belong to a linked place.
     ghost is_linked: { Self → Bool };
 
-    // The width of a word that names a place.
+    // The width of each word that names a place: 8 bytes or 4 bytes.
     ghost width: { Width };
 
-    /// The words that a table stores for a place when it first covers it: those of an unlinked place.
+    /// The words that a table stores for a place which it covers for the first time. The place is unlinked.
     fn unlinked() -> Self
         ensures { result ≡ unlinked };
 
-    /// Whether the place of these words is linked. One comparison.
+    /// Whether the place of these words is linked. The call makes one comparison.
     fn is_linked(&self) -> bool
         ensures { result ≡ is_linked self.now };
 
-    /// The greatest number of places that a table of such words can cover.
+    /// The greatest number of places that a table with words of this type can cover.
     fn most_places() -> usize
         ensures { result ≡ most_places width };
 
-    /// The number of places, out of the first `places`, that the words can name.
+    /// The number of places, out of the first `places` places, that the words can name.
     fn count_nameable(places: usize) -> usize
         ensures { result ≡ count_nameable width places };
 
-    /// Marks the place of these words as linked. The neighbors that the words name then are unspecified.
+    /// Marks the place of these words as linked. The neighbors that the words name afterwards are unspecified.
     fn link(&mut self)
         ensures { is_linked self.new ≡ true };
 
-    /// Marks the place of these words as unlinked. The neighbors that the words name then are unspecified.
+    /// Marks the place of these words as unlinked. The neighbors that the words name afterwards are unspecified.
     fn unlink(&mut self)
         ensures { is_linked self.new ≡ false };
 
-    // The law: a new link is unlinked.
+    // The law: the words of a new link say that its place is unlinked.
     ghost starts_unlinked: { is_linked unlinked ≡ false };
 }
 
-/// Words of which one, the next word, names the next place of a singly or doubly linked list, or both neighbors of an
-/// XOR list.
+/// Words of a link with a next word. The next word names the next place of a singly or doubly linked list, or both neighbors in
+/// an XOR list.
 pub trait NextWord: Words {
-    // The next word.
+    // The number that the next word stores.
     ghost next_word: { Self → ℕ };
 
-    // All else is as it was.
+    // Everything that the words store, except the next word, is unchanged.
     ghost KeepsOthers: { Self → Self → Type 0 };
 
     ghost use Rattle.ic_link_ops.specs.Words.{bits_of};
 
-    /// The next word. It requires that the place is linked.
+    /// The next word. The call requires that the place is linked.
     fn next_word(&self) -> Word
         requires linked { Self.is_linked self.now ≡ true }
         ensures { bits_of result ≡ next_word self.now };
 
-    /// Replaces the next word. It requires that the place is linked, and that the words have room for the new one. The place stays
-    /// linked.
+    /// Replaces the next word. The call requires that the place is linked, and that the words have room for the new word. The
+    /// place stays linked.
     fn set_next_word(&mut self, word: Word)
         requires linked { Self.is_linked self.old ≡ true }
         requires kept { CanKeep Self.width (bits_of word) }
@@ -83,29 +84,31 @@ pub trait NextWord: Words {
     ghost next_word_kept: { (w : Self) → Self.is_linked w ≡ true → CanKeep Self.width (next_word w) };
 }
 
-/// Words that also name the previous place.
+/// Words of a link that also name the previous place.
 pub trait PrevPlace: NextWord {
     // The previous place, or none.
     ghost prev: { Self → Option Place };
 
-    /// The previous place, `None` at the front. If the place is unlinked, it is the value that was stored last.
+    /// The previous place, `None` at the front. If the place of the words is unlinked, the result is the previous place that was
+    /// stored last.
     fn prev(&self) -> Option<Place>
         ensures { result ≡ prev self.now };
 
-    /// Replaces the previous place, and leaves the next word. It requires that the words have room for the name of the place.
+    /// Replaces the previous place, and keeps the next word. The call requires that the words have room for the name of the new
+    /// previous place.
     fn set_prev(&mut self, place: Option<Place>)
         requires named { IsNameable (HasRoom Self.width) place }
         ensures set { prev self.new ≡ place }
         ensures linked { Self.is_linked self.new ≡ Self.is_linked self.old }
         ensures next_word { Self.next_word self.new ≡ Self.next_word self.old };
 
-    // The law: a write of the next word leaves the previous place as it was.
+    // The law: a write of the next word does not change the previous place.
     ghost keeps_prev: { (old new : Self) → Self.KeepsOthers old new → prev new ≡ prev old };
 }
 
 /// What a table stores at a place: whether the place is linked, its neighbors, and a value beside them if the table has values.
 ///
-/// A copy of a link belongs to no place, so it is unlinked, and has the initial value.
+/// A copy of a link belongs to no place. The copy is unlinked and has the initial value.
 #[derive(Drop)]
 pub struct Link<W, V = ()> {
     pub(crate) words: W,
@@ -139,7 +142,7 @@ impl<W: NextWord, V> Link<W, V> {
     ghost use Rattle.ic_link_ops.specs.Links.{words_of, value_of};
     ghost use Rattle.ic_link_ops.specs.Words.{bits_of};
 
-    // Marks the link as linked, with this next word.
+    // Marks the link's place as linked and stores `word` as its next word. The value stays.
     #[inline]
     pub(crate) fn link_to(&mut self, word: Word)
         requires kept { CanKeep W.width (bits_of word) }
@@ -170,7 +173,7 @@ impl<W: Words, V: LinkValue> Clone for Link<W, V> {
 
     ghost is_infallible = { λ _. ⊤ };
 
-    /// An unlinked link. It never fails.
+    /// Returns an unlinked link, and never fails.
     fn clone(&self) -> Result<Self, AllocError> {
         Ok(Link::new())
     }

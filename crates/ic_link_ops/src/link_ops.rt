@@ -1,4 +1,4 @@
-//! What every table of links can do.
+//! This file defines what every table of links can do, whatever the kind of collection.
 
 ghost use Rattle.std.specs.Prelude.{◌≡◌, Bool, List, [], ◌∷◌, ◌++◌};
 ghost use Rattle.std.specs.Bool.{OnTrue, OnFalse};
@@ -11,10 +11,11 @@ use ic_unsafe_ref::Place;
 /// Collections use only this trait and the trait of their kind. A plain table refuses a link exactly if the place is
 /// linked in it. A table of claimed links also refuses a place that another holder has claimed.
 ///
-/// A setter of one kind of collection changes one entry, and its contract states only what that kind then reads there. It states nothing
-/// about what other kinds read there: kinds share words, so setting a next place also changes the word that an XOR list reads. No
-/// collection depends on this, since a linked place is a member of one collection of the field, and so of one kind. If you call setters
-/// of two kinds at one place, set all that you want to read again.
+/// A setter belongs to one kind of collection and changes one entry. The contract of a setter states only what its own kind reads
+/// in the entry afterwards. The contract states nothing about what other kinds read in the entry, because kinds share words. For
+/// example, a call that sets a next place also changes the word that an XOR list reads. No collection depends on this, because a
+/// linked place is a member of one collection of the table, and that collection has one kind. If you call setters of two kinds at
+/// one place, set all that you want to read again.
 ///
 /// The plain tables are `linked_list::LinkOps`, `singly_linked_list::LinkOps`, `xor_linked_list::LinkOps` and `rbtree::LinkOps`.
 ///
@@ -28,38 +29,41 @@ pub trait LinkOps {
     /// All that the table stores at a place.
     type Entry;
 
-    // How many places are covered, and the entry of each.
+    // The table at this moment: the number of places that it covers, and the entry of each place.
     ghost table: { Self → Table Self.Entry };
 
-    // Whether an entry is that of a linked place.
+    // `linked` says whether an entry belongs to a linked place.
     ghost linked: { Self.Entry → Bool };
 
-    // The words of such a table have room for the name of this place, whatever they contain now.
+    // The words of a table of this type have room for the name of the place. Whether the words have room does not depend on what
+    // they contain now.
     ghost CanName: { Place → Type 0 };
 
-    // THE STEPS: from the one state to the other the table made these steps, in this order, and no other.
+    // THE STEPS: between the first state and the second state, the table made the steps in the list, in this order, and no other
+    // step.
     ghost Trace: { Self → Self → List LinkStep → Type 0 };
 
-    // The link was refused, and no entry has changed.
+    // The link of the place was refused, and no entry of the table has changed.
     ghost Refused: { Self → Self → Place → Type 0 };
 
-    /// Links `place` and returns true, or returns false if the link is refused.
+    /// Links `place` and returns true, or returns false if the table refuses the link.
     ///
-    /// It requires that the place is covered. O(1).
+    /// The call requires that the table covers `place`. O(1).
     fn acquire_link(&mut self, place: Place) -> bool
         requires covered { IsCovered (table self.old) place }
         ensures acquired { OnTrue result (Trace self.old self.new (acquires place ∷ [])) }
         ensures refused { OnFalse result (Refused self.old self.new place) }
         ensures frame { ChangesOnly (table self.old) (table self.new) place };
 
-    /// Unlinks `place`. It requires that the place is linked. O(1).
+    /// Unlinks `place`. The call requires that `place` is linked. O(1).
     fn release_link(&mut self, place: Place)
         requires linked { IsLinked linked (table self.old) place }
         ensures released { Trace self.old self.new (releases place ∷ []) }
         ensures frame { ChangesOnly (table self.old) (table self.new) place };
 
-    // The laws: only covered places are linked, and the words have room for their names; a table that stays the same has taken no step; two
-    // lists of steps, one after the other, are one list of steps; the steps determine which places are linked; a refusal changes no entry.
+    // The laws: Only covered places are linked. The words have room for the name of every covered place. A table that stays the
+    // same has made no step. Two lists of steps, one after the other, are one list of steps. The steps determine which places are
+    // linked. A refusal changes no entry.
     ghost linked_is_covered: { (t : Self) (p : Place) → IsLinked linked (table t) p → IsCovered (table t) p };
 
     ghost covered_has_name: { (t : Self) (p : Place) → IsCovered (table t) p → CanName p };

@@ -1,4 +1,4 @@
-//! Values that a table stores beside its links.
+//! A table can store a value beside each of its links.
 //!
 //! ```text
 //! let mut links: rbtree::LinkOpsWith<u64> = PlainTable::new(rt.alloc());
@@ -18,23 +18,25 @@ use crate::table::PlainTable;
 use ic_unsafe_ref::{Place, Values};
 use std::alloc::Allocator;
 
-/// The value beside each link of a table: nothing, which is `()`, a `u64`, a `u32`, or a type of your own.
+/// The type of the value beside each link of a table. The type can be `()`, which stores nothing, `u64`, `u32`, or a type of your
+/// own.
 pub trait LinkValue: Drop {
-    // The value beside a link until one is set.
+    // The value beside a link before a call sets a value.
     ghost initial: { Self };
 
-    // The values of a table as numbers. They are part of the table's extent, so no call of a collection changes them.
+    // The values of a table as numbers. The numbers are part of the table's extent, so no call of a collection changes the
+    // values.
     ghost printed: { List Self → List ℕ };
 
-    /// The value beside a link until one is set.
+    /// The value beside a link before a call sets a value.
     fn initial() -> Self
         ensures { result ≡ initial };
 
-    // The law: the numbers determine the values.
+    // The law: the count and the numbers of the values determine the values.
     ghost tells: { (s t : List Self) → length s ≡ length t → printed s ≡ printed t → s ≡ t };
 }
 
-/// Nothing beside the links. It takes no memory.
+/// A value of the type `()` stores nothing beside the links and takes no memory.
 impl LinkValue for () {
     ghost use Rattle.ic_link_ops.specs.ValuesBeside.{all_alike};
 
@@ -47,7 +49,7 @@ impl LinkValue for () {
     ghost tells = { λ s t e _. all_alike s t e };
 }
 
-/// A number beside each link, for example a key. It is 0 at first.
+/// A number of 8 bytes is stored beside each link, for example a key. The number is 0 at first.
 impl LinkValue for u64 {
     ghost initial = { 0 };
 
@@ -60,7 +62,7 @@ impl LinkValue for u64 {
     ghost tells = { λ s t _ e. e };
 }
 
-/// A number of 4 bytes beside each link. It is 0 at first.
+/// A number of 4 bytes is stored beside each link. The number is 0 at first.
 impl LinkValue for u32 {
     ghost initial = { 0 };
 
@@ -73,17 +75,18 @@ impl LinkValue for u32 {
     ghost tells = { λ s t _ e. e };
 }
 
-/// A table that stores a value beside each link. A search that compares a member reads one entry, which has both the
-/// value and the links.
+/// A table that stores a value beside each link. A search that compares a member reads one entry, which has the value and the
+/// link.
 ///
-/// Each covered place has a value, and no call of a collection changes one.
+/// Each covered place has a value, and no call of a collection changes a value.
 pub trait LinkValues<V>: LinkOps + Values<V> {
-    // Two entries have the same link.
+    // Two entries have the same link words, and their values may differ.
     ghost LinksAlike: { Self.Entry → Self.Entry → Type 0 };
 
-    /// Sets the value beside the link of `place`, linked or not. It requires that the place is covered. O(1).
+    /// Sets the value beside the link of `place`, whether `place` is linked or not. The call requires that the table covers
+    /// `place`. O(1).
     ///
-    /// The links stay. A tree finds its members by their keys, so set the key of a place only while it is not a member.
+    /// The link words stay. A tree finds its members by their keys, so set the key of a place only if the place is not a member.
     fn set_value(&mut self, place: Place, value: V)
         requires covered { IsCovered (Self.table self.old) place }
         ensures value { Self.values self.new ≡ with_object (Self.values self.old) place value }
@@ -92,7 +95,7 @@ pub trait LinkValues<V>: LinkOps + Values<V> {
         ensures covers { (Self.table self.new).extent.places ≡ (Self.table self.old).extent.places }
         ensures trace_stays { Self.Trace self.old self.new [] };
 
-    // The laws: each covered place has a value, and the values are part of the extent.
+    // The laws: Each covered place has a value. The values stay if the extent of the table stays.
     ghost covered_has_value: { (t : Self) (p : Place) → IsCovered (Self.table t) p → is_placed (Self.values t) p ≡ true };
 
     ghost values_stay: { (old new : Self) → (Self.table new).extent ≡ (Self.table old).extent → Self.values new ≡ Self.values old };

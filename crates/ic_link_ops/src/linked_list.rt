@@ -1,4 +1,4 @@
-//! The links of doubly linked lists: the trait that a list requires of its table, and the plain table.
+//! This file defines the links of doubly linked lists: the trait that a list requires of its table of links, and the plain table.
 //!
 //! ```text
 //! let mut links = LinkOps::new(rt.alloc());
@@ -23,22 +23,22 @@ use crate::word::Word;
 use ic_unsafe_ref::Place;
 use std::alloc::{Allocator, Global};
 
-/// A table for doubly linked lists: each entry names the place before and the place after its own.
+/// A table for doubly linked lists. The entry of each place names the place before it and the place after it.
 pub trait LinkedListOps: link_ops::LinkOps {
-    // What an entry states: whether its place is linked, and between which places.
+    // The parts of an entry: whether its place is linked, and which places are before and after it.
     ghost neighbors: { Self.Entry → Neighbors };
 
-    /// The place after `place`. It requires that the place is linked. O(1).
+    /// The place after `place`. The call requires that `place` is linked. O(1).
     fn next(&self, place: Place) -> Option<Place>
         requires linked { IsLinked Self.linked (Self.table self.now) place }
         ensures { result ≡ (neighbors_at neighbors (Self.table self.now) place).next };
 
-    /// The place before `place`. It requires that the place is linked. O(1).
+    /// The place before `place`. The call requires that `place` is linked. O(1).
     fn prev(&self, place: Place) -> Option<Place>
         requires linked { IsLinked Self.linked (Self.table self.now) place }
         ensures { result ≡ (neighbors_at neighbors (Self.table self.now) place).prev };
 
-    /// Sets the place after `place`. It requires that the place is linked, and that the table can name the new
+    /// Sets the place after `place`. The call requires that `place` is linked, and that the table's words have room for the new
     /// neighbor. O(1).
     fn set_next(&mut self, place: Place, next: Option<Place>)
         requires linked { IsLinked Self.linked (Self.table self.old) place }
@@ -48,7 +48,7 @@ pub trait LinkedListOps: link_ops::LinkOps {
         ensures frame { ChangesOnly (Self.table self.old) (Self.table self.new) place }
         ensures trace_stays { Self.Trace self.old self.new [] };
 
-    /// Sets the place before `place`. It requires that the place is linked, and that the table can name the new
+    /// Sets the place before `place`. The call requires that `place` is linked, and that the table's words have room for the new
     /// neighbor. O(1).
     fn set_prev(&mut self, place: Place, prev: Option<Place>)
         requires linked { IsLinked Self.linked (Self.table self.old) place }
@@ -58,10 +58,10 @@ pub trait LinkedListOps: link_ops::LinkOps {
         ensures frame { ChangesOnly (Self.table self.old) (Self.table self.new) place }
         ensures trace_stays { Self.Trace self.old self.new [] };
 
-    /// Links `place` between two others and returns true, or returns false if the link is refused. It requires that the place is covered,
-    /// and that the table can name the others. O(1).
+    /// Links `place` between `prev` and `next` and returns true, or returns false if the link is refused. The call requires that
+    /// `place` is covered, and that the table's words have room for `prev` and `next`. O(1).
     ///
-    /// It does what `acquire_link` and both setters do, in one call, so that a table can write each word once.
+    /// The call does what `acquire_link`, `set_prev` and `set_next` do, so that a table can write each word once.
     #[inline]
     fn link_between(&mut self, place: Place, prev: Option<Place>, next: Option<Place>) -> bool
         requires covered { IsCovered (Self.table self.old) place }
@@ -80,34 +80,34 @@ pub trait LinkedListOps: link_ops::LinkOps {
         true
     }
 
-    // The law: both traits agree on whether a place is linked.
+    // The law: the traits `LinkedListOps` and `LinkOps` agree on whether a place is linked.
     ghost linked_alike: { (e : Self.Entry) → (neighbors e).linked ≡ Self.linked e };
 }
 
-/// The words of a doubly linked list's link: the next place, or the mark 1 while the place is unlinked, and the
-/// previous place.
+/// The words of a doubly linked list's link. The first word names the next place, or is the mark 1 if the place is unlinked. The
+/// second word names the previous place.
 ///
-/// An XOR list uses the first word.
+/// An XOR list uses only the first word.
 #[derive(Drop)]
 pub struct TwoWords {
     next: MarkedWord,
     prev: PlaceWord,
 }
 
-/// What the table stores at a place: two words.
+/// What the plain table of doubly linked lists stores at a place: two words.
 pub type Link = link::Link<TwoWords>;
 
-/// The plain table for doubly linked lists, two words for each place. Singly linked and XOR lists can use it as well.
+/// The plain table for doubly linked lists, with two words for each place. Singly linked and XOR lists can use it as well.
 pub type LinkOps<A = Global> = PlainTable<TwoWords, A>;
 
 /// The plain table for doubly linked lists with a value beside each link.
 pub type LinkOpsWith<V, A = Global> = PlainTable<TwoWords, A, V>;
 
-/// What the table of narrow links stores at a place, in half the bytes of a `Link`.
+/// What a table with words of 4 bytes stores at a place. A narrow link has half the bytes of a `Link`.
 pub type NarrowLink = link::Link<TwoNarrowWords>;
 
-/// The plain table for doubly linked lists with words of 4 bytes: its links are half as large, and it has room for
-/// 536,870,911 places.
+/// The plain table for doubly linked lists with words of 4 bytes. The links of this table are half as large as those of
+/// `LinkOps`, and the table has room for 536,870,911 places.
 pub type NarrowLinkOps<A = Global> = PlainTable<TwoNarrowWords, A>;
 
 /// The plain table of narrow links with a value beside each link.

@@ -1,4 +1,4 @@
-//! The word that also marks an unlinked place.
+//! This file defines a word of a link that can also mark an unlinked place.
 //!
 //! ```text
 //! MarkedWord::of(word).is_word() // true
@@ -40,7 +40,7 @@ impl MarkedWord {
         MarkedWord { bits: word.bits }
     }
 
-    /// Whether this is the word of a linked place, and not the mark. One comparison. O(1).
+    /// Whether the word is that of a linked place, and not the mark. The call makes one comparison. O(1).
     #[inline]
     pub fn is_word(self) -> bool
         ensures { result ≡ is_word self }
@@ -48,7 +48,7 @@ impl MarkedWord {
         self.bits != MarkedWord::MARK
     }
 
-    /// The word that is stored. It requires that this is a word, and not the mark. O(1).
+    /// The word that is stored. The call requires that a word is stored, and not the mark. O(1).
     #[inline]
     pub fn word(self) -> Word
         requires word { is_word self ≡ true }
@@ -57,7 +57,7 @@ impl MarkedWord {
         Word { bits: self.bits }
     }
 
-    /// The number that the text of an entry prints: that of the [`Word`], or 1 for the mark. O(1).
+    /// The number that is stored: the number of a [`Word`], or 1 for the mark. O(1).
     #[inline]
     pub fn bits(self) -> u64
         ensures { result ≡ marked_bits_of self }

@@ -1,4 +1,4 @@
-//! A place or none, in 4 bytes.
+//! A place or none is stored in 4 bytes.
 //!
 //! ```text
 //! NarrowPlaceWord::of(Some(place)).get() // Some(place)
@@ -13,7 +13,7 @@ use std::marker::Model;
 
 /// A place or none, stored as the place's word, `8 * (index + 1)`, or 0.
 ///
-/// In contracts it is an `Option<Place>`.
+/// In contracts the word is an `Option<Place>`.
 #[derive(Drop)]
 pub struct NarrowPlaceWord {
     bits: u32,
@@ -31,7 +31,8 @@ impl Model for NarrowPlaceWord {
 }
 
 impl NarrowPlaceWord {
-    /// The word of the place. It requires that 4 bytes have room for the word: the index has to be below 536,870,911. O(1).
+    /// The word of the place, or the word 0 for none. The call requires that 4 bytes have room for the word: the index of the
+    /// place has to be below 536,870,911. O(1).
     #[inline]
     #[tactic(auto, using(ic_unsafe_ref::proofs::PlaceLemmas::place_at_word, crate::proofs::WidthLemmas::word_kept))]
     pub fn of(place: Option<Place>) -> NarrowPlaceWord

@@ -1,4 +1,4 @@
-//! The word of a narrow tree link that stores the parent, the color and whether the place is linked.
+//! This file defines the word of 4 bytes of a tree's link that stores the parent, the color and whether the place is linked.
 //!
 //! ```text
 //! let mut word = NarrowTreeWord::linked(); // black, with no parent: 3
@@ -14,9 +14,9 @@ use crate::color::Color;
 use ic_unsafe_ref::Place;
 use std::marker::Model;
 
-/// It is stored as the parent's word plus `2 * linked + black`. The word of no parent is 0, and true counts as 1.
+/// The word is stored as the parent's word plus `2 * linked + black`. The word of no parent is 0, and true counts as 1.
 ///
-/// Contracts see the word as its parts, like those of a [`TreeWord`](crate::TreeWord).
+/// Contracts describe the word by its parts, like the parts of a [`TreeWord`](crate::TreeWord).
 #[derive(Drop)]
 pub struct NarrowTreeWord {
     bits: u32,
@@ -52,7 +52,7 @@ impl NarrowTreeWord {
         NarrowTreeWord { bits: 3 }
     }
 
-    /// The word of a linked place with this parent and this color. It requires that the word has room for the parent. O(1).
+    /// The word of a linked place with this parent and this color. The call requires that the word has room for the parent. O(1).
     #[inline]
     pub fn below(parent: Option<Place>, color: Color) -> NarrowTreeWord
         requires named { IsNameable (HasRoom narrow) parent }
@@ -78,7 +78,7 @@ impl NarrowTreeWord {
         Place::to_word(parent) as u32
     }
 
-    /// Whether the place is linked: the second bit. O(1).
+    /// Reads from the second-lowest bit whether the place is linked. O(1).
     #[inline]
     pub fn is_linked(&self) -> bool
         ensures { result ≡ self.now.linked }
@@ -86,7 +86,7 @@ impl NarrowTreeWord {
         self.bits / 2 % 2 == 1
     }
 
-    /// The parent, `None` at the root: all but the three lowest bits. O(1).
+    /// The parent, or `None` at the root. All bits except the three lowest store the parent. O(1).
     #[inline]
     pub fn parent(&self) -> Option<Place>
         ensures { result ≡ self.now.parent }
@@ -94,7 +94,7 @@ impl NarrowTreeWord {
         Place::from_word(u64::from(self.bits / 8 * 8))
     }
 
-    /// The color: the lowest bit, 1 for black. O(1).
+    /// The color. The lowest bit stores the color, and is 1 for black. O(1).
     #[inline]
     pub fn color(&self) -> Color
         ensures { result ≡ self.now.color }
@@ -106,7 +106,7 @@ impl NarrowTreeWord {
         }
     }
 
-    /// Replaces the parent, and leaves the color and whether the place is linked. It requires that the word has room for the
+    /// Replaces the parent, and keeps the color and whether the place is linked. The call requires that the word has room for the
     /// parent. O(1).
     #[inline]
     #[tactic(auto, using(crate::proofs::TreeWordLemmas::parent_set))]
@@ -117,7 +117,7 @@ impl NarrowTreeWord {
         self.bits = NarrowTreeWord::kept(parent) + self.bits % 8;
     }
 
-    /// Replaces the color, and leaves the parent and whether the place is linked. O(1).
+    /// Replaces the color, and keeps the parent and whether the place is linked. O(1).
     #[inline]
     #[tactic(auto, using(crate::proofs::TreeWordLemmas::color_set))]
     pub fn set_color(&mut self, color: Color)

@@ -1,6 +1,8 @@
-//! The word of 4 bytes that narrow links consist of, and the word that also marks an unlinked place.
+//! This file defines the word of 4 bytes of which narrow links consist, and the word of 4 bytes that can also mark an unlinked
+//! place.
 //!
-//! It is the [`Word`] itself in 4 bytes, so no read and no write shifts it. It names places with an index below 536,870,911.
+//! A narrow word stores the number of a [`Word`] in 4 bytes, so no read and no write shifts the number. A narrow word can name a
+//! place whose index is below 536,870,911.
 //!
 //! ```text
 //! let narrow = NarrowWord::of(Word::of(Some(place))); // 4 bytes; the place has an index below 536,870,911
@@ -23,8 +25,8 @@ impl NarrowWord {
     ghost use Rattle.ic_link_ops.specs.Words.{bits_of};
     ghost use Rattle.ic_link_ops.specs.NarrowWords.{narrow_bits_of, no_narrow_word};
 
-    /// The number of places that a narrow word can name. The word `8 * (index + 1)` of each, and the exclusive or of
-    /// two such words, is below 2^32.
+    /// The number of places that a narrow word can name. The word `8 * (index + 1)` of each place, and the exclusive or of two
+    /// such words, is below 2^32.
     pub const PLACES: usize = 536_870_911;
 
     /// The word for no place: 0. O(1).
@@ -35,7 +37,7 @@ impl NarrowWord {
         NarrowWord { bits: 0 }
     }
 
-    /// The word in 4 bytes. It requires that the word is below 2^32. O(1).
+    /// Stores `word` in 4 bytes. The call requires that `word` is below 2^32. O(1).
     #[inline]
     pub fn of(word: Word) -> NarrowWord
         requires kept { CanKeep narrow (bits_of word) }
@@ -80,7 +82,7 @@ impl NarrowMarkedWord {
         }
     }
 
-    /// The word of a linked place. It requires that the word is below 2^32. O(1).
+    /// Stores the word of a linked place. The call requires that `word` is below 2^32. O(1).
     #[inline]
     pub fn of(word: Word) -> NarrowMarkedWord
         requires kept { CanKeep narrow (bits_of word) }
@@ -92,7 +94,7 @@ impl NarrowMarkedWord {
         }
     }
 
-    /// Whether this is the word of a linked place, and not the mark. One comparison. O(1).
+    /// Whether the word is that of a linked place, and not the mark. The call makes one comparison. O(1).
     #[inline]
     pub fn is_word(self) -> bool
         ensures { result ≡ is_narrow_word self }
@@ -100,7 +102,7 @@ impl NarrowMarkedWord {
         self.bits != NarrowMarkedWord::MARK
     }
 
-    /// The word that is stored. It requires that this is a word, and not the mark. O(1).
+    /// The word that is stored. The call requires that a word is stored, and not the mark. O(1).
     #[inline]
     pub fn word(self) -> Word
         requires word { is_narrow_word self ≡ true }

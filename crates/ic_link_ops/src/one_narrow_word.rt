@@ -1,4 +1,4 @@
-//! Links of one word of 4 bytes, for singly linked and for XOR lists.
+//! This file defines links of one word of 4 bytes, for singly linked lists and for XOR lists.
 
 ghost use Rattle.std.specs.Prelude.{◌≡◌};
 
@@ -8,8 +8,7 @@ use crate::word::Word;
 use std::cmp::min;
 use std::marker::PhantomData;
 
-/// One word of 4 bytes for the neighbors, or the mark while the place is unlinked. The type parameter `K` is the kind
-/// of list.
+/// One word of 4 bytes for the neighbors, or the mark 1 if the place is unlinked. The type parameter `K` is the kind of list.
 #[derive(Drop)]
 pub struct OneNarrowWord<K> {
     word: NarrowMarkedWord,

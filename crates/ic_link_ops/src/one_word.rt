@@ -1,4 +1,4 @@
-//! Links of one word, for singly linked and for XOR lists.
+//! This file defines links of one word, for singly linked lists and for XOR lists.
 //!
 //! ```text
 //! xor_linked_list::Link::new().word() // 1: its place is unlinked
@@ -12,7 +12,7 @@ use crate::word::Word;
 use ic_unsafe_ref::Place;
 use std::marker::PhantomData;
 
-/// One word for the neighbors, or the mark 1 while the place is unlinked. The type parameter `K` is the kind of list.
+/// One word for the neighbors, or the mark 1 if the place is unlinked. The type parameter `K` is the kind of list.
 #[derive(Drop)]
 pub struct OneWord<K> {
     pub(crate) word: MarkedWord,

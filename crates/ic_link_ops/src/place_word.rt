@@ -1,4 +1,4 @@
-//! A place or none, as a word: how heads of collections store their ends.
+//! A place or none is stored in one word. The heads of collections store each of their ends in one word.
 //!
 //! ```text
 //! PlaceWord::of(Some(place)).get() // Some(place)
@@ -9,9 +9,9 @@ ghost use Rattle.std.specs.Prelude.{◌≡◌};
 use ic_unsafe_ref::Place;
 use std::marker::Model;
 
-/// A place or none in one word. Heads of collections store their ends so.
+/// A place or none in one word. The heads of collections store each of their ends in one word.
 ///
-/// In contracts it is an `Option<Place>`.
+/// In contracts the word is an `Option<Place>`.
 #[derive(Drop)]
 pub struct PlaceWord {
     word: u64,
@@ -30,7 +30,8 @@ impl Model for PlaceWord {
 }
 
 impl PlaceWord {
-    /// The end of a collection whose member there is `place`, `None` for an empty collection. O(1).
+    /// The word for an end of a collection. The outermost member at this end is `place`, or `None` if the collection is empty.
+    /// O(1).
     #[inline]
     #[tactic(auto, using(ic_unsafe_ref::proofs::PlaceLemmas::place_at_word))]
     pub fn of(place: Option<Place>) -> PlaceWord
@@ -41,7 +42,8 @@ impl PlaceWord {
         }
     }
 
-    /// The member at this end, `None` in an empty collection. One test against 0 and a shift. O(1).
+    /// The member at this end of the collection, or `None` if the collection is empty. The call makes one test against 0 and one
+    /// shift. O(1).
     #[inline]
     pub fn get(&self) -> Option<Place>
         ensures { result ≡ self.now }

@@ -1,4 +1,4 @@
-//! The links of red-black trees: the trait that a tree requires of its table, and the plain table.
+//! This file defines the links of red-black trees: the trait that a tree requires of its table of links, and the plain table.
 //!
 //! ```text
 //! let mut links = LinkOps::new(rt.alloc());
@@ -24,34 +24,35 @@ use crate::word::Word;
 use ic_unsafe_ref::Place;
 use std::alloc::{Allocator, Global};
 
-/// A table for red-black trees: each entry names two children and a parent, and has a color.
+/// A table for red-black trees. Each entry names two children and a parent, and has a color.
 ///
-/// A place can be linked or unlinked whatever its color and its parent are.
+/// A place can be linked or unlinked, whatever its color and its parent are.
 pub trait RBTreeOps: link_ops::LinkOps {
-    // What an entry states: whether its place is linked, its children, its parent and its color.
+    // The parts of an entry: whether its place is linked, its children, its parent and its color.
     ghost node: { Self.Entry → Node };
 
-    /// The left child of `place`. It requires that the place is linked. O(1).
+    /// The left child of `place`. The call requires that `place` is linked. O(1).
     fn left(&self, place: Place) -> Option<Place>
         requires linked { IsLinked Self.linked (Self.table self.now) place }
         ensures { result ≡ (node_at node (Self.table self.now) place).left };
 
-    /// The right child of `place`. It requires that the place is linked. O(1).
+    /// The right child of `place`. The call requires that `place` is linked. O(1).
     fn right(&self, place: Place) -> Option<Place>
         requires linked { IsLinked Self.linked (Self.table self.now) place }
         ensures { result ≡ (node_at node (Self.table self.now) place).right };
 
-    /// The parent of `place`. It requires that the place is linked. O(1).
+    /// The parent of `place`. The call requires that `place` is linked. O(1).
     fn parent(&self, place: Place) -> Option<Place>
         requires linked { IsLinked Self.linked (Self.table self.now) place }
         ensures { result ≡ (node_at node (Self.table self.now) place).parent };
 
-    /// The color of `place`. It requires that the place is linked. O(1).
+    /// The color of `place`. The call requires that `place` is linked. O(1).
     fn color(&self, place: Place) -> Color
         requires linked { IsLinked Self.linked (Self.table self.now) place }
         ensures { result ≡ (node_at node (Self.table self.now) place).color };
 
-    /// Sets the left child of `place`. It requires that the place is linked, and that the table can name the child. O(1).
+    /// Sets the left child of `place`. The call requires that `place` is linked, and that the table's words have room for the
+    /// child. O(1).
     fn set_left(&mut self, place: Place, left: Option<Place>)
         requires linked { IsLinked Self.linked (Self.table self.old) place }
         requires left { IsNameable Self.CanName left }
@@ -60,7 +61,8 @@ pub trait RBTreeOps: link_ops::LinkOps {
         ensures frame { ChangesOnly (Self.table self.old) (Self.table self.new) place }
         ensures trace_stays { Self.Trace self.old self.new [] };
 
-    /// Sets the right child of `place`. It requires that the place is linked, and that the table can name the child. O(1).
+    /// Sets the right child of `place`. The call requires that `place` is linked, and that the table's words have room for the
+    /// child. O(1).
     fn set_right(&mut self, place: Place, right: Option<Place>)
         requires linked { IsLinked Self.linked (Self.table self.old) place }
         requires right { IsNameable Self.CanName right }
@@ -69,7 +71,8 @@ pub trait RBTreeOps: link_ops::LinkOps {
         ensures frame { ChangesOnly (Self.table self.old) (Self.table self.new) place }
         ensures trace_stays { Self.Trace self.old self.new [] };
 
-    /// Sets the parent of `place`. It requires that the place is linked, and that the table can name the parent. O(1).
+    /// Sets the parent of `place`. The call requires that `place` is linked, and that the table's words have room for the parent.
+    /// O(1).
     fn set_parent(&mut self, place: Place, parent: Option<Place>)
         requires linked { IsLinked Self.linked (Self.table self.old) place }
         requires parent { IsNameable Self.CanName parent }
@@ -78,7 +81,7 @@ pub trait RBTreeOps: link_ops::LinkOps {
         ensures frame { ChangesOnly (Self.table self.old) (Self.table self.new) place }
         ensures trace_stays { Self.Trace self.old self.new [] };
 
-    /// Sets the color of `place`. It requires that the place is linked. O(1).
+    /// Sets the color of `place`. The call requires that `place` is linked. O(1).
     fn set_color(&mut self, place: Place, color: Color)
         requires linked { IsLinked Self.linked (Self.table self.old) place }
         ensures set { node_at node (Self.table self.new) place
@@ -86,7 +89,8 @@ pub trait RBTreeOps: link_ops::LinkOps {
         ensures frame { ChangesOnly (Self.table self.old) (Self.table self.new) place }
         ensures trace_stays { Self.Trace self.old self.new [] };
 
-    /// Sets the parent and the color of `place`, at once. It requires that the place is linked, and that the table can name the parent. O(1).
+    /// Sets the parent and the color of `place` in one call. The call requires that `place` is linked, and that the table's words
+    /// have room for the parent. O(1).
     fn set_parent_and_color(&mut self, place: Place, parent: Option<Place>, color: Color)
         requires linked { IsLinked Self.linked (Self.table self.old) place }
         requires parent { IsNameable Self.CanName parent }
@@ -95,14 +99,14 @@ pub trait RBTreeOps: link_ops::LinkOps {
         ensures frame { ChangesOnly (Self.table self.old) (Self.table self.new) place }
         ensures trace_stays { Self.Trace self.old self.new [] };
 
-    // The law: both traits agree on whether a place is linked.
+    // The law: the traits `RBTreeOps` and `LinkOps` agree on whether a place is linked.
     ghost linked_alike: { (e : Self.Entry) → (node e).linked ≡ Self.linked e };
 }
 
-/// The words of a tree link: one for each child, and one for the parent, the color and whether the place is linked.
+/// The words of a tree's link: one word for each child, and one word for the parent, the color and whether the place is linked.
 ///
-/// A list stores its previous place as the left child and its next place as the right one. An XOR list uses the word of
-/// the right child.
+/// A list stores its previous place as the left child and its next place as the right child. An XOR list uses the word of the
+/// right child.
 #[derive(Drop)]
 pub struct ThreeWords {
     left: PlaceWord,
@@ -110,20 +114,20 @@ pub struct ThreeWords {
     third: TreeWord,
 }
 
-/// What the table stores at a place: three words.
+/// What the plain table of red-black trees stores at a place: three words.
 pub type Link = link::Link<ThreeWords>;
 
-/// The plain table for red-black trees, three words for each place. Lists of all kinds can use it as well.
+/// The plain table for red-black trees, with three words for each place. Lists of all kinds can use it as well.
 pub type LinkOps<A = Global> = PlainTable<ThreeWords, A>;
 
 /// The plain table for red-black trees with a value beside each link, for example a key.
 pub type LinkOpsWith<V, A = Global> = PlainTable<ThreeWords, A, V>;
 
-/// What the table of narrow links stores at a place, in half the bytes of a `Link`.
+/// What a table with words of 4 bytes stores at a place. A narrow link has half the bytes of a `Link`.
 pub type NarrowLink = link::Link<ThreeNarrowWords>;
 
-/// The plain table for red-black trees with words of 4 bytes: its links are half as large, and it has room for
-/// 536,870,911 places.
+/// The plain table for red-black trees with words of 4 bytes. The links of this table are half as large as those of `LinkOps`,
+/// and the table has room for 536,870,911 places.
 pub type NarrowLinkOps<A = Global> = PlainTable<ThreeNarrowWords, A>;
 
 /// The plain table of narrow links with a value beside each link.
@@ -133,12 +137,13 @@ impl link::Link<ThreeWords> {
     ghost use Rattle.ic_link_ops.specs.Links.{words_of};
     ghost use Rattle.ic_link_ops.specs.ThreeWords.{printed_words};
 
-    /// The numbers that are printed for the three words: the left child, the right child, and the parent with the
-    /// color.
+    /// The numbers that are printed for the three words: one for the left child, one for the right child, and one for the parent
+    /// and the color.
     ///
-    /// A child is printed as `2 * (index + 1)`, and no child as 0. If an XOR list wrote the entry, its word is printed as the right
-    /// child. The third number is `4 * (parent + 1) + 2 * linked + black`, with 0 instead of `parent + 1` if there is no parent, and 1
-    /// for true. The link stores four times the first two numbers. The parent's part it stores twice as large. O(1).
+    /// A child is printed as `2 * (index + 1)`, and a missing child as 0. If an XOR list wrote the entry, the list's word is
+    /// printed in the place of the right child. The third number is `4 * (parent + 1) + 2 * linked + black`. The term `parent +
+    /// 1` is 0 if there is no parent, and true counts as 1. The link stores four times the first two numbers. In the third word
+    /// the link stores `8 * (parent + 1)` for the parent. O(1).
     #[inline]
     pub fn words(&self) -> [u64; 3]
         ensures { result ≡ printed_words (words_of self.now) }

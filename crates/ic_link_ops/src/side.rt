@@ -4,11 +4,11 @@
 //! Side::Left // where the smaller members stand
 //! ```
 
-/// Left or right. Code with two mirrored halves is written once, for a side.
+/// A side is left or right. Code that has two mirrored halves is written once and takes a side as an argument.
 #[derive(Clone, Copy, PartialEq, Eq, Debug)]
 pub enum Side {
-    /// The side of the members before.
+    /// The left subtree of a member contains the members that come before it.
     Left,
-    /// The side of the members after.
+    /// The right subtree of a member contains the members that come after it.
     Right,
 }

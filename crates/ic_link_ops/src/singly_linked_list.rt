@@ -1,4 +1,4 @@
-//! The links of singly linked lists: the trait that a list requires of its table, and the plain table.
+//! This file defines the links of singly linked lists: the trait that a list requires of its table of links, and the plain table.
 //!
 //! ```text
 //! let mut links = LinkOps::new(rt.alloc());
@@ -21,17 +21,17 @@ use crate::word::Word;
 use ic_unsafe_ref::Place;
 use std::alloc::{Allocator, Global};
 
-/// A table for singly linked lists: each entry names the place after its own.
+/// A table for singly linked lists. The entry of each place names the place after it.
 pub trait SinglyLinkedListOps: link_ops::LinkOps {
-    // What an entry states: whether its place is linked, and which place is after it.
+    // The parts of an entry: whether its place is linked, and which place is after it.
     ghost successor: { Self.Entry → Successor };
 
-    /// The place after `place`. It requires that the place is linked. O(1).
+    /// The place after `place`. The call requires that `place` is linked. O(1).
     fn next(&self, place: Place) -> Option<Place>
         requires linked { IsLinked Self.linked (Self.table self.now) place }
         ensures { result ≡ (successor_at successor (Self.table self.now) place).next };
 
-    /// Sets the place after `place`. It requires that the place is linked, and that the table can name the new
+    /// Sets the place after `place`. The call requires that `place` is linked, and that the table's words have room for the new
     /// neighbor. O(1).
     fn set_next(&mut self, place: Place, next: Option<Place>)
         requires linked { IsLinked Self.linked (Self.table self.old) place }
@@ -41,10 +41,10 @@ pub trait SinglyLinkedListOps: link_ops::LinkOps {
         ensures frame { ChangesOnly (Self.table self.old) (Self.table self.new) place }
         ensures trace_stays { Self.Trace self.old self.new [] };
 
-    /// Links `place` before another and returns true, or returns false if the link is refused. It requires that the place is covered,
-    /// and that the table can name the other. O(1).
+    /// Links `place` before `next` and returns true, or returns false if the link is refused. The call requires that `place` is
+    /// covered, and that the table's words have room for `next`. O(1).
     ///
-    /// It does what `acquire_link` and `set_next` do, in one call, so that a table can write the word once.
+    /// The call does what `acquire_link` and `set_next` do, so that a table can write the word once.
     #[inline]
     fn link_before(&mut self, place: Place, next: Option<Place>) -> bool
         requires covered { IsCovered (Self.table self.old) place }
@@ -61,27 +61,27 @@ pub trait SinglyLinkedListOps: link_ops::LinkOps {
         true
     }
 
-    // The law: both traits agree on whether a place is linked.
+    // The law: the traits `SinglyLinkedListOps` and `LinkOps` agree on whether a place is linked.
     ghost linked_alike: { (e : Self.Entry) → (successor e).linked ≡ Self.linked e };
 }
 
 /// The kind of links whose word names the next place.
 pub struct Singly;
 
-/// What the table stores at a place: one word.
+/// What the plain table of singly linked lists stores at a place: one word.
 pub type Link = link::Link<OneWord<Singly>>;
 
-/// The plain table for singly linked lists, one word for each place. XOR lists can use it as well.
+/// The plain table for singly linked lists, with one word for each place. XOR lists can use it as well.
 pub type LinkOps<A = Global> = PlainTable<OneWord<Singly>, A>;
 
 /// The plain table for singly linked lists with a value beside each link.
 pub type LinkOpsWith<V, A = Global> = PlainTable<OneWord<Singly>, A, V>;
 
-/// What the table of narrow links stores at a place, in half the bytes of a `Link`.
+/// What a table with words of 4 bytes stores at a place. A narrow link has half the bytes of a `Link`.
 pub type NarrowLink = link::Link<OneNarrowWord<Singly>>;
 
-/// The plain table for singly linked lists with words of 4 bytes: its links are half as large, and it has room for
-/// 536,870,911 places.
+/// The plain table for singly linked lists with words of 4 bytes. The links of this table are half as large as those of
+/// `LinkOps`, and the table has room for 536,870,911 places.
 pub type NarrowLinkOps<A = Global> = PlainTable<OneNarrowWord<Singly>, A>;
 
 /// The plain table of narrow links with a value beside each link.

@@ -1,4 +1,4 @@
-//! The plain table, for every kind of links.
+//! The plain table stores links of any kind.
 //!
 //! ```text
 //! let mut links = linked_list::LinkOps::new(rt.alloc());
@@ -17,11 +17,11 @@ use crate::link_value::LinkValue;
 use ic_unsafe_ref::Place;
 use std::alloc::{Allocator, Global};
 
-/// A table with one link for each place that it covers, in one `Vec`. Its type says whether a value is kept beside each
+/// A table with one link for each place that it covers, in one `Vec`. The table's type says whether a value is stored beside each
 /// link.
 ///
-/// Each kind of collection has its own plain table by the name `LinkOps`. A table can be used by every kind whose links
-/// its words can store.
+/// Each kind of collection has its own plain table with the name `LinkOps`. A kind of collection can use a table if the words of
+/// the table can store the links of this kind.
 #[derive(Drop)]
 pub struct PlainTable<W, A: Allocator = Global, V = ()> {
     pub(crate) entries: Vec<Link<W, V>, A>,
@@ -35,7 +35,7 @@ impl<W: Words, A: Allocator, V: LinkValue> PlainTable<W, A, V> {
     ghost use Rattle.ic_link_ops.specs.Widths.{most_places};
     ghost use Rattle.std.specs.Borrow.{sem};
 
-    /// A table that covers no place. It takes no memory. O(1).
+    /// A new table that covers no place and takes no memory. O(1).
     pub fn new(alloc: A) -> PlainTable<W, A, V>
         ensures { (table_beside W.width W.unlinked V.initial V.printed result).extent.places ≡ 0 }
     {
@@ -44,7 +44,7 @@ impl<W: Words, A: Allocator, V: LinkValue> PlainTable<W, A, V> {
         }
     }
 
-    /// The number of places that are covered. A place is covered if its index is smaller than this number. O(1).
+    /// The number of places that the table covers. A place is covered if its index is smaller than this number. O(1).
     #[inline]
     #[tactic(auto, using(crate::proofs::WidthLemmas::nameable_count, crate::proofs::WidthLemmas::nameable_fits, crate::proofs::WidthLemmas::nameable_read, crate::proofs::WidthLemmas::nameable_written))]
     pub fn covers(&self) -> usize
@@ -53,7 +53,7 @@ impl<W: Words, A: Allocator, V: LinkValue> PlainTable<W, A, V> {
         W::count_nameable(self.entries.len())
     }
 
-    // The index of the link of a place.
+    // The index, in the `Vec`, of the link of the place.
     #[inline]
     #[tactic(auto, using(crate::proofs::WidthLemmas::nameable_fits))]
     pub(crate) fn slot(&self, place: Place) -> usize
@@ -64,7 +64,7 @@ impl<W: Words, A: Allocator, V: LinkValue> PlainTable<W, A, V> {
         place.index()
     }
 
-    // The index of the link of a place that is linked.
+    // The index, in the `Vec`, of the link of the place, which has to be linked.
     #[inline]
     pub(crate) fn slot_of_linked(&self, place: Place) -> usize
         requires linked { IsLinked (linked_by W.is_linked) (table_beside W.width W.unlinked V.initial V.printed self.now) place }
@@ -74,7 +74,7 @@ impl<W: Words, A: Allocator, V: LinkValue> PlainTable<W, A, V> {
         place.index()
     }
 
-    /// The link of `place`. It requires that the place is covered. O(1).
+    /// The link of `place`. The call requires that the table covers `place`. O(1).
     #[inline]
     #[tactic(auto, using(crate::proofs::WidthLemmas::nameable_count, crate::proofs::WidthLemmas::nameable_fits, crate::proofs::WidthLemmas::nameable_read, crate::proofs::WidthLemmas::nameable_written))]
     pub fn link(&self, place: Place) -> &Link<W, V>
@@ -84,7 +84,7 @@ impl<W: Words, A: Allocator, V: LinkValue> PlainTable<W, A, V> {
         &self.entries[place.index()]
     }
 
-    /// Whether `place` is linked. It requires that the place is covered. O(1).
+    /// Whether `place` is linked. The call requires that the table covers `place`. O(1).
     #[inline]
     #[tactic(auto, using(crate::proofs::WidthLemmas::nameable_count, crate::proofs::WidthLemmas::nameable_fits, crate::proofs::WidthLemmas::nameable_read, crate::proofs::WidthLemmas::nameable_written))]
     pub fn is_linked(&self, place: Place) -> bool
@@ -94,11 +94,11 @@ impl<W: Words, A: Allocator, V: LinkValue> PlainTable<W, A, V> {
         self.entries[place.index()].is_linked()
     }
 
-    /// Unlinks `place`, whichever call linked it. An unlinked place stays unlinked. It requires that the place is
-    /// covered. O(1).
+    /// Unlinks `place`, whichever call linked it. A place that is unlinked stays unlinked. The call requires that the table
+    /// covers `place`. O(1).
     ///
-    /// Every other entry stays, so each collection without this member keeps its sequence. Use it for objects that
-    /// `fast_clear` left linked. It breaks a collection that has the place as a member.
+    /// Every other entry stays, so each collection in which `place` is not a member keeps its sequence. Use this call for objects
+    /// that `fast_clear` left linked. The call breaks a collection in which `place` is a member.
     #[inline]
     #[tactic(auto, using(crate::proofs::WidthLemmas::nameable_count, crate::proofs::WidthLemmas::nameable_fits, crate::proofs::WidthLemmas::nameable_read, crate::proofs::WidthLemmas::nameable_written))]
     pub fn force_unlink(&mut self, place: Place)
@@ -113,7 +113,7 @@ impl<W: Words, A: Allocator, V: LinkValue> PlainTable<W, A, V> {
 
     /// Lends the links, in the order of their places. [`LentTable::new`](crate::LentTable::new) makes a table of them.
     ///
-    /// When the borrow ends, the table has the links as they were written last. O(1).
+    /// When the borrow ends, the table has the links that were written last. O(1).
     #[inline]
     pub fn lend(&mut self) -> &mut [Link<W, V>]
         ensures* writes_back { sem 𝓛 (LendsLinks W.row A.row V.row A.Allocator self.entry result) }
@@ -122,11 +122,12 @@ impl<W: Words, A: Allocator, V: LinkValue> PlainTable<W, A, V> {
         self.entries.as_mut_slice()
     }
 
-    /// Covers the first `count` places, with an unlinked entry for each that is new.
+    /// Covers the first `count` places, with an unlinked entry for each newly covered place.
     ///
-    /// It is refused if `count` is above 4,294,967,296, or above 536,870,911 if the words have 4 bytes, or if there is
-    /// no memory; then nothing has changed. Entries that exist stay as they are. If at least `count` places are covered
-    /// already, nothing changes. At most one request for memory. O(n) in the places that are new.
+    /// The call is refused if `count` is above 4,294,967,296, or above 536,870,911 if the words have 4 bytes, or if there is no
+    /// memory. If the call is refused, nothing has changed. The entries that exist already stay as they are. If at least `count`
+    /// places are covered already, nothing changes. The call requests memory at most once. O(n) in the number of newly covered
+    /// places.
     pub fn cover(&mut self, count: usize) -> Result<(), CoverError>
         ensures too_many { (result ≡ Err CoverError.TooManyPlaces) ↔ most_places W.width < count }
         ensures covers { OnOk result ((table_beside W.width W.unlinked V.initial V.printed self.new).extent.places ≡ max (table_beside W.width W.unlinked V.initial V.printed self.old).extent.places count) }
@@ -148,7 +149,7 @@ impl<W: Words, A: Allocator, V: LinkValue> PlainTable<W, A, V> {
         Ok(())
     }
 
-    // Extends the table to `count` links, each new one unlinked, and returns whether there was memory for them.
+    // Extends the table to `count` links, and returns whether there was memory for the new links. Each new link is unlinked.
     fn grow(&mut self, count: usize) -> bool
         requires more { length (entries self.old) < count }
         ensures grown { OnTrue result (length (entries self.new) ≡ count) }

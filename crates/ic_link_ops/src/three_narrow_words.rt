@@ -1,4 +1,4 @@
-//! Links of three words of 4 bytes, for red-black trees.
+//! This file defines links of three words of 4 bytes, for red-black trees.
 
 ghost use Rattle.std.specs.Prelude.{◌≡◌};
 
@@ -12,11 +12,11 @@ use crate::word::Word;
 use ic_unsafe_ref::Place;
 use std::cmp::min;
 
-/// The words of a tree link, each of 4 bytes: one for each child, and one for the parent, the color and whether the place is
-/// linked.
+/// The words of a tree's link, each of 4 bytes: one word for each child, and one word for the parent, the color and whether the
+/// place is linked.
 ///
-/// A list stores its previous place as the left child and its next place as the right one. An XOR list uses the word of
-/// the right child.
+/// A list stores its previous place as the left child and its next place as the right child. An XOR list uses the word of the
+/// right child.
 #[derive(Drop)]
 pub struct ThreeNarrowWords {
     left: NarrowPlaceWord,

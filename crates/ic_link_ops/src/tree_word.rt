@@ -14,11 +14,11 @@ use crate::color::Color;
 use ic_unsafe_ref::Place;
 use std::marker::Model;
 
-/// It is stored as `8 * (parent + 1) + 2 * linked + black`, with 0 instead of `parent + 1` if there is no parent, and 1 for true. So all
-/// but the three lowest bits are the parent's word.
+/// The word is stored as `8 * (parent + 1) + 2 * linked + black`. The term `parent + 1` is 0 if there is no parent, and true
+/// counts as 1. Without its three lowest bits, the stored number is the parent's word.
 ///
-/// Contracts see the word as its parts: whether the place is linked, its parent and its color. The place can be linked
-/// whatever its color and its parent are.
+/// Contracts describe the word by its parts: whether the place is linked, its parent and its color. The place can be linked or
+/// unlinked, whatever its color and its parent are.
 #[derive(Drop)]
 pub struct TreeWord {
     bits: u64,
@@ -68,7 +68,7 @@ impl TreeWord {
         }
     }
 
-    /// Whether the place is linked: the second bit. O(1).
+    /// Reads from the second-lowest bit whether the place is linked. O(1).
     #[inline]
     pub fn is_linked(&self) -> bool
         ensures { result ≡ self.now.linked }
@@ -76,7 +76,7 @@ impl TreeWord {
         self.bits / 2 % 2 == 1
     }
 
-    /// The parent, `None` at the root: all but the three lowest bits. O(1).
+    /// The parent, or `None` at the root. All bits except the three lowest store the parent. O(1).
     #[inline]
     pub fn parent(&self) -> Option<Place>
         ensures { result ≡ self.now.parent }
@@ -84,7 +84,7 @@ impl TreeWord {
         Place::from_word(self.bits / 8 * 8)
     }
 
-    /// The color: the lowest bit, 1 for black. O(1).
+    /// The color. The lowest bit stores the color, and is 1 for black. O(1).
     #[inline]
     pub fn color(&self) -> Color
         ensures { result ≡ self.now.color }
@@ -96,7 +96,7 @@ impl TreeWord {
         }
     }
 
-    /// Replaces the parent, and leaves the color and whether the place is linked. O(1).
+    /// Replaces the parent, and keeps the color and whether the place is linked. O(1).
     #[inline]
     #[tactic(auto, using(crate::proofs::TreeWordLemmas::parent_set))]
     pub fn set_parent(&mut self, parent: Option<Place>)
@@ -105,7 +105,7 @@ impl TreeWord {
         self.bits = Place::to_word(parent) + self.bits % 8;
     }
 
-    /// Replaces the color, and leaves the parent and whether the place is linked. O(1).
+    /// Replaces the color, and keeps the parent and whether the place is linked. O(1).
     #[inline]
     #[tactic(auto, using(crate::proofs::TreeWordLemmas::color_set))]
     pub fn set_color(&mut self, color: Color)
@@ -118,8 +118,8 @@ impl TreeWord {
         self.bits = self.bits / 2 * 2 + black;
     }
 
-    /// The number that is printed for the word: `4 * (parent + 1) + 2 * linked + black`, with 0 instead of `parent + 1` if there
-    /// is no parent. O(1).
+    /// The number that is printed for the word: `4 * (parent + 1) + 2 * linked + black`. The term `parent + 1` is 0 if there is
+    /// no parent. O(1).
     #[inline]
     #[tactic(auto, using(crate::proofs::TreeWordLemmas::number_of_parts))]
     pub fn number(&self) -> u64

@@ -1,4 +1,4 @@
-//! Links of two words of 4 bytes, for doubly linked lists.
+//! This file defines links of two words of 4 bytes, for doubly linked lists.
 
 ghost use Rattle.std.specs.Prelude.{◌≡◌};
 
@@ -9,8 +9,8 @@ use crate::word::Word;
 use ic_unsafe_ref::Place;
 use std::cmp::min;
 
-/// The words of a doubly linked list's link, each of 4 bytes: the next place, or the mark while the place is unlinked, and the
-/// previous place.
+/// The words of a doubly linked list's link, each of 4 bytes. The first word names the next place, or is the mark 1 if the place
+/// is unlinked. The second word names the previous place.
 #[derive(Drop)]
 pub struct TwoNarrowWords {
     next: NarrowMarkedWord,

@@ -1,7 +1,8 @@
-//! The word that links consist of.
+//! A link consists of words, and this file defines the word.
 //!
-//! A place is stored as its word, `8 * (index + 1)`, and no place as 0. So each word of a linked place is a multiple of 8
-//! below `2^36`. The exclusive or of two such words is one again, so a place is read from it without a test of its range.
+//! A place is stored as its word, `8 * (index + 1)`, and no place as 0. Each word of a linked place is therefore a multiple of 8
+//! below `2^36`. The exclusive or of two words is also a multiple of 8 below `2^36`, so a place is read from it without a test of
+//! its range.
 //!
 //! ```text
 //! let word = Word::between(Some(first), Some(third));
@@ -14,7 +15,7 @@ ghost use Rattle.ic_unsafe_ref.specs.Places.{word_of, place_at};
 
 use ic_unsafe_ref::Place;
 
-/// The word of a place, 0 for none, or the exclusive or of two such words.
+/// The word of a place, or 0 for no place, or the exclusive or of two such words.
 #[derive(Clone, Copy)]
 pub struct Word {
     pub(crate) bits: u64,
@@ -42,7 +43,7 @@ impl Word {
         }
     }
 
-    /// The place that the word names, `None` if the word is 0. One test. O(1).
+    /// The place that the word names, or `None` if the word is 0. The call makes one test. O(1).
     #[inline]
     pub fn place(self) -> Option<Place>
         ensures { result ≡ place_at (bits_of self) }
@@ -50,7 +51,7 @@ impl Word {
         Place::from_word(self.bits)
     }
 
-    /// The word of the places on both sides: the exclusive or of their words. O(1).
+    /// The word that joins the places `prev` and `next`: the exclusive or of their words. O(1).
     #[inline]
     #[tactic(auto, using(ic_unsafe_ref::proofs::PlaceLemmas::xor_fits))]
     pub fn between(prev: Option<Place>, next: Option<Place>) -> Word
@@ -61,7 +62,7 @@ impl Word {
         }
     }
 
-    /// The place on one side, given that `known` is the place on the other side. O(1).
+    /// One of the two places that the word joins, if `known` is the other place. O(1).
     #[inline]
     #[tactic(auto, using(ic_unsafe_ref::proofs::PlaceLemmas::xor_fits))]
     pub fn other(self, known: Option<Place>) -> Option<Place>
@@ -70,7 +71,7 @@ impl Word {
         Place::from_word(self.bits ^ Place::to_word(known))
     }
 
-    /// The word with `new` instead of `old` on one side. O(1).
+    /// If the word joins `old` and a second place, the result is the word that joins `new` and the second place. O(1).
     #[inline]
     #[tactic(auto, using(ic_unsafe_ref::proofs::PlaceLemmas::xor_fits))]
     pub fn replaced(self, old: Option<Place>, new: Option<Place>) -> Word
@@ -81,7 +82,7 @@ impl Word {
         }
     }
 
-    /// The word as a number. O(1).
+    /// The number that the word stores. O(1).
     #[inline]
     pub fn bits(self) -> u64
         ensures { result ≡ bits_of self }

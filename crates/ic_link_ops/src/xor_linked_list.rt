@@ -1,4 +1,4 @@
-//! The links of XOR lists: the trait that a list requires of its table, and the plain table.
+//! This file defines the links of XOR lists: the trait that a list requires of its table of links, and the plain table.
 //!
 //! ```text
 //! let mut links = LinkOps::new(rt.alloc());
@@ -20,27 +20,28 @@ use crate::word::Word;
 use ic_unsafe_ref::Place;
 use std::alloc::{Allocator, Global};
 
-/// A table for XOR lists: each entry joins two neighbors in one word, and does not say which one is before.
+/// A table for XOR lists. Each entry joins two neighbors in one word, and does not say which of the two is before.
 ///
-/// A caller has to know one neighbor of a place to read the other.
+/// A caller has to know one neighbor of a place to read the other neighbor.
 pub trait XorLinkedListOps: link_ops::LinkOps {
-    // The place of the entry is between these two places, in either order.
+    // The two places are the neighbors of the entry's place, in either order.
     ghost HasNeighbors: { Self.Entry → Option Place → Option Place → Type 0 };
 
-    // The neighbor of the entry's place that is not the given one.
+    // `other e a` is the neighbor of the place of e that is not the place a.
     ghost other: { Self.Entry → Option Place → Option Place };
 
-    /// The place after `place`, given that `prev` is the one before it. It requires that the place is linked. O(1).
+    /// The place after `place`, if `prev` is the place before it. The call requires that `place` is linked. O(1).
     fn next(&self, place: Place, prev: Option<Place>) -> Option<Place>
         requires linked { IsLinked Self.linked (Self.table self.now) place }
         ensures { result ≡ other ((Self.table self.now).entry place) prev };
 
-    /// The place before `place`, given that `next` is the one after it. It requires that the place is linked. O(1).
+    /// The place before `place`, if `next` is the place after it. The call requires that `place` is linked. O(1).
     fn prev(&self, place: Place, next: Option<Place>) -> Option<Place>
         requires linked { IsLinked Self.linked (Self.table self.now) place }
         ensures { result ≡ other ((Self.table self.now).entry place) next };
 
-    /// Sets both neighbors of `place`. It requires that the place is linked, and that the table can name both. O(1).
+    /// Sets both neighbors of `place`. The call requires that `place` is linked, and that the table's words have room for both
+    /// neighbors. O(1).
     fn set(&mut self, place: Place, prev: Option<Place>, next: Option<Place>)
         requires linked { IsLinked Self.linked (Self.table self.old) place }
         requires prev { IsNameable Self.CanName prev }
@@ -50,8 +51,8 @@ pub trait XorLinkedListOps: link_ops::LinkOps {
         ensures frame { ChangesOnly (Self.table self.old) (Self.table self.new) place }
         ensures trace_stays { Self.Trace self.old self.new [] };
 
-    /// Replaces the neighbor `old` of `place` by `new`. It requires that the place is linked, and that the table can name both.
-    /// O(1).
+    /// Replaces the neighbor `old` of `place` by `new`. The call requires that `place` is linked, and that the table's words have
+    /// room for `old` and `new`. O(1).
     fn replace_next_or_prev(&mut self, place: Place, old: Option<Place>, new: Option<Place>)
         requires linked { IsLinked Self.linked (Self.table self.old) place }
         requires from { IsNameable Self.CanName old }
@@ -62,10 +63,10 @@ pub trait XorLinkedListOps: link_ops::LinkOps {
         ensures frame { ChangesOnly (Self.table self.old) (Self.table self.new) place }
         ensures trace_stays { Self.Trace self.old self.new [] };
 
-    /// Links `place` between two others and returns true, or returns false if the link is refused. It requires that the place is covered,
-    /// and that the table can name the others. O(1).
+    /// Links `place` between `prev` and `next` and returns true, or returns false if the link is refused. The call requires that
+    /// `place` is covered, and that the table's words have room for `prev` and `next`. O(1).
     ///
-    /// It does what `acquire_link` and `set` do, in one call, so that a table can write the word once.
+    /// The call does what `acquire_link` and `set` do, so that a table can write the word once.
     #[inline]
     fn link_between(&mut self, place: Place, prev: Option<Place>, next: Option<Place>) -> bool
         requires covered { IsCovered (Self.table self.old) place }
@@ -83,7 +84,8 @@ pub trait XorLinkedListOps: link_ops::LinkOps {
         true
     }
 
-    // The laws: the two neighbors can be exchanged, one neighbor determines the other, and `other` finds it.
+    // The laws: The two neighbors can be exchanged. One neighbor determines the other neighbor, and `other` computes the other
+    // neighbor.
     ghost symmetric: { (e : Self.Entry) (a b : Option Place) → HasNeighbors e a b → HasNeighbors e b a };
 
     ghost one_other: { (e : Self.Entry) (a b c : Option Place) → HasNeighbors e a b → HasNeighbors e a c → b ≡ c };
@@ -94,20 +96,20 @@ pub trait XorLinkedListOps: link_ops::LinkOps {
 /// The kind of links whose word is the exclusive or of both neighbors' words.
 pub struct Xor;
 
-/// What the table stores at a place: one word.
+/// What the plain table of XOR lists stores at a place: one word.
 pub type Link = link::Link<OneWord<Xor>>;
 
-/// The plain table for XOR lists, one word for each place. Singly linked lists can use it as well.
+/// The plain table for XOR lists, with one word for each place. Singly linked lists can use it as well.
 pub type LinkOps<A = Global> = PlainTable<OneWord<Xor>, A>;
 
 /// The plain table for XOR lists with a value beside each link.
 pub type LinkOpsWith<V, A = Global> = PlainTable<OneWord<Xor>, A, V>;
 
-/// What the table of narrow links stores at a place, in half the bytes of a `Link`.
+/// What a table with words of 4 bytes stores at a place. A narrow link has half the bytes of a `Link`.
 pub type NarrowLink = link::Link<OneNarrowWord<Xor>>;
 
-/// The plain table for XOR lists with words of 4 bytes: its links are half as large, and it has room for 536,870,911
-/// places.
+/// The plain table for XOR lists with words of 4 bytes. The links of this table are half as large as those of `LinkOps`, and the
+/// table has room for 536,870,911 places.
 pub type NarrowLinkOps<A = Global> = PlainTable<OneNarrowWord<Xor>, A>;
 
 /// The plain table of narrow links with a value beside each link.
@@ -118,8 +120,8 @@ impl link::Link<OneWord<Xor>> {
     ghost use Rattle.ic_link_ops.specs.OneWord.{next_word_of};
     ghost use Rattle.ic_link_ops.specs.Words.{printed};
 
-    /// The exclusive or of the neighbors' numbers, which are `2 * (index + 1)` for a place and 0 for none; or the mark
-    /// 1 while the place is unlinked. The link stores four times this number. O(1).
+    /// The exclusive or of the neighbors' numbers. The number of a place is `2 * (index + 1)`, and the number for no place is 0.
+    /// If the place of the link is unlinked, the result is the mark 1. The link stores four times the exclusive or. O(1).
     #[inline]
     pub fn word(&self) -> u64
         ensures { result ≡ printed (next_word_of (words_of self.now)) }

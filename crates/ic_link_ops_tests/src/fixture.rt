@@ -1,4 +1,4 @@
-//! What the tests share.
+//! The functions and constants that all tests of this crate share.
 
 ghost use Rattle.std.specs.Prelude.{◌≡◌};
 ghost use Rattle.ic_link_ops.specs.Prelude.{index_of, IsCovered, IsLinked};
@@ -9,24 +9,24 @@ use ic_unsafe_ref::Place;
 use std::alloc::Global;
 use std::process::Abort;
 
-/// The index of the last place, and of the last one of which words of 4 bytes have a name.
+/// `LAST` is the index of the last place, and `LAST_NARROW` the index of the last place for which words of 4 bytes have a number.
 pub(crate) const LAST: usize = 4_294_967_295;
 
 pub(crate) const LAST_NARROW: usize = 536_870_910;
 
-/// Asserts that it is so.
+/// Ends the test with a failure unless `is_so` is true.
 pub(crate) fn check(rt: &impl Abort, is_so: bool) {
     assert!(rt; is_so);
 }
 
-/// The place of that index.
+/// Returns the place with this index.
 pub(crate) fn at(rt: &impl Abort, index: usize) -> Place
     ensures at { index_of result ≡ index }
 {
     Place::new(index).expect(rt, "the index of a place")
 }
 
-/// A table of one place, and the place, which is linked.
+/// Returns a table of one place, and the place, which is linked.
 pub(crate) fn one_linked<W: Words>(rt: &impl Abort, alloc: Global) -> (PlainTable<W>, Place)
     ensures covered { IsCovered (table W.width W.unlinked result.0) result.1 }
     ensures linked { IsLinked (linked_by W.is_linked) (table W.width W.unlinked result.0) result.1 }

@@ -1,4 +1,4 @@
-//! What the links of a table contain about neighbors, for each kind of collection that the table can serve.
+//! Tests of what the links of a table contain about neighbors, for each kind of collection that can use the table.
 
 ghost use Rattle.std.specs.Prelude.{◌≡◌};
 ghost use Rattle.ic_link_ops.specs.Prelude.{Place, IsCovered, IsLinked, IsNameable};
@@ -12,7 +12,7 @@ use ic_link_ops::xor_linked_list::{self, XorLinkedListOps};
 use ic_link_ops::{Color, LentTable, Link, LinkOps, NodeWords, linked_list};
 use ic_unsafe_ref::Place;
 
-// Returns the place after a linked place, after it was set.
+// Sets the place after a linked place, and returns the place after it as the table has it.
 fn singly<L: SinglyLinkedListOps>(links: &mut L, place: Place, next: Option<Place>) -> Option<Place>
     requires linked { IsLinked L.linked (L.table links.old) place }
     requires next { IsNameable L.CanName next }
@@ -22,7 +22,7 @@ fn singly<L: SinglyLinkedListOps>(links: &mut L, place: Place, next: Option<Plac
     links.next(place)
 }
 
-// Returns the places before and after, after they were set.
+// Sets the places before and after a linked place, and returns both as the table has them.
 fn doubly<L: LinkedListOps>(
     links: &mut L,
     place: Place,
@@ -39,7 +39,7 @@ fn doubly<L: LinkedListOps>(
     [links.prev(place), links.next(place)]
 }
 
-// Returns the places before and after in an XOR list, after they were set, with the place after it replacing none.
+// Sets the places before and after a linked place in an XOR list, and returns both as the table has them. The place after it replaces `None`.
 fn xor<L: XorLinkedListOps>(
     links: &mut L,
     place: Place,
@@ -56,7 +56,8 @@ fn xor<L: XorLinkedListOps>(
     [links.prev(place, next), links.next(place, prev)]
 }
 
-// The children, the parent and the color of a tree's member that is made red, between the first and the last place and below the last.
+// Sets the left child of a linked place to the first place, its right child and its parent to the last place, and its color to red. Returns the
+// children, the parent and the color as the table has them.
 fn tree<L: RBTreeOps>(
     links: &mut L,
     place: Place,
@@ -76,8 +77,8 @@ fn tree<L: RBTreeOps>(
     (found, links.color(place))
 }
 
-// Returns whether each kind of link reads what it wrote at a linked place: the next place, both neighbors, both neighbors in an XOR list, and a red
-// member of a tree. The links name the first and the last place that the table can name.
+// Returns whether each of the four kinds of links reads back what was written at a linked place. The four kinds write the next place, both neighbors,
+// both neighbors in an XOR list, and a red member of a tree. The links name the first and the last place that the table can name.
 fn four_kinds<L: RBTreeOps + LinkedListOps + SinglyLinkedListOps + XorLinkedListOps>(
     links: &mut L,
     place: Place,
@@ -98,7 +99,7 @@ fn four_kinds<L: RBTreeOps + LinkedListOps + SinglyLinkedListOps + XorLinkedList
     [is_singly, is_doubly, is_xor, is_tree]
 }
 
-// The same by a view of the links, in which the place is linked first.
+// Links the place in a view of the links, and returns whether each of the four kinds of links then reads back in this view what was written.
 fn four_kinds_by_view<W: NodeWords>(
     links: &mut [Link<W>],
     place: Place,
@@ -115,6 +116,7 @@ fn four_kinds_by_view<W: NodeWords>(
     [false; 4]
 }
 
+// In a table of tree links, each of the four kinds of links must read back what was written, and the words of the link must be the expected numbers.
 // Promise: words of a tree link, third word below the last place.
 #[test]
 fn four_kinds_in_a_table_of_trees(rt: HostRuntime) {
@@ -134,6 +136,7 @@ fn four_kinds_in_a_table_of_trees(rt: HostRuntime) {
     check(&rt, [written, released] == [red_below_the_last, unlinked]);
 }
 
+// In a table of tree links with words of 4 bytes, each of the four kinds of links must read back what was written.
 // Promise: the last place that a narrow table names.
 #[test]
 fn four_kinds_in_a_narrow_table_of_trees(rt: HostRuntime) {
@@ -145,7 +148,8 @@ fn four_kinds_in_a_narrow_table_of_trees(rt: HostRuntime) {
     check(&rt, [is_kept, is_kept_by_view] == [[true; 4]; 2]);
 }
 
-// Returns whether the two other kinds of lists read this place after a linked one whose neighbors an XOR list has written.
+// Writes the neighbors of a linked place as an XOR list does, and returns whether a doubly and a singly linked list read `wanted` as the place after
+// it.
 fn is_read<L: LinkedListOps + SinglyLinkedListOps + XorLinkedListOps>(
     links: &mut L,
     place: Place,
@@ -163,7 +167,7 @@ fn is_read<L: LinkedListOps + SinglyLinkedListOps + XorLinkedListOps>(
     [by_doubly, SinglyLinkedListOps::next(links, place)] == [wanted; 2]
 }
 
-// A word of an XOR list is that of a place, of one that no table reaches, or of none.
+// If an XOR list has written a link word, other kinds of lists must read it as a place, as a place that no table can cover, or as no place.
 // Promise: a word of another kind.
 #[test]
 fn what_an_xor_list_wrote_is_read_by_others(rt: HostRuntime) {
@@ -176,6 +180,8 @@ fn what_an_xor_list_wrote_is_read_by_others(rt: HostRuntime) {
     check(&rt, [second, beyond, none] == [true; 3]);
 }
 
+// The word of an XOR link must be the expected number if the link is new, if its member is alone, and if its member is between the first and the last
+// place.
 // Promise: numbers of the first and the last place.
 #[test]
 fn words_of_an_xor_list(rt: HostRuntime) {

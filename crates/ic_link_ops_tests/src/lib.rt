@@ -1,5 +1,5 @@
-//! Places, objects, references, tables, the words of links, and errors: what no session of the program represents. The tests make each call once, on
-//! one kind of table, and compare its result with the expected one.
+//! Tests of places, objects, references, tables, the words of links, and errors, which no session of the program tests. The tests make each call once,
+//! on one kind of table, and compare its result with the expected result.
 #![tactic(auto)]
 
 #[cfg(test)]

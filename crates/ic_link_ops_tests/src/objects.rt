@@ -1,10 +1,10 @@
-//! Objects by their places, with memory and without.
+//! Tests of objects that are stored and found by their places, with enough memory and with refused memory.
 
 use crate::fixture::{at, check};
 use ic_test_support::rationed::Rationed;
 use ic_unsafe_ref::{Objects, Place, UnsafeRef};
 
-// Places the value, if a place is left, and returns its place, or the value that was given back.
+// Stores the value as an object, if a place is left, and returns the place of the object, or the value that was given back.
 fn put(objects: &mut Objects<u64, &Rationed>, value: u64) -> Result<Option<Place>, u64> {
     if objects.next_place().is_none() {
         return Ok(None);
@@ -26,11 +26,13 @@ fn change_and_take(objects: &mut Objects<u64, &Rationed>, place: Place) -> Optio
     Some(UnsafeRef::new(place).into_box(objects))
 }
 
-// The value at the place, and whether an object there can be referred to.
+// Returns the value at the place, and whether the call `at` returns a reference to an object there.
 fn look(objects: &Objects<u64, &Rationed>, place: Place) -> (Option<u64>, bool) {
     (objects.get(place).copied(), objects.at(place).is_some())
 }
 
+// The test places, changes and removes objects. An object for which there is no memory must be given back, and the place of a removed object must be
+// used again.
 // Promise: an object without memory, always-out-of-memory in objects.
 #[test]
 fn objects_come_and_go(rt: HostRuntime) {

@@ -1,15 +1,15 @@
-//! Places: limits, and order.
+//! Tests of the limits of places, and of their order.
 
 use crate::fixture::{LAST, at, check};
 use ic_unsafe_ref::Place;
 use std::cmp::Ordering;
 
-// The index of a place, if there is one.
+// Returns the index of a place, if there is a place.
 fn index(place: Option<Place>) -> Option<usize> {
     Some(place?.index())
 }
 
-// The last place and none after it; and the places that words name, up to twice as far.
+// Returns the indices of places: the last place, no place after the last, and the places that words name, up to an index twice as large.
 fn limits() -> [Option<usize>; 7] {
     [
         index(Place::new(4_294_967_295)),
@@ -22,6 +22,7 @@ fn limits() -> [Option<usize>; 7] {
     ]
 }
 
+// A place with the last index must exist, a place after it must not, and words must name the places with the expected indices.
 // Promise: limits of places.
 #[test]
 fn how_far_places_reach(rt: HostRuntime) {
@@ -37,7 +38,7 @@ fn how_far_places_reach(rt: HostRuntime) {
     check(&rt, Place::COUNT == 4_294_967_296 && limits() == wanted);
 }
 
-// Compares two places, in all ways.
+// Returns the results of all comparisons of two places.
 fn orders(low: Place, high: Place) -> ([Ordering; 3], [bool; 2]) {
     let orders = [low.cmp(&high), high.cmp(&low), low.cmp(&low)];
     (orders, [low < high, low == high])

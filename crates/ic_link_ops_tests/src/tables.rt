@@ -1,4 +1,4 @@
-//! Tables: how far they reach, and whether a place is linked as the table and a view of it have it.
+//! Tests of tables: how many places they can cover, and whether a place is linked in a table and in a view of the table.
 
 ghost use Rattle.std.specs.Prelude.{◌≤◌};
 
@@ -11,12 +11,12 @@ use ic_link_ops::{
 use ic_test_support::rationed::Rationed;
 use ic_unsafe_ref::Place;
 
-// The number of places that a table can have, with words of 8 bytes and of 4.
+// The greatest number of places that a table can have: `MOST` with words of 8 bytes, `MOST_NARROW` with words of 4 bytes.
 const MOST: usize = 4_294_967_296;
 
 const MOST_NARROW: usize = 536_870_911;
 
-// Returns why a table does not cover this many places, as a number that is 0 if it does, and how many it then covers.
+// Lets the table cover this many places. Returns the number of the error, or 0 if there is none, and how many places the table then covers.
 fn cover<W: Words>(links: &mut PlainTable<W, &Rationed>, count: usize) -> [usize; 2] {
     let refused = match links.cover(count) {
         Ok(()) => 0,
@@ -25,13 +25,13 @@ fn cover<W: Words>(links: &mut PlainTable<W, &Rationed>, count: usize) -> [usize
     [refused, links.covers()]
 }
 
-// Returns whether the place is covered and was not linked. It is then.
+// Links the place if it is covered, and returns whether it is covered and was not linked before.
 fn link<W: Words>(links: &mut PlainTable<W, &Rationed>, place: Place) -> bool {
     place.index() < links.covers() && links.acquire_link(place)
 }
 
-// Returns whether a new table grows if there is memory, and is as it was if it is refused, even after it covers a linked place. Its words have names
-// for the first `most` places: to cover all of these asks for memory, and one more is refused before that.
+// Returns whether a new table grows if there is memory, and does not change if its growth is refused, even after it covers a linked place. Its words
+// have numbers for the first `most` places. To cover `most` places the table requests memory, but one place more is refused without a request.
 fn grows<W: Words>(
     mut links: PlainTable<W, &Rationed>,
     memory: &Rationed,
@@ -54,13 +54,14 @@ fn grows<W: Words>(
         cover(&mut links, 2),
     ];
     let is_linked_again = link(&mut links, place);
-    // too many places are refused by 1, and for want of memory by 2
+    // the number 1 means that the table cannot have this many places, and 2 that there is no memory
     new == [[1, 0], [2, 0], [0, 3]]
         && grown == [[2, 3], [1, 3], [0, 3]]
         && [is_linked, is_linked_again] == [true, false]
         && cover(&mut links, 9) == [0, 9]
 }
 
+// Tables of four kinds must grow if there is memory, and must not change if their growth is refused.
 // Promise: limits of a table, a table without memory, always-out-of-memory in a table.
 #[test]
 fn tables_grow_where_there_is_memory(rt: HostRuntime) {
@@ -74,11 +75,11 @@ fn tables_grow_where_there_is_memory(rt: HostRuntime) {
     check(&rt, grows(xor, &memory, place, MOST));
     let tree = rbtree::LinkOps::new(&memory);
     check(&rt, grows(tree, &memory, place, MOST));
-    // two are refused to each of them, and two are not
+    // each of the four tables makes four requests, of which two are refused
     check(&rt, memory.requests() == 16);
 }
 
-// The same of tables of 4-byte words.
+// Tables of 4-byte words must grow if there is memory, and must not change if their growth is refused.
 // Promise: limits of a narrow table.
 #[test]
 fn narrow_tables_grow_where_there_is_memory(rt: HostRuntime) {
@@ -95,7 +96,7 @@ fn narrow_tables_grow_where_there_is_memory(rt: HostRuntime) {
     check(&rt, memory.requests() == 16);
 }
 
-// Returns whether a link is linked, a copy of it, a new one and the default.
+// Returns whether each of four links is linked: the link, a copy of it, a new link and the default link.
 fn copies(link: &Link) -> Option<[bool; 4]> {
     let copy = link.clone().ok()?;
     let (new, default) = (Link::new(), Link::default());
@@ -107,8 +108,8 @@ fn copies(link: &Link) -> Option<[bool; 4]> {
     ])
 }
 
-// Returns four facts about a linked place in a view: whether it can be linked again, whether it is still linked after it was unlinked by force,
-// whether it can then be linked, and whether it is linked after its release.
+// Returns four facts about a linked place in a view. The first two are whether the place can be linked again, and whether it is still linked after it
+// is unlinked by force. The last two are whether it can then be linked, and whether it is linked after its release.
 fn by_view(links: &mut [Link], place: Place) -> [bool; 4] {
     let mut links = LentTable::new(links);
     if place.index() >= links.covers() {

@@ -1,4 +1,4 @@
-//! Values beside links: what stands there at first, and what a call leaves there.
+//! A test of the values beside links: the value that is there at first, and the value after each call.
 
 ghost use Rattle.ic_link_ops.specs.Tables.{IsCovered};
 
@@ -7,7 +7,7 @@ use ic_link_ops::rbtree::{LinkOpsWith, ThreeWords};
 use ic_link_ops::{LentTable, Link, LinkValues};
 use ic_unsafe_ref::{Place, Values};
 
-// The value beside a link: at first, as it is set, and once the place is linked.
+// Returns the value beside a link at three times: at first, after it is set, and after the place is linked.
 fn values<L: LinkValues<u64>>(links: &mut L, place: Place, value: u64) -> [u64; 3]
     requires covered { IsCovered (L.table links.old) place }
     ensures covered { IsCovered (L.table links.new) place }
@@ -19,7 +19,8 @@ fn values<L: LinkValues<u64>>(links: &mut L, place: Place, value: u64) -> [u64; 
     [first, set, *links.value(place)]
 }
 
-// The same by a view of the links, whether the place is linked there already or not.
+// Returns the value beside a link in a view of the links at three times: at first, after it is set, and after the place is linked. The place may be
+// linked before.
 fn values_by_view(links: &mut [Link<ThreeWords, u64>], place: Place, value: u64) -> [u64; 3] {
     let mut links = LentTable::new(links);
     if place.index() < links.covers() {

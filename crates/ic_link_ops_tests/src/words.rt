@@ -1,4 +1,4 @@
-//! The words of which links are made, and of which ends are.
+//! Tests of the words of which the links of members and the ends of collections consist.
 
 ghost use Rattle.std.specs.Prelude.{Some};
 ghost use Rattle.ic_link_ops.specs.Widths.{HasRoom, narrow};
@@ -10,8 +10,8 @@ use ic_link_ops::{
 };
 use ic_unsafe_ref::Place;
 
-// Words as numbers: of no place, of the second one, of both, of the one beside the first, of the one beside the second, and of both
-// with none in place of the first.
+// Returns six words as numbers. The first three are the words of no place, of the second place, and of both neighbors. The next two are the words of
+// the neighbor that is not `first` and of the neighbor that is not `second`. The last one is the word of both neighbors after `None` replaces `first`.
 fn numbers(first: Option<Place>, second: Option<Place>) -> [u64; 6] {
     let both = Word::between(first, second);
     [
@@ -24,15 +24,15 @@ fn numbers(first: Option<Place>, second: Option<Place>) -> [u64; 6] {
     ]
 }
 
-// A mark, a marked word and the word that it keeps as numbers, and whether the first two are words.
+// Returns a mark, a marked word, and the word that the marked word contains, as numbers. Also returns whether the mark and the marked word are words.
 fn marks(word: Word) -> ([u64; 3], [bool; 2]) {
     let (mark, marked) = (MarkedWord::mark(), MarkedWord::of(word));
     let numbers = [mark.bits(), marked.bits(), marked.word().bits()];
     (numbers, [mark.is_word(), marked.is_word()])
 }
 
-// Returns what a tree's word contains when it is unlinked, when it is linked, then with a parent and then red, with the parent's word, and whether it
-// is then red and linked.
+// Returns the numbers of a tree's word that is unlinked, that is linked, that then gets a parent, and that then becomes red. Also returns the word of
+// its parent, and whether the word is then red and linked.
 fn tree_numbers(parent: Option<Place>) -> ([u64; 5], bool) {
     let mut word = TreeWord::linked();
     let black = word.number();
@@ -45,7 +45,9 @@ fn tree_numbers(parent: Option<Place>) -> ([u64; 5], bool) {
     ([unlinked, black, below, word.number(), above], is_red)
 }
 
-// Reads words of 4 bytes back: a word, one that may be the mark, a place, and a tree's word of a red member below it, and whether each names a place.
+// Writes the place into words of 4 bytes of four kinds, and returns the numbers that are read back. The four kinds are a word, a word that may be the
+// mark, a place word, and the tree word of a red member with this parent. Also returns whether the mark is a word, whether the marked word is one, and
+// whether the tree word is linked and red.
 #[tactic(auto, using(ic_link_ops::proofs::WidthLemmas::word_kept))]
 fn narrow_numbers(place: Place) -> ([u64; 4], [bool; 3])
     requires named { HasRoom narrow place }
@@ -67,6 +69,7 @@ fn narrow_numbers(place: Place) -> ([u64; 4], [bool; 3])
     (numbers, are_words)
 }
 
+// Words of 4 bytes for the first and for the last place must be read back unchanged.
 // Promise: the word of the last place that 4 bytes name.
 #[test]
 fn numbers_of_narrow_words(rt: HostRuntime) {

@@ -1,4 +1,4 @@
--- For callers: a list and its objects together, as the values that stand at its members, in order.
+-- Lemmas for callers about a list together with the values of the objects at its members, in the order of the list.
 use Rattle.std.proofs.Common.{◌≡◌, ◌≢◌, Bool, Option, Some, IsSome, IfSome, List, [], drop, take, ◌≤◌, is_some, length, ◌∷◌, ◌++◌, Result, OnOk, OnErr, ℕ, sym, ap, ◌∙◌, inl, inr}
 use Rattle.std.proofs.lemmas.List.{take_all}
 use Rattle.std.proofs.lemmas.Option.{same_Some}
@@ -13,7 +13,7 @@ use Rattle.ic_linked_list.specs.ListedValues.{HasValues}
 use Rattle.ic_link_ops.proofs.Calling.{accepted, still_represented}
 use Rattle.ic_link_ops.proofs.PlacedValues.{stand_begins, stand_beside, stand_placed, stand_rest}
 
--- the first of them
+-- if the objects at the places s have the values v and then `values`, the object at the first place of s has the value v
 front_of : {T : Type 0} {objects : Objects T} (s : List Place) {v : T} {values : List T} → StandAt objects s (v ∷ values)
     → (p : Place) × (Some p ≡ first s) × (object_at objects p ≡ Some v)
 front_of s {v} {values} stand = elim (stand_begins s stand) [
@@ -22,7 +22,7 @@ front_of s {v} {values} stand = elim (stand_begins s stand) [
 ]
 
 module _ {E T : Type 0} {n : E → Neighbors} {linked : E → Bool} where
-  -- the members are represented and placed, as `iter` asks
+  -- the table represents the members of a list of values, and an object is at each member. A call of `iter` requires these facts
   pub has_placed : {t : Table E} {list : Ends} {objects : Objects T} {values : List T} → HasValues n linked t list objects values
       → RepresentsPlaced (Represents n t list) objects
   has_placed has = record { members = has.members; shown = has.shown; placed = has.placed }
@@ -30,19 +30,20 @@ module _ {E T : Type 0} {n : E → Neighbors} {linked : E → Bool} where
   stand_of : {t : Table E} {list : Ends} {objects : Objects T} {values : List T} (has : HasValues n linked t list objects values) → StandAt objects has.members values
   stand_of has = record { placed = has.placed; are = has.are }
 
-  -- the value at a position on the first member
+  -- a position on the first member of a list of values is on an object with the first value
   pub has_first : {t : Table E} {list : Ends} {objects : Objects T} {v : T} {values : List T} {position : Option Place} → HasValues n linked t list objects (v ∷ values)
       → ((s : List Place) → Represents n t list s → position ≡ first s) → IsSome position × (object_there objects position ≡ Some v)
   has_first {objects = objects} has answer =
       let f = front_of has.members (stand_of has) in
       let on = answer has.members has.shown ∙ sym f.1 in (ap is_some on, ap (object_there objects) on ∙ f.2)
 
-  -- at the end of a loop that has linked all of them
+  -- a list of the first `count` values is a list of all values, if `count` is at least the number of values. This is so at the end of a loop that
+  -- links them one by one
   pub has_all : {t : Table E} {list : Ends} {objects : Objects T} {values : List T} {count : ℕ} → HasValues n linked t list objects (take count values)
       → length values ≤ count → HasValues n linked t list objects values
   has_all {values = values} {count} has over = rw (take_all count values over) at has
 
-  -- AFTER `cover`, whatever it answered
+  -- AFTER A CALL OF `cover` a list of values stays one, because no entry changes, whatever the call returns
   pub has_covered : {old new : Table E} {list : Ends} {objects : Objects T} {values : List T} → ((q : Place) → new.entry q ≡ old.entry q)
       → HasValues n linked old list objects values → HasValues n linked new list objects values
   has_covered stays has = record {
@@ -53,7 +54,8 @@ module _ {E T : Type 0} {n : E → Neighbors} {linked : E → Bool} where
     vacant = λ p none. rw (stays p) (has.vacant p none);
   }
 
-  -- AFTER `from_box` AND `push_back` of the new object, which is not refused
+  -- AFTER `from_box` AND `push_back` of a new object, the list has the old values and then the value of the new object. The link of the new object is
+  -- not refused
   pub has_pushed : {t0 t1 : Table E} {list0 list1 : Ends} {old new : Objects T} {values all : List T} {p : Place} {v : T} {A X : Type 0} (Same : Type 0) (r : Result A X)
       → HasValues n linked t0 list0 old values → Places old new p v → ((s : List Place) → Represents n t0 list0 s → OnOk r (Represents n t1 list1 (s ++ p ∷ [])))
       → OnOk r (LinksAlso linked t0 t1 p) → OnErr r (IsLinked linked t0 p × Same) → all ≡ values ++ v ∷ [] → HasValues n linked t1 list1 new all
@@ -70,7 +72,7 @@ module _ {E T : Type 0} {n : E → Neighbors} {linked : E → Bool} where
             links.others q other ∙ has.vacant q (sym (others_placed places q other) ∙ none);
       }
 
-  -- AFTER `pop_front` AND `into_box` of the object that came off: what was taken is the first value, and the others are left
+  -- AFTER `pop_front` AND `into_box` of the popped object, the object that was taken has the first value, and the list has the other values
   pub has_taken : ((e : E) → (n e).linked ≡ linked e) → {t0 t1 : Table E} {list0 list1 : Ends} {old new : Objects T} {v taken : T} {values : List T} {popped : Option Place} {p : Place}
       → HasValues n linked t0 list0 old (v ∷ values) → ((s : List Place) → Represents n t0 list0 s → popped ≡ first s) → ((s : List Place) → Represents n t0 list0 s → Represents n t1 list1 (drop 1 s))
       → IfSome popped (Unlinks linked t0 t1) → popped ≡ Some p → object_at old p ≡ Some taken → Frees old new p

@@ -1,7 +1,7 @@
-//! The kind of doubly linked lists: each entry names both neighbors, and a list stores both ends.
+//! The kind of doubly linked lists. Each entry names both neighbors of its place, and a list stores its first and last members.
 //!
 //! ```text
-//! let list: Chain<DoublyLinked, Job> = Chain::new();
+//! let list: LinkList<DoublyLinked, Job> = LinkList::new();
 //! ```
 
 ghost use Rattle.std.specs.Prelude.{true, ⊤};
@@ -13,7 +13,7 @@ use ic_link_ops::linked_list::LinkedListOps;
 use ic_link_ops::{LinkOps, PlaceWord};
 use ic_unsafe_ref::Place;
 
-/// Lists whose entries name both neighbors.
+/// The kind of lists whose entries name both neighbors of a place.
 pub struct DoublyLinked;
 
 impl ListKind for DoublyLinked {

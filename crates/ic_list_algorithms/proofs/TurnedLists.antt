@@ -1,4 +1,4 @@
--- A list that is cut after its first members, and put together the other way round.
+-- Lemmas about a list that is cut after its first n members, and whose parts are put together in exchanged order.
 use Rattle.std.proofs.Common.{ℕ, Option, List, [], ◌++◌, drop, sym, ◌∙◌, subst, append-nil}
 use Rattle.std.specs.Prelude.{take}
 use Rattle.std.proofs.lemmas.List.{take-append-drop}
@@ -8,16 +8,16 @@ use Rattle.ic_link_ops.proofs.SequenceLemmas.{absent_left, absent_right, absent_
 
 module _ {E W : Type 0} {between : E → Option Place → Option Place → Type 0} {kept : Option Place → W} {t : Table E} {list : ListHead W} {s : List Place} (n : ℕ)
     (shown : RepresentsChain between kept t list s) where
-  -- what is represented, cut
+  -- the table represents for the list the first n members of s and then the other members
   pub cut_represented : RepresentsChain between kept t list (take n s ++ drop n s)
   cut_represented = subst (λ (l : List Place). RepresentsChain between kept t list l) (sym (take-append-drop n s)) shown
 
-  -- its parts share no member
+  -- the two parts of s share no member
   pub parts_apart : IsDisjoint (take n s) (drop n s ++ [])
   parts_apart = subst (λ (l : List Place). IsDisjoint (take n s) l) (sym (append-nil (drop n s))) (distinct_disjoint (take n s) (drop n s) cut_represented.distinct)
 
 module _ {E : Type 0} {old mid new : Table E} (n : ℕ) (s : List Place) where
-  -- nothing but entries of members is changed, first by the cut, and then by the splice
+  -- THE FRAME: the cut, and then the splice, change no entry except those of members of s
   pub turned_frame : ChangesOnlyIn old mid (take n s ++ drop n s) → ChangesOnlyIn mid new (drop n s ++ (take n s ++ [])) → ChangesOnlyIn old new s
   turned_frame cut spliced = record {
     extent = spliced.extent ∙ cut.extent;

@@ -1,4 +1,4 @@
--- A walk over a list from its front, member by member, and what it has found so far.
+-- Lemmas about a walk over a list from its front, and about what the walk has found after each member.
 use Rattle.std.specs.Prelude.{take}
 use Rattle.std.proofs.Common.{◌≡◌, ◌+◌, ◌-◌, ◌<◌, ◌≤◌, ℕ, zero, suc, Bool, true, false, not, ◌&&◌, Option, Some, None, List, [], ◌∷◌, ◌++◌, drop, length, length-append, append_assoc, append-nil, refl, sym, ◌∙◌, ap, subst, arith}
 use Rattle.std.specs.Prelude.{IsTrue, ◌↔◌}
@@ -13,7 +13,7 @@ use Rattle.ic_link_ops.proofs.Walks.{stretch_through}
 use Rattle.ic_list_algorithms.specs.Ordered.{IsOrdered}
 use Rattle.ic_list_algorithms.specs.Walks.{test_at, HoldsNowhere, comes_after, ordered_from, are_neighbors_ordered}
 
--- what holds of each holds of one in the middle, and of the last first
+-- a fact about each member of a list of places holds for a member p in the middle. `last_holds` says this of the last member of the front
 pub middle_holds : (P : Place → Type 0) (front back : List Place) {p : Place} → AllByRecursion P (front ++ p ∷ back) → P p
 middle_holds P [] back h = h.0
 middle_holds P (x ∷ front) back h = middle_holds P front back h.1
@@ -24,7 +24,8 @@ last_holds P (x ∷ []) back {q} e h = let same : x ≡ q = cc in subst P same h
 last_holds P (x ∷ y ∷ front) back e h = last_holds P (y ∷ front) back e h.1
 
 module _ {E : Type 0} (between : E → Option Place → Option Place → Type 0) where
-  -- THE WALK has passed a front of s, and comes to `current`, with `prev` before that
+  -- THE WALK HAS COME to `current`: it has passed the members `done` of s, and the members `rest` from `current` on are left. `prev` is the last
+  -- passed member
   pub record WalksTo (t : Table E) (s : List Place) (prev current : Option Place) : Type 0 where
     pub done : List Place
     pub rest : List Place
@@ -34,28 +35,28 @@ module _ {E : Type 0} (between : E → Option Place → Option Place → Type 0)
     pub keeps : prev ≡ last done
 
 module _ {E : Type 0} {between : E → Option Place → Option Place → Type 0} where
-  -- at first it is on the first member
+  -- AT FIRST the walk is on the first member, has passed no members, and all members of s are left
   pub walk_begins : {W : Type 0} {kept : Option Place → W} {t : Table E} {list : ListHead W} {s : List Place} {current : Option Place} → RepresentsChain between kept t list s
       → current ≡ list.head → (k : WalksTo between t s None current) × (k.done ≡ []) × (k.rest ≡ s)
   walk_begins {s = s} shown on = (record { done = []; rest = s; parts = refl; chain = shown.chain; at = on ∙ shown.head; keeps = refl }, refl, refl)
 
-  -- at the end it has passed all
+  -- AT THE END, when `current` is none, no members are left, and the walk has passed all members of s
   pub walk_ends : {t : Table E} {s : List Place} {prev current : Option Place} (k : WalksTo between t s prev current) → current ≡ None → (k.rest ≡ []) × (k.done ≡ s)
   walk_ends {s = s} k over =
       let none : k.rest ≡ [] = nothing_first k.rest (sym over ∙ k.at) in
       (none, sym (k.parts ∙ ap (λ (l : List Place). k.done ++ l) none ∙ append-nil k.done))
 
-  -- the member that it comes to, in its place
+  -- if the walk is on the member p, p is the first of the members that are left, and s is the passed members, then p and then the others
   pub walk_at : {t : Table E} {s : List Place} {prev current : Option Place} {p : Place} (k : WalksTo between t s prev current) → current ≡ Some p
       → (k.rest ≡ p ∷ drop 1 k.rest) × (s ≡ k.done ++ p ∷ drop 1 k.rest)
   walk_at k on = let is = first_is k.rest (sym on ∙ k.at) in (is, k.parts ∙ ap (λ (l : List Place). k.done ++ l) is)
 
-  -- it is linked: how it stands
+  -- the entry of the member p that the walk is on is between the last passed member and the next member
   pub walk_between : {t : Table E} {s : List Place} {prev current : Option Place} {p : Place} (k : WalksTo between t s prev current) → current ≡ Some p
       → between (t.entry p) (last k.done) (first (drop 1 k.rest))
   walk_between {t} {p = p} k on = (subst (λ (l : List Place). IsChain between t.entry (last k.done) l None) (walk_at k on).0 k.chain).0
 
-  -- what holds of each member holds of this one, and of the one before it
+  -- a fact about each member of s holds for the member p that the walk is on. `walk_held` says this of the member before p
   pub walk_holds : (P : Place → Type 0) {t : Table E} {s : List Place} {prev current : Option Place} {p : Place} (k : WalksTo between t s prev current) → current ≡ Some p
       → AllByRecursion P s → P p
   walk_holds P {p = p} k on all = middle_holds P k.done (drop 1 k.rest) (subst (AllByRecursion P) (walk_at k on).1 all)
@@ -64,9 +65,9 @@ module _ {E : Type 0} {between : E → Option Place → Option Place → Type 0}
       → AllByRecursion P s → P q
   walk_held P k on all = last_holds P k.done k.rest (sym k.keeps ∙ on) (subst (AllByRecursion P) k.parts all)
 
-  -- `leads`: the law that an entry leads on
+  -- `leads`: the law that an entry, with the place before it, names the place after it
   module _ (step : E → Option Place → Option Place) (leads : (e : E) (b a : Option Place) → between e b a → step e b ≡ a) where
-    -- ONE STEP
+    -- ONE STEP moves the walk from the member p to the next member: p is passed now, and the members after p are left
     pub walk_goes : {t : Table E} {s : List Place} {prev current next : Option Place} {p : Place} (k : WalksTo between t s prev current) → current ≡ Some p
         → next ≡ step (t.entry p) prev → (m : WalksTo between t s (Some p) next) × (k.rest ≡ p ∷ m.rest) × (m.done ≡ k.done ++ p ∷ [])
     walk_goes {t} {s} {p = p} k on read =
@@ -84,14 +85,14 @@ module _ {E : Type 0} {between : E → Option Place → Option Place → Type 0}
           refl,
         )
 
-    -- what is left, as the entries lead through it
+    -- the number of places to which the entries lead from `current` on is the number of members that are left
     walk_left : (t : Table E) → ((q : Place) (b a : Option Place) → between (t.entry q) b a → IsCovered t q) → {s : List Place} → IsDistinct s
         → {prev current : Option Place} (k : WalksTo between t s prev current) → length (walked step t prev current None) ≡ length k.rest
     walk_left t covered distinct {prev} {current} k =
         ap length (rw k.keeps (stretch_through step leads t covered {b = last k.done} {from = current} {to = last k.rest}
         (record { distinct = distinct_right k.done k.rest (subst IsDistinct k.parts distinct); chain = k.chain; starts = k.at; ends = refl })))
 
-    -- and each step leaves one less
+    -- each step leaves one member less
     pub walk_fewer : (t : Table E) → ((q : Place) (b a : Option Place) → between (t.entry q) b a → IsCovered t q) → {s : List Place} → IsDistinct s
         → {prev current next : Option Place} {p : Place} (k : WalksTo between t s prev current) → current ≡ Some p → next ≡ step (t.entry p) prev
         → length (walked step t (Some p) next None) < length (walked step t prev current None)
@@ -99,14 +100,15 @@ module _ {E : Type 0} {between : E → Option Place → Option Place → Type 0}
         let m = walk_goes k on read in
         omega (arith, walk_left t covered distinct k, walk_left t covered distinct m.0, ap length m.1)
 
--- HOW MANY were passed
+-- THE NUMBER of passed members: if n members were passed before a step, n + 1 members are passed after the step. `one_left` counts down from n in the
+-- same way
 pub one_more : (done : List Place) (p : Place) {n : ℕ} {more : List Place} → n ≡ length done → more ≡ done ++ p ∷ [] → n + 1 ≡ length more
 one_more done p e m = omega (arith, e, ap length m, length-append done (p ∷ []))
 
 pub one_left : (done : List Place) (p : Place) {n left : ℕ} {more : List Place} → n ≡ length done + left → more ≡ done ++ p ∷ [] → 1 ≤ left → n ≡ length more + (left - 1)
 one_left done p e m some = omega (arith, e, some, ap length m, length-append done (p ∷ []))
 
--- what is after the first n, and these
+-- dropping the n passed members from all members leaves `rest`. `take_passed` says that the first n members are the passed members
 pub drop_passed : (done rest : List Place) (n : ℕ) → n ≡ length done → drop n (done ++ rest) ≡ rest
 drop_passed [] rest n e = rw e refl
 drop_passed (x ∷ done) rest n e = rw e (drop_passed done rest (length done) refl)
@@ -134,18 +136,18 @@ take_beyond (x ∷ s) zero h = absurd (omega (arith, h))
 take_beyond (x ∷ s) (suc n) h = ap (λ (l : List Place). x ∷ l) (take_beyond s n (omega (arith, h)))
 
 module _ {E : Type 0} {between : E → Option Place → Option Place → Type 0} {t : Table E} {s : List Place} {prev current : Option Place} {n : ℕ} (k : WalksTo between t s prev current) where
-  -- THE NTH is here, where n were passed,
+  -- THE MEMBER AT POSITION n is `current`, if the walk has passed n members
   pub nth_here : n ≡ length k.done → current ≡ first (drop n s)
   nth_here e = k.at ∙ ap first (sym (ap (drop n) k.parts ∙ drop_passed k.done k.rest n e))
 
   pub nth_is : {p : Place} → current ≡ Some p → n ≡ length k.done → Some p ≡ first (drop n s)
   nth_is on e = sym on ∙ nth_here e
 
-  -- with the gap after the first n,
+  -- the member right before the gap after the first n members is `prev`, if the walk has passed n members
   pub gap_here : n ≡ length k.done → prev ≡ last (take n s)
   gap_here e = k.keeps ∙ ap last (sym (ap (take n) k.parts ∙ take_passed k.done k.rest n e))
 
-  -- and beyond the end where all were passed
+  -- the list has at most n members, if the walk has passed all members and did not come to the member at position n
   pub all_few : (left : ℕ) → current ≡ None → n ≡ length k.done + left → length s ≤ n
   all_few left over e = omega (arith, e, ap length (walk_ends k over).1)
 
@@ -156,32 +158,33 @@ module _ {E : Type 0} {between : E → Option Place → Option Place → Type 0}
   gap_beyond over few = k.keeps ∙ ap last ((walk_ends k over).1 ∙ sym (take_beyond s n few))
 
 module _ (holds : Place → Bool) where
-  -- NOWHERE so far, nor at this one
+  -- NOWHERE SO FAR: if the test holds for no member of `done`, and not for p, it holds for no member of `done` followed by p
   pub nowhere_more : (done : List Place) {more : List Place} {p : Place} → HoldsNowhere holds done → holds p ≡ false → more ≡ done ++ p ∷ [] → HoldsNowhere holds more
   nowhere_more done {p = p} h here is = subst (HoldsNowhere holds) (sym is) (all_both (λ x. holds x ≡ false) done (p ∷ []) h (here, tt))
 
-  -- and so in all of it
+  -- if the test holds for no member of `done`, which is all of s, it holds for no member of s
   pub nowhere_all : {done s : List Place} → done ≡ s → HoldsNowhere holds done → HoldsNowhere holds s
   nowhere_all same h = subst (HoldsNowhere holds) same h
 
--- the test of a place where an object stands
+-- the test of a place p with an object v returns what the test of v returns
 pub test_there : {V : Type 0} (holds : V → Bool) (objects : Objects V) (p : Place) {v : V} {b : Bool} → object_at objects p ≡ Some v → holds v ≡ b → test_at holds objects p ≡ b
 test_there holds objects p is e = rw is e
 
 module _ {X : Type 0} (lt : X → X → Bool) {answer : Bool} (prev : Option X) {rest : List X} (so_far : answer ≡ ordered_from lt prev rest) where
-  -- NEIGHBORS IN ORDER so far: what follows of one more,
+  -- NEIGHBORS IN ORDER SO FAR: if the next member p may come after `prev`, the answer is whether the members after p are in order. `order_breaks`
+  -- says that it is false if p may not come after `prev`
   pub order_goes : {p : X} {r : List X} → rest ≡ p ∷ r → comes_after lt prev p ≡ true → answer ≡ ordered_from lt (Some p) r
   order_goes is after = let whole = rw is at so_far in rw after at whole
 
   pub order_breaks : {p : X} {r : List X} → rest ≡ p ∷ r → comes_after lt prev p ≡ false → false ≡ answer
   order_breaks is after = let whole = rw is at so_far in sym (rw after at whole)
 
-  -- and at the end
+  -- at the end, when no members are left, the answer is true
   pub order_ends : rest ≡ [] → true ≡ answer
   order_ends none = sym (rw none at so_far)
 
 module _ {X : Type 0} (lt : X → X → Bool) where
-  -- IN ORDER beside each other, and so in order, by an order
+  -- IN ORDER: if the test is a strict weak order, and no member goes before the member right before it, no member goes before an earlier member
   module _ (order : IsStrictWeakOrder lt) where
     from_neighbors : (p : X) (s : List X) → ordered_from lt (Some p) s ≡ true → AllByRecursion (λ y. lt y p ≡ false) s × IsOrdered lt s
     from_neighbors p [] e = (tt, tt)

@@ -1,5 +1,4 @@
-//! How `retain` and `dedup_by` choose the members that they keep: by a test of a member, and of the one that was kept
-//! last.
+//! How `retain` and `dedup_by` choose the members that they keep. Both call a test of a member and of the member that was kept last.
 
 ghost use Rattle.std.specs.Prelude.{◌≡◌, Bool, Option, Some, None};
 ghost use Rattle.std.specs.Fn.{ComputesKey, ComputesOnPairs, CalledAt, CalledAtTwo};
@@ -8,24 +7,24 @@ ghost use Rattle.ic_list_algorithms.specs.Sifts.{by_itself, differs};
 
 /// A test that decides for each member whether it is kept.
 pub(crate) trait Keeps<V> {
-    // The states and members for which the test may be called.
+    // The states of the test in which it may be called.
     ghost ready: { Self → Type 0 };
 
-    // From this state on, each call returns what the mathematical test says of the member that was kept last, if any,
-    // and of the member itself.
+    // From the given state on, each call returns what the given mathematical test returns. The arguments of the test are the member that was kept
+    // last, if there is one, and the member itself.
     ghost obeys: { Self → (Option V → V → Bool) → Type 0 };
 
-    // What one call for the member, with the one that was kept last, may return, and the state that it leaves.
+    // What one call may return for a member and for the member that was kept last, and the state that the call leaves.
     ghost asks: { Self → Option V → V → Bool → Self → Type 0 };
 
-    /// Whether the member is kept, given that none was kept before.
+    /// Whether the member is kept, if no member was kept before.
     fn keeps_first(&mut self, member: &V) -> bool
         requires ready { ready self.old }
         ensures again { ready self.new }
         ensures answer { (test : Option V → V → Bool) → obeys self.old test → obeys self.new test × (result ≡ test None member.now) }
         ensures asked { asks self.old None member.now result self.new };
 
-    /// Whether the member is kept, given that `prev` was kept last.
+    /// Whether the member is kept, if `prev` is the member that was kept last.
     fn keeps(&mut self, prev: &V, member: &V) -> bool
         requires ready { ready self.old }
         ensures again { ready self.new }
@@ -33,14 +32,14 @@ pub(crate) trait Keeps<V> {
         ensures asked { asks self.old (Some prev.now) member.now result self.new };
 }
 
-/// A choice that keeps the members which pass a test.
+/// The choice of `retain`: it keeps the members that pass a test.
 #[derive(Drop)]
 pub(crate) struct Passes<F> {
     test: F,
 }
 
 impl<F> Passes<F> {
-    /// A choice that keeps the members which pass this test.
+    /// Makes a choice that keeps the members which pass the test `test`.
     pub(crate) fn new(test: F) -> Passes<F>
         ensures { result.test ≡ test }
     {
@@ -65,14 +64,14 @@ impl<V, F: FnMut(&V) -> bool> Keeps<V> for Passes<F> {
     }
 }
 
-/// A choice that keeps each member which is not the same as the one kept last.
+/// The choice of `dedup_by`: it keeps each member that is not the same as the member that was kept last.
 #[derive(Drop)]
 pub(crate) struct Differs<F> {
     same: F,
 }
 
 impl<F> Differs<F> {
-    /// A choice that keeps each member which is not the same as the one kept last, by this test of the two.
+    /// Makes a choice that keeps each member that is not the same as the member that was kept last, by the test `same`.
     pub(crate) fn new(same: F) -> Differs<F>
         ensures { result.same ≡ same }
     {

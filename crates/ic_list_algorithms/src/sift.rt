@@ -16,16 +16,16 @@ ghost use Rattle.ic_list_algorithms.specs.Walks.{test_at};
 ghost use Rattle.ic_list_algorithms.specs.Sifts.{sift as sifted, sift_out, keep_at, dedup, duplicates, SiftsTo, SiftsOne};
 
 use crate::keeps::{Differs, Keeps, Passes};
-use ic_chain::{Chain, ForwardLinks};
+use ic_chain::{ForwardLinks, LinkList};
 use ic_link_ops::LinkOps;
 use ic_unsafe_ref::{Place, Values};
 
-/// Keeps the members for which the test holds, in their order, and unlinks the others.
+/// Keeps the members for which the test holds, in their order, and unlinks the other members.
 ///
-/// It requires that all members are placed. It walks from the front, and calls the test once for each member. The test may change its own
+/// The call requires that an object is at each member. It walks from the front, and calls the test once for each member. The test may change its own
 /// state between calls. O(n), and no memory.
 pub fn retain<K: ForwardLinks<L>, T, V, L: LinkOps, O: Values<V>, F: FnMut(&V) -> bool>(
-    list: &mut Chain<K, T>,
+    list: &mut LinkList<K, T>,
     links: &mut L,
     objects: &O,
     test: F,
@@ -43,12 +43,12 @@ pub fn retain<K: ForwardLinks<L>, T, V, L: LinkOps, O: Values<V>, F: FnMut(&V) -
     sift::<K, T, V, L, O, Passes<F>>(list, links, objects, &mut keep);
 }
 
-/// Keeps the first of neighbors that are the same, and unlinks the others.
+/// Of neighboring members that are the same, keeps the first member, and unlinks the others.
 ///
-/// The test gets the member that was kept last, and the one after it. It requires that all members are placed. O(n), with one call of the
+/// The test gets the member that was kept last, and the next member. The call requires that an object is at each member. O(n), with one call of the
 /// test for each member except the first, and no memory.
 pub fn dedup_by<K: ForwardLinks<L>, T, V, L: LinkOps, O: Values<V>, F: FnMut(&V, &V) -> bool>(
-    list: &mut Chain<K, T>,
+    list: &mut LinkList<K, T>,
     links: &mut L,
     objects: &O,
     same: F,
@@ -66,9 +66,9 @@ pub fn dedup_by<K: ForwardLinks<L>, T, V, L: LinkOps, O: Values<V>, F: FnMut(&V,
     sift::<K, T, V, L, O, Differs<F>>(list, links, objects, &mut keep);
 }
 
-// Keeps the members that the choice keeps, and unlinks the others.
+// Keeps the members that the given choice keeps, and unlinks the other members.
 fn sift<K: ForwardLinks<L>, T, V, L: LinkOps, O: Values<V>, S: Keeps<V>>(
-    list: &mut Chain<K, T>,
+    list: &mut LinkList<K, T>,
     links: &mut L,
     objects: &O,
     keep: &mut S,
@@ -93,9 +93,9 @@ fn sift<K: ForwardLinks<L>, T, V, L: LinkOps, O: Values<V>, S: Keeps<V>>(
     }
 }
 
-// Keeps the member, or unlinks it. Returns the member that was kept last, and the next one.
+// Keeps the member, or removes and unlinks it, as the choice says. Returns the member that was kept last, and the next member.
 fn sift_one<K: ForwardLinks<L>, T, V, L: LinkOps, O: Values<V>, S: Keeps<V>>(
-    list: &mut Chain<K, T>,
+    list: &mut LinkList<K, T>,
     links: &mut L,
     objects: &O,
     keep: &mut S,
@@ -122,7 +122,7 @@ fn sift_one<K: ForwardLinks<L>, T, V, L: LinkOps, O: Values<V>, S: Keeps<V>>(
     (prev, after)
 }
 
-// Whether the member is kept, given the one that was kept last.
+// Whether the choice keeps `member`, if `prev` is the member that was kept last.
 fn is_kept<V, O: Values<V>, S: Keeps<V>>(
     objects: &O,
     keep: &mut S,

@@ -1,4 +1,4 @@
-//! Walks over a list: how many members it has, which is the nth, the first for which a test holds, and whether it is in order.
+//! Walks over a list that return how many members it has, its nth member, the first member for which a test holds, or whether it is in order.
 //!
 //! ```text
 //! let members = len(&list, &links);
@@ -17,12 +17,12 @@ ghost use Rattle.ic_list_algorithms.specs.Walks.{test_at, HoldsNowhere, HoldsFir
 
 use crate::precedes::Precedes;
 use crate::whole::gap_at;
-use ic_chain::{Chain, ForwardLinks};
+use ic_chain::{ForwardLinks, LinkList};
 use ic_link_ops::LinkOps;
 use ic_unsafe_ref::{Place, UnsafeRef, Values};
 
-/// How many members the list has. It walks from the front: O(n), one reading for each.
-pub fn len<K: ForwardLinks<L>, T, L: LinkOps>(list: &Chain<K, T>, links: &L) -> usize
+/// The number of members of the list. The call walks from the front, and reads one entry for each member: O(n).
+pub fn len<K: ForwardLinks<L>, T, L: LinkOps>(list: &LinkList<K, T>, links: &L) -> usize
     requires shown { RepresentsSomeChain K.Between K.kept (L.table links.now) list.now }
     ensures { (s : List Place) → RepresentsChain K.Between K.kept (L.table links.now) list.now s → result ≡ length s }
 {
@@ -37,9 +37,9 @@ pub fn len<K: ForwardLinks<L>, T, L: LinkOps>(list: &Chain<K, T>, links: &L) -> 
     count
 }
 
-/// The member at position `n`, counted from 0, or `None` if there are no more than n. It walks from the front: O(n).
+/// The member at position `n`, counted from 0, or `None` if the list has at most `n` members. The call walks from the front: O(n).
 pub fn nth<K: ForwardLinks<L>, T, L: LinkOps>(
-    list: &Chain<K, T>,
+    list: &LinkList<K, T>,
     links: &L,
     n: usize,
 ) -> Option<UnsafeRef<T>>
@@ -53,12 +53,12 @@ pub fn nth<K: ForwardLinks<L>, T, L: LinkOps>(
     }
 }
 
-/// The position of the first member for which the test holds, counted from 0, or `None` if it holds for none.
+/// The position of the first member for which the test holds, counted from 0, or `None` if the test holds for no member.
 ///
-/// It requires that all members are placed. It walks from the front, and calls the test once for each member up to that one. The test may
-/// change its own state between calls. O(n).
+/// The call requires that an object is at each member. It walks from the front, and calls the test once for each member up to the found member. The
+/// test may change its own state between calls. O(n).
 pub fn position<K: ForwardLinks<L>, T, V, L: LinkOps, O: Values<V>, F: FnMut(&V) -> bool>(
-    list: &Chain<K, T>,
+    list: &LinkList<K, T>,
     links: &L,
     objects: &O,
     test: F,
@@ -77,9 +77,9 @@ pub fn position<K: ForwardLinks<L>, T, V, L: LinkOps, O: Values<V>, F: FnMut(&V)
     Some(at)
 }
 
-/// The first member for which the test holds, or `None` if it holds for none. It requires and costs what [`position`] does. O(n).
+/// The first member for which the test holds, or `None` if the test holds for no member. The call requires and costs what [`position`] does. O(n).
 pub fn find<K: ForwardLinks<L>, T, V, L: LinkOps, O: Values<V>, F: FnMut(&V) -> bool>(
-    list: &Chain<K, T>,
+    list: &LinkList<K, T>,
     links: &L,
     objects: &O,
     test: F,
@@ -98,9 +98,9 @@ pub fn find<K: ForwardLinks<L>, T, V, L: LinkOps, O: Values<V>, F: FnMut(&V) -> 
     Some(UnsafeRef::new(place))
 }
 
-// The first member for which the test holds, and its position.
+// The first member for which the test holds, and the position of this member, or none if there is no such member.
 fn find_first<K: ForwardLinks<L>, T, V, L: LinkOps, O: Values<V>, F: FnMut(&V) -> bool>(
-    list: &Chain<K, T>,
+    list: &LinkList<K, T>,
     links: &L,
     objects: &O,
     test: &mut F,
@@ -129,13 +129,13 @@ fn find_first<K: ForwardLinks<L>, T, V, L: LinkOps, O: Values<V>, F: FnMut(&V) -
     None
 }
 
-/// Whether the list is in order: no member has to go before the one before it. It walks from the front, with one comparison for each
-/// pair of neighbors, up to the first pair that is out of order.
+/// Whether the list is in order: no member has to go before the member right before it. The call walks from the front, and compares each pair of
+/// neighbors once, up to the first pair that is out of order.
 ///
-/// It requires that all members are placed. If the order is an order of values, no member then has to go before any of those
-/// before it. O(n).
+/// The call requires that an object is at each member. If the order follows a strict weak order of values, then no member of a list in order has to
+/// go before an earlier member. O(n).
 pub fn is_sorted_by<K: ForwardLinks<L>, T, V, L: LinkOps, O: Values<V>, C: Precedes<V>>(
-    list: &Chain<K, T>,
+    list: &LinkList<K, T>,
     links: &L,
     objects: &O,
     order: &mut C,
@@ -163,7 +163,7 @@ pub fn is_sorted_by<K: ForwardLinks<L>, T, V, L: LinkOps, O: Values<V>, C: Prece
     true
 }
 
-// Whether the member may follow the one before it, if there is one: it does not go before that one in the order.
+// Whether `member` may come after the member `prev`: it does not go before `prev` in the order, or `prev` is none.
 fn may_stand_after<V, O: Values<V>, C: Precedes<V>>(
     objects: &O,
     order: &mut C,

@@ -1,4 +1,4 @@
-//! Calls that append a list to another, and one that rotates a list.
+//! Calls that append a list to another list, and a call that rotates a list.
 //!
 //! ```text
 //! append(&mut list, &mut links, &mut other);   // `other` is empty then
@@ -11,17 +11,17 @@ ghost use Rattle.ic_link_ops.specs.Edits.{Splices};
 ghost use Rattle.ic_link_ops.specs.Chains.{RepresentsChain, RepresentsSomeChain, empty_list};
 ghost use Rattle.ic_list_algorithms.specs.TwoLists.{TwoLists};
 
-use ic_chain::{Chain, DoubleEnded, ForwardLinks, SingleEnded};
+use ic_chain::{DoubleEnded, ForwardLinks, LinkList, SingleEnded};
 use ic_link_ops::LinkOps;
 use ic_unsafe_ref::Place;
 
-/// Appends all members of another list to this one, and leaves the other empty. O(1).
+/// Appends all members of another list to this list, and leaves the other list empty. O(1).
 ///
-/// It requires that the two share no member. No link is acquired or released.
+/// The call requires that the two lists share no member. No link is acquired or released.
 pub fn append<K: DoubleEnded + ForwardLinks<L>, T, L: LinkOps>(
-    list: &mut Chain<K, T>,
+    list: &mut LinkList<K, T>,
     links: &mut L,
-    other: &mut Chain<K, T>,
+    other: &mut LinkList<K, T>,
 )
     requires two { TwoLists (RepresentsChain K.Between K.kept) (L.table links.old) list.old other.old }
     ensures appended { (s u : List Place) → RepresentsChain K.Between K.kept (L.table links.old) list.old s
@@ -36,14 +36,14 @@ pub fn append<K: DoubleEnded + ForwardLinks<L>, T, L: LinkOps>(
     list.splice_between(links, last, given, end, None);
 }
 
-/// Appends all members of another list to this one, and leaves the other empty, for lists that do not store their last member: it walks
-/// to the last one of this list. O(n).
+/// Appends all members of another list to this list, and leaves the other list empty. It is for lists that do not store their last member, so it
+/// walks to the last member of this list. O(n).
 ///
-/// It requires what [`append`] does. No link is acquired or released.
+/// The call requires what [`append`] requires. No link is acquired or released.
 pub fn append_walking<K: SingleEnded + ForwardLinks<L>, T, L: LinkOps>(
-    list: &mut Chain<K, T>,
+    list: &mut LinkList<K, T>,
     links: &mut L,
-    other: &mut Chain<K, T>,
+    other: &mut LinkList<K, T>,
 )
     requires two { TwoLists (RepresentsChain K.Between K.kept) (L.table links.old) list.old other.old }
     ensures appended { (s u : List Place) → RepresentsChain K.Between K.kept (L.table links.old) list.old s
@@ -57,11 +57,11 @@ pub fn append_walking<K: SingleEnded + ForwardLinks<L>, T, L: LinkOps>(
     list.splice_between(links, last, given, None, None);
 }
 
-/// Rotates the list: its first `n` members go after all others, in their order. A list of at most n members stays as it is.
+/// Rotates the list: its first `n` members go after all other members, in their order. A list of at most `n` members stays as it is.
 ///
-/// It walks from the front to the back. O(n), and no link is acquired or released.
+/// The call walks from the front to the back: O(n). No link is acquired or released.
 pub fn rotate_left<K: ForwardLinks<L>, T, L: LinkOps>(
-    list: &mut Chain<K, T>,
+    list: &mut LinkList<K, T>,
     links: &mut L,
     n: usize,
 )
@@ -80,9 +80,10 @@ pub fn rotate_left<K: ForwardLinks<L>, T, L: LinkOps>(
     *list = rest;
 }
 
-// The members before and after the gap that follows the first `n` members; the last gap, if there are at most n.
+// The members before and after the gap that comes after the first `n` members. If the list has at most `n` members, the gap is the last gap, after
+// all members.
 pub(crate) fn gap_at<K: ForwardLinks<L>, T, L: LinkOps>(
-    list: &Chain<K, T>,
+    list: &LinkList<K, T>,
     links: &L,
     n: usize,
 ) -> (Option<Place>, Option<Place>)
@@ -104,8 +105,11 @@ pub(crate) fn gap_at<K: ForwardLinks<L>, T, L: LinkOps>(
     (prev, None)
 }
 
-// The last member, `None` of an empty list. It walks from the front.
-fn last_walking<K: ForwardLinks<L>, T, L: LinkOps>(list: &Chain<K, T>, links: &L) -> Option<Place>
+// The last member, or `None` if the list is empty. The call walks from the front.
+fn last_walking<K: ForwardLinks<L>, T, L: LinkOps>(
+    list: &LinkList<K, T>,
+    links: &L,
+) -> Option<Place>
     requires shown { RepresentsSomeChain K.Between K.kept (L.table links.now) list.now }
     ensures { (s : List Place) → RepresentsChain K.Between K.kept (L.table links.now) list.now s → result ≡ last s }
 {

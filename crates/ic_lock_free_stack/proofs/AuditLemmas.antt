@@ -1,4 +1,4 @@
--- Holders whose accounts are gathered in one hand, and dealt out again.
+-- Holders whose accounts are moved to one hand, and then moved back to the holders' own hands.
 use Rattle.std.proofs.Common.{◌≡◌, ◌≢◌, zero, suc, ℕ, ◌+◌, ◌<◌, ◌≤◌, eqb, false, List, [], ◌∷◌, ◌++◌, map, drop, append-nil, length, get_or, set, All, Contains, refl, sym, ap, ◌∙◌, subst, arith}
 use Rattle.std.specs.List.{IsDistinct}
 use Rattle.std.proofs.lemmas.List.{get_or-set_same, get_or-set_other, drop_more, nil_from_length, map-append, length-map}
@@ -10,16 +10,16 @@ use lib.ListN.{get_elem?}
 use Rattle.atomic_table.specs.declared.shared.Seat.{Seat}
 use Rattle.atomic_table.proofs.Lists.{at_longer}
 use Rattle.ic_unsafe_ref.specs.declared.place.Place.{Place}
-use Rattle.ic_lock_free_stack.specs.declared.hand.Size.{Size}
-use Rattle.ic_lock_free_stack.specs.declared.hand.Account.{Account}
-use Rattle.ic_lock_free_stack.specs.declared.hand.HeldAccounts.{HeldAccounts}
+use Rattle.ic_lock_free_stack.specs.declared.held.Size.{Size}
+use Rattle.ic_lock_free_stack.specs.declared.held.Account.{Account}
+use Rattle.ic_lock_free_stack.specs.declared.held.HeldAccounts.{HeldAccounts}
 use Rattle.ic_lock_free_stack.specs.declared.stacks.Stacks.{Stacks}
 use Rattle.ic_lock_free_stack.specs.declared.stacks.Holder.{Holder}
 use Rattle.ic_lock_free_stack.specs.declared.step.Entry.{Entry}
 use Rattle.ic_lock_free_stack.specs.Moments.{Moment, at_first, is_with, moment_after, steps_of}
 use Rattle.ic_lock_free_stack.specs.Records.{holds}
 use Rattle.ic_lock_free_stack.specs.Words.{known_of}
-use Rattle.ic_lock_free_stack.specs.Hands.{hand, fresh, sees, without_first, only_first}
+use Rattle.ic_lock_free_stack.specs.Held.{hand, fresh, sees, without_first, only_first}
 use Rattle.ic_lock_free_stack.specs.OneHistory.{IsSound, IsSeen, IsOneHistory, Party, party_of_account, IsHistory}
 use Rattle.ic_lock_free_stack.specs.Plays.{Compares}
 use Rattle.ic_lock_free_stack.specs.Holders.{holders_of, IsSeatOf, hand_with, account_of, seen_of, party_of, IsOf, KeepsChains, AreOneHistory, NoneTwice}
@@ -28,15 +28,15 @@ use Rattle.ic_lock_free_stack.proofs.MomentLemmas.{with_is}
 use Rattle.ic_lock_free_stack.proofs.HistoryLemmas.{name_of_account}
 use Rattle.ic_lock_free_stack.proofs.HolderLemmas.{keeps_chains}
 
--- a holder's seat has these accounts in hand
+-- the seat of the holder h has exactly these accounts in hand
 abbrev pub HasAccounts : {A : Type 0} → Stacks A → List Account → Holder → Type 0
 HasAccounts stacks accounts h = IsSeatOf stacks h.seat × (h.seat.me.0 ≡ hand_with stacks accounts)
 
--- the holder's account, that has seen this history
+-- the account of the holder h after it has seen the history `order`
 abbrev pub seeing : List Entry → Holder → Account
 seeing order h = sees order (account_of h)
 
--- the first of the gathered accounts goes back
+-- the first of the gathered accounts moves back to the seat of its holder
 module _ (size : Size) (order : List Entry) (hs : List Holder) (i : ℕ) (d : Holder) (lt : i < length hs) (v : HeldAccounts) (has : v ≡ hand size (map (seeing order) (drop i hs))) where
   gathered : v ≡ hand size (seeing order (get_or hs i d) ∷ map (seeing order) (drop (i + 1) hs))
   gathered = has ∙ ap (λ (l : List Holder). hand size (map (seeing order) l)) (drop_more hs i d lt)
@@ -48,7 +48,7 @@ module _ (size : Size) (order : List Entry) (hs : List Holder) (i : ℕ) (d : Ho
   first_back = ap only_first gathered
 
 module _ {A : Type 0} (stacks : Stacks A) where
-  -- one holder more has its account again
+  -- if the first i holders have their accounts again and the next holder gets its account, the first i + 1 holders have their accounts
   pub one_back : (order : List Entry) (hs now : List Holder) (i : ℕ) (new : Holder) → i < length now
       → ((k : ℕ) (d : Holder) → k < i → HasAccounts stacks (seeing order (get_or hs k d) ∷ []) (get_or now k d))
       → ((d : Holder) → HasAccounts stacks (seeing order (get_or hs i d) ∷ []) new)
@@ -64,7 +64,7 @@ module _ {A : Type 0} (stacks : Stacks A) where
       let ne : k ≢ i = λ e. absurd (omega (arith, e, above)) in
       subst (HasAccounts stacks []) (sym (get_or-set_other now i k new d ne)) (empty k d (omega (arith, above)) inside)
 
-  -- a holder that has its account again
+  -- a holder that has its account again has the same name and record as before, and has seen the history `order`
   module _ (order : List Entry) (x y : Holder) (back : HasAccounts stacks (seeing order x ∷ []) y) where
     pub account_back : account_of y ≡ seeing order x
     account_back = ap (λ (v : HeldAccounts). get_or v.accounts 0 (fresh 0)) back.1
@@ -75,7 +75,7 @@ module _ {A : Type 0} (stacks : Stacks A) where
     pub chain_back : KeepsChains stacks x y (λ p. false)
     chain_back = keeps_chains stacks x y (λ p. false) (subst (λ (a : Account). length (account_of x).known ≤ length a.known) (sym account_back) (omega arith)) (λ p clean held. (ap (λ (a : Account). known_of a.known p) account_back, ap (λ (a : Account). holds p a.steps) account_back ∙ held))
 
-  -- all have their accounts again
+  -- if each holder has its account again, the names and records of all holders are as they were before
   pub all_back : (order : List Entry) (hs now : List Holder) → length now ≡ length hs
       → ((k : ℕ) (d : Holder) → k < length hs → HasAccounts stacks (seeing order (get_or hs k d) ∷ []) (get_or now k d))
       → map party_of now ≡ map party_of hs
@@ -87,7 +87,7 @@ module _ {A : Type 0} (stacks : Stacks A) where
       let rest = all_back order xs ys (omega (arith, long)) (λ k d h. back (suc k) d (omega (arith, h))) in
       λ i. one i ∷ rest i
 
--- what the rule says of accounts, as their holders' records
+-- what the rule of stacks says of accounts holds for the names and records in these accounts
 names_same : (l : List Account) → map (λ (x : Party). x.name) (map party_of_account l) ≡ map name_of_account l
 names_same [] = refl
 names_same (x ∷ xs) = ap (λ l. x.name ∷ l) (names_same xs)
@@ -110,7 +110,7 @@ parties_same [] = refl
 parties_same (x ∷ xs) = ap (λ l. party_of x ∷ l) (parties_same xs)
 
 module _ {A : Type 0} (stacks : Stacks A) where
-  -- what was told of the gathered accounts
+  -- what is known after the accounts were gathered: the records are in one history with all others, and this history continues what each holder had seen
   pub record Told (hs : List Holder) (w : HeldAccounts) : Type 0 where
     pub order : List Entry
     pub one : AreOneHistory stacks order (map party_of hs)
@@ -142,13 +142,13 @@ module _ {A : Type 0} (stacks : Stacks A) where
         same = here.same ∙ ap (hand_with stacks) (map_seeing here.one.order hs);
       }
 
-  -- where there is no other
+  -- if the given records are those of all holders, the history consists of their steps alone
   pub told_whole : (order : List Entry) (parties : List Party) → AreOneHistory stacks order parties → length parties ≡ holders_of stacks → IsHistory order parties
   told_whole order parties one all =
       let none : one.others ≡ [] = nil_from_length one.others (omega (arith, one.all, all)) in
       subst (IsHistory order) (ap (λ l. parties ++ l) none ∙ append-nil parties) one.one
 
-  -- while the accounts are dealt out again, up to the holder i
+  -- While the accounts are moved back, the holders with a number below i have their accounts again. The accounts of the other holders are still in one hand
   pub record Deals (hs now : List Holder) (all : Seat (Unit {0}) HeldAccounts) (i : ℕ) : Type 0 where
     pub order : List Entry
     pub one : AreOneHistory stacks order (map party_of hs)
@@ -159,7 +159,7 @@ module _ {A : Type 0} (stacks : Stacks A) where
     pub done : (k : ℕ) (d : Holder) → k < i → HasAccounts stacks (seeing order (get_or hs k d) ∷ []) (get_or now k d)
     pub empty : (k : ℕ) (d : Holder) → i ≤ k → k < length hs → HasAccounts stacks [] (get_or now k d)
 
--- no place is held by two
+-- if some records are in one history with others, no place is held by two holders with these records
 named_once : (order : List Entry) (parties others : List Party) → IsHistory order (parties ++ others) → NoneTwice parties
 named_once order parties others one i j x y p at there a b =
     let at' = at_longer parties others i x at in

@@ -1,4 +1,4 @@
--- Nothing is lost, and nothing comes twice.
+-- No pushed place is lost, and no place is taken twice for one push.
 use Rattle.std.proofs.Common.{◌≡◌, ◌≢◌, ℕ, zero, suc, ◌+◌, ◌<◌, eqb, false, true≢false, cond, List, [], ◌∷◌, ◌++◌, map, length, length-append, append-nil, sum_by, All, Contains, refl, sym, ap, ◌∙◌, subst, arith, eq-eqb, ne_eqb, eqb-true}
 use Rattle.std.specs.List.{IsDistinct, AllByRecursion}
 use Rattle.std.proofs.lemmas.List.Elements.{All-head, All-tail, All-push, All-from_recursion}
@@ -21,7 +21,7 @@ times_both : (p : Place) (s t : List Place) → times p (s ++ t) ≡ times p s +
 times_both p [] t = omega arith
 times_both p (q ∷ s) t = let r = times_both p s t in by_test (λ b. cond b 1 0 + times p (s ++ t) ≡ (cond b 1 0 + times p s) + times p t) (same p q) (λ _. omega (arith, r)) (λ _. omega (arith, r))
 
--- one step: what it puts in and what was there is what it takes out and what is there
+-- ONE STEP KEEPS THE BALANCE: a place is pushed and was in the stack as often as it is taken and is in the stack after the step
 balances : (m : Moment) (a k : ℕ) (p : Place) (e : Step) → Fits m a e → puts k p e + times p (m.stack k) ≡ takes_out k p e + times p (members_after k (m.stack k) e)
 balances m a k p (Claim q got) fits = refl
 balances m a k p (Release q) fits = refl
@@ -29,7 +29,7 @@ balances m a k p (Push j s) fits = by_test (λ b. cond b (times p s) 0 + times p
 balances m a k p (TakeAll j s) fits = by_test (λ b. eqb j k ≡ b → 0 + times p (m.stack k) ≡ cond b (times p s) 0 + times p (cond b [] (m.stack k))) (eqb j k)
     (λ _ e. let t : times p s ≡ times p (m.stack k) = ap (times p) (fits ∙ ap (λ i. m.stack i) (eqb-true j k e)) in omega (arith, t)) (λ _ _. refl) refl
 
--- a list of steps
+-- the sum of a count f over all steps of a list
 abbrev total : (Step → ℕ) → List Entry → ℕ
 total f [] = 0
 total f (x ∷ xs) = f x.step + total f xs
@@ -41,7 +41,7 @@ balanced_from m (x ∷ xs) k p legal =
     let rest = balanced_from (after m x.holder x.step) xs k p legal.1 in
     omega (arith, one, rest)
 
--- of one name the steps that are counted are those of that holder, and of all names together they are all
+-- THE COUNT FOR ONE NAME: f is summed over the steps of the holder with the name h. The counts for all names together are the count for all steps
 abbrev of_name : (Step → ℕ) → List Entry → ℕ → ℕ
 of_name f order h = sum_by f (steps_of h order)
 
@@ -106,7 +106,7 @@ nothing_lost order parties k p was =
     let c = balanced_from at_first order k p was.legal in
     omega (arith, a, b, c)
 
--- CALLS IN TURN: where all holders are together before a step and after it, the history has that step more and no other
+-- CALLS IN TURN: if all holders are together before a step and after it, the history has this one more step and no other
 sum_same : (f g : ℕ → ℕ) (names : List ℕ) → ((i m : ℕ) → get_elem? names i ≡ some m → f m ≡ g m) → sum_by f names ≡ sum_by g names
 sum_same f g [] each = refl
 sum_same f g (x ∷ xs) each =

@@ -1,4 +1,4 @@
--- A step of one holder keeps the one history.
+-- If the accounts have one history and a holder makes one more step, the accounts still have one history.
 use Rattle.std.proofs.Common.{◌≡◌, ◌≢◌, ℕ, ◌+◌, ◌*◌, ◌<◌, ◌≤◌, eqb, true, false, cond, List, [], ◌∷◌, ◌++◌, map, length, get_or, set, sum_by, All, Contains, refl, sym, ap, ◌∙◌, subst, arith, append_assoc, append-nil, ⊎_elim, ne_eqb}
 use Rattle.std.specs.List.{IsDistinct}
 use Rattle.std.proofs.lemmas.List.Elements.{All-push}
@@ -9,14 +9,14 @@ use Rattle.atomic_table.proofs.Lists.{at_set}
 use Rattle.ic_unsafe_ref.specs.declared.place.Place.{Place}
 use Rattle.ic_unsafe_ref.specs.Places.{index_of}
 use Rattle.ic_lock_free_stack.specs.declared.step.Step.{Step}
-use Rattle.ic_lock_free_stack.specs.declared.hand.Size.{Size}
-use Rattle.ic_lock_free_stack.specs.declared.hand.Known.{Known}
-use Rattle.ic_lock_free_stack.specs.declared.hand.Account.{Account}
+use Rattle.ic_lock_free_stack.specs.declared.held.Size.{Size}
+use Rattle.ic_lock_free_stack.specs.declared.held.Known.{Known}
+use Rattle.ic_lock_free_stack.specs.declared.held.Account.{Account}
 use Rattle.ic_lock_free_stack.specs.declared.step.Entry.{Entry}
 use Rattle.ic_lock_free_stack.specs.Moments.{Moment, entry, at_first, is_with, moves, after, Fits, IsLegal, steps_of}
 use Rattle.ic_lock_free_stack.specs.Records.{brings, holds, on_head, pushes_and_takes, most_steps}
 use Rattle.ic_lock_free_stack.specs.Words.{word_at, head_at, Spells, known_of}
-use Rattle.ic_lock_free_stack.specs.Hands.{made, sees}
+use Rattle.ic_lock_free_stack.specs.Held.{made, sees}
 use Rattle.ic_lock_free_stack.specs.OneHistory.{heads_in, IsSeen, GoesOn, LooksOn, IsKept, IsOneHistory}
 use Rattle.ic_lock_free_stack.proofs.Lists.{at_or, at_inside, each_all, map_set, named_apart, contains_at}
 use Rattle.ic_lock_free_stack.proofs.MomentLemmas.{legal_more, moment_more, heads_more, pushes_more, holds_more, steps_of-mine, steps_of-other, steps_of-append, none_added, sound_after, with_mine, with_other, with_is}
@@ -27,7 +27,7 @@ name_of_account a = a.name
 abbrev pub heads_of_account : Account → ℕ
 heads_of_account a = pushes_and_takes a.steps
 
--- WHAT A CHANGE OF WORDS LEAVES to other holders than the one of this name: the words of what they hold, and of heads if no step on a head was made
+-- WHAT A CHANGE OF WORDS LEAVES: the words of places stay that are neither free nor with the holder of this name. The heads stay if no step on a head was made
 pub record Leaves (size : Size) (words words' : List ℕ) (m : Moment) (name heads : ℕ) : Type 0 where
   pub places : (p : Place) → index_of p < size.places → is_with name (m.place p) ≡ false → word_at words p ≢ 0 → word_at words' p ≡ word_at words p
   pub heads_too : heads ≡ 0 → (k : ℕ) → head_at size words' k ≡ head_at size words k
@@ -41,7 +41,7 @@ seen_longer a b c x y = record {
 pub seen_itself : (a : List Entry) → IsSeen a a
 seen_itself a = record { rest = []; is = sym (append-nil a) }
 
--- a holder that sees the history
+-- if an account is right and its holder then sees the whole history, the account is still right
 pub kept_seen : (size : Size) (words : List ℕ) (order : List Entry) (m : Moment) (a : Account) → IsKept size words order m a → IsKept size words order m (sees order a)
 kept_seen size words order m a was = record {
   own = was.own;
@@ -55,7 +55,7 @@ kept_seen size words order m a was = record {
 }
 
 module _ (size : Size) (words words' : List ℕ) (order order' : List Entry) (m m' : Moment) (name heads : ℕ) (leaves : Leaves size words words' m name heads) (grows : heads_in order' ≡ heads_in order + heads) (longer : IsSeen order order') where
-  -- another holder's account
+  -- the account of another holder is still right after the step
   pub other_kept : (b : Account) → b.name ≢ name → steps_of b.name order' ≡ steps_of b.name order → ((p : Place) → is_with b.name (m'.place p) ≡ is_with b.name (m.place p))
       → IsKept size words order m b → IsKept size words' order' m' b
   other_kept b apart own held was = record {
@@ -76,7 +76,7 @@ module _ (size : Size) (words words' : List ℕ) (order order' : List Entry) (m 
   }
 
 module _ (size : Size) (words : List ℕ) (accounts : List Account) (was : IsOneHistory size words accounts) where
-  -- how many steps on heads there can be
+  -- if there are fewer than 65,536 accounts, the history has fewer than 2^64 steps on heads
   pub few_heads : length accounts < 65536 → heads_in was.order < 18446744073709551615
   few_heads few =
       let each : All (λ a. heads_of_account a ≤ most_steps) accounts = each_all (λ a. heads_of_account a ≤ most_steps) accounts (λ i a at. (was.kept i a at).few) in
@@ -91,7 +91,7 @@ module _ (size : Size) (words : List ℕ) (accounts : List Account) (was : IsOne
       names : map name_of_account (set accounts i b) ≡ map name_of_account accounts
       names = map_set name_of_account accounts i a b at named
 
-      -- A CHANGE WITH NO STEP
+      -- A CHANGE WITHOUT A STEP: if words change but no step is made, the accounts still have one history
       module _ (steps : b.steps ≡ a.steps) (spells : Spells size words' was.now) (leaves : Leaves size words words' was.now a.name 0) (kept : IsKept size words' was.order was.now b) where
         rest_kept : (j : ℕ) (c : Account) → get_elem? (set accounts i b) j ≡ some c → IsKept size words' was.order was.now c
         rest_kept j c there = ⊎_elim
@@ -116,14 +116,14 @@ module _ (size : Size) (words : List ℕ) (accounts : List Account) (was : IsOne
               omega (arith, s, g, was.counted);
         }
 
-    -- steps of others alone since this holder has seen it
+    -- since the holder has seen the history, only other holders have made steps
     since : steps_of a.name mine.begun.rest ≡ []
     since = none_added (steps_of a.name a.seen) (steps_of a.name mine.begun.rest) (steps_of a.name was.order) (ap (steps_of a.name) mine.begun.is ∙ steps_of-append a.name a.seen mine.begun.rest) (mine.own ∙ sym mine.own_seen)
 
     pub looks_on : LooksOn a.name a.seen was.order
     looks_on = record { between = mine.begun.rest; is = mine.begun.is; others = since; legal = was.legal }
 
-    -- the history up to a step
+    -- the history with the new step at its end continues the history that the holder had seen
     module _ (e : Step) (fits : Fits was.now a.name e) where
       goes_legal : IsLegal at_first (was.order ++ entry a.name e ∷ [])
       goes_legal = legal_more at_first was.order (entry a.name e) was.legal (subst (λ (m : Moment). Fits m a.name e) (sym was.now_is) fits)
@@ -136,7 +136,7 @@ module _ (size : Size) (words : List ℕ) (accounts : List Account) (was : IsOne
         legal = goes_legal;
       }
 
-    -- A STEP
+    -- A STEP of the holder: if the step is possible and the new words agree with the moment after it, the accounts still have one history
     module _ (words' : List ℕ) (e : Step) (ks : List Known) (fits : Fits was.now a.name e) (spells : Spells size words' (after was.now a.name e)) (leaves : Leaves size words words' was.now a.name (on_head e))
         (few : pushes_and_takes a.steps + on_head e ≤ most_steps)
         (known : (p : Place) → known_of ks p ≢ 0 → (index_of p < size.places) × (holds p (a.steps ++ e ∷ []) ≡ true) × (word_at words' p ≡ known_of ks p)) where

@@ -1,4 +1,4 @@
--- Holders, whose seats have one account in hand, and their chains.
+-- Holders whose seats have one account in hand, and the chains of these holders.
 use Rattle.std.proofs.Common.{rules, zero, suc, map, ◌≡◌, ◌≢◌, ℕ, ◌+◌, ◌-◌, ◌%◌, ◌<◌, ◌≤◌, ◌||◌, Bool, true, false, true≢false, Option, Some, None, List, [], ◌∷◌, ◌++◌, drop, get_or, refl, sym, ap, ◌∙◌, subst, arith, length, eq-eqb, eqb-true}
 use Rattle.std.specs.Prelude.{◌==◌}
 use Rattle.std.specs.Bool.{OnTrue, OnFalse}
@@ -12,10 +12,10 @@ use Rattle.ic_lock_free_stack.specs.Ends.{first}
 use Rattle.ic_lock_free_stack.specs.declared.step.Step.{Step}
 use Rattle.ic_lock_free_stack.specs.declared.step.Entry.{Entry}
 use Rattle.ic_lock_free_stack.specs.declared.step.Step.TheVariants.{Claim, Release, Push, TakeAll}
-use Rattle.ic_lock_free_stack.specs.declared.hand.Size.{Size}
-use Rattle.ic_lock_free_stack.specs.declared.hand.Known.{Known}
-use Rattle.ic_lock_free_stack.specs.declared.hand.Account.{Account}
-use Rattle.ic_lock_free_stack.specs.declared.hand.HeldAccounts.{HeldAccounts}
+use Rattle.ic_lock_free_stack.specs.declared.held.Size.{Size}
+use Rattle.ic_lock_free_stack.specs.declared.held.Known.{Known}
+use Rattle.ic_lock_free_stack.specs.declared.held.Account.{Account}
+use Rattle.ic_lock_free_stack.specs.declared.held.HeldAccounts.{HeldAccounts}
 use Rattle.ic_lock_free_stack.specs.declared.stacks.Stacks.{Stacks}
 use Rattle.ic_lock_free_stack.specs.declared.stacks.Holder.{Holder}
 use Rattle.ic_lock_free_stack.specs.declared.stacks.Chain.{Chain}
@@ -23,13 +23,13 @@ use Rattle.ic_lock_free_stack.specs.Moments.{same, is_in, moves, IsOnce, stack_a
 use Rattle.ic_lock_free_stack.specs.Records.{brings, holds, on_head, pushes_and_takes}
 use Rattle.ic_lock_free_stack.specs.OneHistory.{GoesOn, LooksOn}
 use Rattle.ic_lock_free_stack.specs.Words.{link_to, known_of, knows, knows_all}
-use Rattle.ic_lock_free_stack.specs.Hands.{hand, fresh, made, noted, sees, without_first, only_first}
+use Rattle.ic_lock_free_stack.specs.Held.{hand, fresh, made, noted, sees, without_first, only_first}
 use Rattle.ic_lock_free_stack.specs.Plays.{only, Makes, Sees}
 use Rattle.ic_lock_free_stack.specs.Holders.{places_of, IsSeatOf, account_of, name_of, record_of, seen_of, Steps, Stays, Looks, IsOf, AreKnown, HasChain, IsNoChain, KeepsChains}
 use Rattle.ic_lock_free_stack.proofs.MomentLemmas.{pushes_more, holds_more, one_place, same_place, by_test}
 use Rattle.ic_lock_free_stack.proofs.WordLemmas.{known_mine, known_other, known_beside}
 
--- links are words of places, with 1 added
+-- a link is the word of a place with 1 added, so it is at least 1
 pub link_full : (o : Option Place) (n : ℕ) → n ≡ link_to o → 1 ≤ n
 link_full o n e = omega (arith, e)
 
@@ -39,13 +39,13 @@ link_fits o n e = subst IsWord (let f : word_of o ≡ n - 1 = omega (arith, e) i
 pub link_names : (o : Option Place) (n : ℕ) → n ≡ link_to o → place_at (n - 1) ≡ o
 link_names o n e = ap place_at (let f : n - 1 ≡ word_of o = omega (arith, e) in f) ∙ place_at_word o
 
--- what a step did to a holder's account
+-- what a step changes in a holder's account: the record gains the step, and `ks` are the known words afterwards
 pub record Stepped (old new : Holder) (e : Step) (ks : List Known) : Type 0 where
   pub step : Steps old new e
   pub known : (account_of new).known ≡ ks
 
 module _ {A : Type 0} (stacks : Stacks A) where
-  -- a holder with this account in hand
+  -- a holder with the account b alone in hand was made with the stacks, and b is its account
   module _ (h : Holder) (b : Account) (table : IsSeatOf stacks h.seat) (e : h.seat.me.0 ≡ only stacks.table.shared.key b) where
     pub account_is : account_of h ≡ b
     account_is = ap (λ (v : HeldAccounts). get_or v.accounts 0 (fresh 0)) e
@@ -53,7 +53,7 @@ module _ {A : Type 0} (stacks : Stacks A) where
     pub is_of : IsOf stacks h
     is_of = record { table = table; hand = e ∙ ap (only stacks.table.shared.key) (sym account_is) }
 
-  -- what was taken stays so where what is known of it does
+  -- if the known words of the places of a list stay, each of these words still names the next place
   known_through : (ks ls : List Known) (s : List Place) → ((p : Place) → is_in p s ≡ true → known_of ls p ≡ known_of ks p) → AreKnown ks s → AreKnown ls s
   known_through ks ls [] through was = tt
   known_through ks ls (p ∷ s) through was = (
@@ -73,7 +73,7 @@ module _ {A : Type 0} (stacks : Stacks A) where
     held = λ p member. (kept p (clean p member) (was.held p member)).1;
   }
 
-  -- after a step, as its account tells it
+  -- if the account in a holder's hand has gained a step, the holder has made this step
   module _ (old new : Holder) (a : Account) (e : Step) (ks : List Known) (table : IsSeatOf stacks new.seat) (makes : Makes stacks.table.shared.key a e ks new.seat.me.0) where
     pub made_is_of : IsOf stacks new
     made_is_of = is_of new (made a e makes.seen ks) table makes.same
@@ -96,7 +96,7 @@ module _ {A : Type 0} (stacks : Stacks A) where
   step_keeps old new e ks is edited longer kept = keeps_chains old new edited (subst (λ l. length (account_of old).known ≤ length l) (sym is.known) longer) (λ p clean held.
       let k = kept p clean held in (ap (λ l. known_of l p) is.known ∙ k.0, ap (holds p) is.step.gained ∙ k.1))
 
-  -- a step that brings its places leaves what is held
+  -- a step that moves places to its holder leaves each place held that the holder held
   still_held : (es : List Step) (e : Step) (p : Place) → brings e ≡ true → holds p es ≡ true → holds p (es ++ e ∷ []) ≡ true
   still_held es e p b held = holds_more p es e ∙ by_test (λ c. Rattle.std.proofs.Common.cond c (brings e) (holds p es) ≡ true) (moves p e) (λ _. b) (λ _. held)
 
@@ -113,7 +113,7 @@ module _ {A : Type 0} (stacks : Stacks A) where
         → KeepsChains stacks old new (λ q. is_in q s)
     push_keeps ks is longer beside = step_keeps old new (Push k s) ks is (λ q. is_in q s) longer (λ q ne held. (beside q ne, holds_more q (record_of old) (Push k s) ∙ rw ne held))
 
-  -- but for one place
+  -- if each chain without the places of the list with p alone stays, each chain without p stays
   pub keeps_one : (old new : Holder) (p : Place) → KeepsChains stacks old new (λ q. is_in q (p ∷ [])) → KeepsChains stacks old new (λ q. same q p)
   keeps_one old new p keeps chain s was clean = keeps chain s was (λ q member. rw (clean q member) refl)
 
@@ -130,7 +130,7 @@ module _ {A : Type 0} (stacks : Stacks A) where
     pub take_keeps : KeepsChains stacks old new (λ p. false)
     take_keeps = step_keeps old new (TakeAll k s) (knows_all s (account_of old).known) is (λ p. false) (let l = all_long s (account_of old).known in omega (arith, l)) (λ p _ held. (take_beside p held, still_held (record_of old) (TakeAll k s) p refl held))
 
-    -- what was taken
+    -- after a call has taken the members t of a stack, the known word of each member names the next one
     all_known : (t : List Place) (ks : List Known) → IsOnce t → AreKnown (knows_all t ks) t
     all_known [] ks once = tt
     all_known (q ∷ t) ks once = (
@@ -149,7 +149,7 @@ module _ {A : Type 0} (stacks : Stacks A) where
       held = λ p member. ap (holds p) is.step.gained ∙ (holds_more p (record_of old) (TakeAll k s) ∙ rw member refl);
     }
 
--- THE FIRST THAT IS LEFT of what was taken
+-- THE FIRST PLACE OF A CHAIN: s begins with p, and the known word of p names the first of the other places
 pub record Next (ks : List Known) (places : ℕ) (s : List Place) (p : Place) : Type 0 where
   pub rest : List Place
   pub is : s ≡ p ∷ rest
@@ -191,7 +191,7 @@ module _ {A : Type 0} (stacks : Stacks A) (h : Holder) (chain : Chain) (p : Plac
       let all : HasChain stacks h chain (p ∷ x.rest) = subst (HasChain stacks h chain) x.is was in
       (x.inside, all.held p (rw (same_place p) refl), subst (λ l. is_in p (drop 1 l) ≡ false) (sym x.is) all.once.0)
 
--- A HEAD IS LOOKED AT
+-- A HEAD IS READ to find out whether its stack is empty: the holder makes no step, and has seen the history up to this moment
 module _ {A : Type 0} (stacks : Stacks A) (old new : Holder) (k n : ℕ) (table : IsSeatOf stacks new.seat) (answered : Sees stacks.table.shared.key (account_of old) k n new.seat.me.0) where
   sees_is : account_of new ≡ sees answered.order (account_of old)
   sees_is = account_is stacks new (sees answered.order (account_of old)) table answered.same
@@ -223,12 +223,12 @@ module _ {A : Type 0} (stacks : Stacks A) (old new : Holder) (k n : ℕ) (table 
   tells_empty = subst (λ (o : List Entry). OnTrue (n == 1) (stack_after o k ≡ []) × OnFalse (n == 1) (stack_after o k ≢ [])) (sym seen_is)
       (empty_by (stack_after answered.order k) (n == 1) (λ e. eq-eqb n 1 e) (λ e. eqb-true n 1 e) answered.head)
 
--- of two places of which one is in a list and the other is not
+-- if one place is in a list and another is not, the two places are different
 pub apart_in : (s : List Place) (p q : Place) → is_in p s ≡ false → is_in q s ≡ true → same q p ≡ false
 apart_in s p q out member = by_test (λ b. same q p ≡ b → b ≡ false) (same q p)
     (λ _ e. absurd (true≢false (sym member ∙ (ap (λ r. is_in r s) (one_place q p e) ∙ out)))) (λ _ _. refl) refl
 
--- a chain has one sequence
+-- two lists that begin with the same place are equal if, in both, the known words name the next places
 same_from : (ks : List Known) (s t : List Place) → first s ≡ first t → AreKnown ks s → AreKnown ks t → s ≡ t
 same_from ks [] [] e a b = refl
 same_from ks [] (q ∷ t) e a b = absurd (cc e)
@@ -245,7 +245,7 @@ one_sequence stacks h chain s t a b = same_from (account_of h).known s t (sym a.
 pub empty_chain : {A : Type 0} (stacks : Stacks A) (h : Holder) (chain : Chain) → IsNoChain chain → HasChain stacks h chain []
 empty_chain stacks h chain e = record { starts = e; once = tt; linked = tt; known = omega arith; inside = λ p f. absurd (true≢false (sym f)); held = λ p f. absurd (true≢false (sym f)) }
 
--- A PLACE IS LINKED at the front of a chain
+-- A PLACE IS LINKED at the front of a chain, which then begins with the place p
 module _ {A : Type 0} (stacks : Stacks A) (old new : Holder) (p : Place) (n : ℕ) (table : IsSeatOf stacks new.seat)
     (e : new.seat.me.0 ≡ only stacks.table.shared.key (noted (account_of old) (knows p n ∷ (account_of old).known) (account_of old).stack (account_of old).saw (account_of old).looked)) where
   abbrev linked_account : Account
@@ -279,11 +279,11 @@ module _ {A : Type 0} (stacks : Stacks A) (old new : Holder) (p : Place) (n : �
         held = λ q. by_test (λ b. same q p ≡ b → (b || is_in q s) ≡ true → holds q (record_of new) ≡ true) (same q p) (λ _ f _. ap (λ r. holds r (record_of new)) (one_place q p f) ∙ (ap (holds p) linked_stays.record_is ∙ mine)) (λ _ _ m. now.held q m) refl;
       }
 
--- a word that is known is a link of what was taken
+-- the known word of the first place of a chain is not 0
 pub known_link : (ks : List Known) (places : ℕ) (s : List Place) (p : Place) → Next ks places s p → known_of ks p ≢ 0
 known_link ks places s p x e = let k = x.known in absurd (omega (arith, k, e))
 
--- one more fresh account is dealt
+-- the first of the new accounts is moved to a new seat, and the others stay in hand
 module _ (size : Size) (h n m : ℕ) (v : HeldAccounts) (has : v ≡ hand size (map fresh (range_with_len h n))) (is : n ≡ suc m) where
   dealt : v ≡ hand size (fresh h ∷ map fresh (range_with_len (h + 1) m))
   dealt = has ∙ (ap (λ k. hand size (map fresh (range_with_len h k))) is ∙ ap (λ l. hand size (map fresh l)) (range_more h m))
@@ -309,7 +309,7 @@ range_snoc a (suc n) =
     let f : suc n + 1 ≡ suc (n + 1) = omega arith in
     ap (range_with_len a) f ∙ ap (λ l. a ∷ l) (r ∙ ap (λ k. range_with_len (a + 1) n ++ k ∷ []) e)
 
--- one holder more that was dealt
+-- if one more holder gets a new account, the names of the holders are the numbers from 0 on, one more than before
 pub named_more : (hs new : List Holder) (h : Holder) (n : ℕ) → map name_of hs ≡ range_with_len 0 n → new ≡ hs ++ h ∷ [] → account_of h ≡ fresh n → map name_of new ≡ range_with_len 0 (n + 1)
 named_more hs new h n was is fresh_one =
     let e : name_of h ≡ 0 + n = ap (λ (a : Account). a.name) fresh_one ∙ omega arith in

@@ -1,4 +1,4 @@
--- What histories say of stacks.
+-- What follows from a history for the stacks.
 use Rattle.std.proofs.Common.{◌≡◌, ℕ, false, cond, List, [], ◌∷◌, ◌++◌, refl, ap, ◌∙◌, eq-eqb}
 use Rattle.ic_unsafe_ref.specs.declared.place.Place.{Place}
 use Rattle.ic_lock_free_stack.specs.declared.step.Step.{Step}
@@ -8,7 +8,7 @@ use Rattle.ic_lock_free_stack.specs.Moments.{Moment, entry, at_first, is_on_stac
 use Rattle.ic_lock_free_stack.specs.OneHistory.{IsSound}
 use Rattle.ic_lock_free_stack.proofs.MomentLemmas.{moment_more, sound_after}
 
--- the last step of a history says what it may, and so do all before it
+-- the last step of a history is possible at its moment, and all steps before it are possible at theirs
 pub legal_last : (m : Moment) (xs : List Entry) (x : Entry) → IsLegal m (xs ++ x ∷ []) → Fits (moment_after m xs) x.holder x.step
 legal_last m [] x was = was.0
 legal_last m (y ∷ ys) x was = legal_last (after m y.holder y.step) ys x was.1

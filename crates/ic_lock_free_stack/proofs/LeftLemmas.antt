@@ -1,8 +1,8 @@
--- How many are left of what was taken.
+-- How many places of a chain are left.
 use Rattle.std.proofs.Common.{◌≡◌, ℕ, zero, suc, ◌<◌, ◌≤◌, Some, List, [], ◌∷◌, drop, length, refl, ap, ◌∙◌, arith}
 use Rattle.ic_unsafe_ref.specs.declared.place.Place.{Place}
 use Rattle.ic_lock_free_stack.specs.Ends.{first}
-use Rattle.ic_lock_free_stack.specs.declared.hand.Known.{Known}
+use Rattle.ic_lock_free_stack.specs.declared.held.Known.{Known}
 use Rattle.ic_lock_free_stack.specs.declared.stacks.Stacks.{Stacks}
 use Rattle.ic_lock_free_stack.specs.declared.stacks.Holder.{Holder}
 use Rattle.ic_lock_free_stack.specs.declared.stacks.Chain.{Chain}
@@ -22,7 +22,7 @@ module _ {A : Type 0} (stacks : Stacks A) where
   unfolding left_of
   left_is h chain s was = ap (left_from (length (account_of h).known) (account_of h).known) was.starts ∙ left_walk (length (account_of h).known) (account_of h).known s was.known was.linked
 
-  -- where one was given, fewer are left
+  -- after the first place was removed from a chain, fewer places are left
   pub left_fewer : (old new : Holder) (chain rest : Chain) (s : List Place) (p : Place) → HasChain stacks old chain s → Some p ≡ first s → HasChain stacks new rest (drop 1 s) → left_of new rest < left_of old chain
   left_fewer old new chain rest [] p was e now = absurd (cc e)
   left_fewer old new chain rest (q ∷ s) p was e now = let a = left_is old chain (q ∷ s) was in let b = left_is new rest s now in omega (arith, a, b)

@@ -1,7 +1,7 @@
 pub mod MomentLemmas
 pub mod WordLemmas
 pub mod Lists
-pub mod HandLemmas
+pub mod HeldLemmas
 pub mod HistoryLemmas
 pub mod RuleLemmas
 pub mod RecordLemmas

@@ -20,7 +20,7 @@ module _ {A : Type 0} where
   at_inside (x ∷ xs) zero a e = omega arith
   at_inside (x ∷ xs) (suc i) a e = let r = at_inside xs i a e in omega arith
 
-  -- what holds at each index holds of all
+  -- what is true of the element at each index is true of all elements
   pub each_all : (P : A → Type 0) (l : List A) → ((i : ℕ) (a : A) → get_elem? l i ≡ some a → P a) → All P l
   each_all P [] h = All-nil P
   each_all P (x ∷ xs) h = All-cons P x xs (h 0 x refl) (each_all P xs (λ i a e. h (suc i) a e))
@@ -28,13 +28,13 @@ module _ {A : Type 0} where
   pub all_each : (P : A → Type 0) (l : List A) → All P l → (i : ℕ) (a : A) → get_elem? l i ≡ some a → P a
   all_each P l h i a e = Rattle.std.proofs.Common.subst P (at_or l i a a e) (h i a (at_inside l i a e))
 
-  -- a change that keeps f keeps it of all
+  -- if one element is changed and f has the same value for it, the values of f for the whole list stay
   pub map_set : {B : Type 0} (f : A → B) (l : List A) (i : ℕ) (a b : A) → get_elem? l i ≡ some a → f b ≡ f a → map f (set l i b) ≡ map f l
   map_set f [] i a b e same = refl
   map_set f (x ∷ xs) zero a b e same = ap (λ y. y ∷ map f xs) (same ∙ ap f (sym (some-injective x a e)))
   map_set f (x ∷ xs) (suc i) a b e same = ap (λ l. f x ∷ l) (map_set f xs i a b e same)
 
--- by distinct names
+-- elements with distinct names: two elements at different indexes have different names
 module _ {A : Type 0} where
   named_before : (f : A → ℕ) (l : List A) (i j : ℕ) (a b : A) → IsDistinct eqb (map f l) → get_elem? l i ≡ some a → get_elem? l j ≡ some b → i < j → f a ≢ f b
   named_before f l i j a b once at there before e =

@@ -1,4 +1,4 @@
--- One step more of a list of steps, and what it does to the moment at its end.
+-- What one more step of a list of steps changes in the moment at the end of the list.
 use Rattle.std.proofs.Common.{◌≡◌, ◌≢◌, ℕ, ◌+◌, eqb, Bool, true, false, true≢false, cond, ◌&&◌, ◌||◌, List, [], ◌∷◌, ◌++◌, refl, sym, ap, ◌∙◌, arith, length, length-append, eq-eqb, ne_eqb, eqb-true}
 use Rattle.std.proofs.lemmas.List.{nil_from_length}
 use Rattle.ic_unsafe_ref.specs.declared.place.Place.{Place}
@@ -7,7 +7,7 @@ use Rattle.ic_unsafe_ref.proofs.PlaceLemmas.{same_index}
 use Rattle.ic_lock_free_stack.specs.declared.step.Step.{Step}
 use Rattle.ic_lock_free_stack.specs.declared.step.Step.TheVariants.{Claim, Release, Push, TakeAll}
 use Rattle.ic_lock_free_stack.specs.declared.step.Entry.{Entry}
-use Rattle.ic_lock_free_stack.specs.Moments.{Where, nowhere, with_holder, in_stack, is_nowhere, is_with, is_stacked, Moment, entry, same, is_in, moves, goes, after, Fits, IsLegal, moment_after, steps_of, IsOnce}
+use Rattle.ic_lock_free_stack.specs.Moments.{Location, nowhere, with_holder, in_stack, is_nowhere, is_with, is_stacked, Moment, entry, same, is_in, moves, goes, after, Fits, IsLegal, moment_after, steps_of, IsOnce}
 use Rattle.ic_lock_free_stack.specs.Records.{brings, held_from, holds, on_head, pushes_and_takes}
 use Rattle.ic_lock_free_stack.specs.OneHistory.{IsSound, heads_in}
 
@@ -58,11 +58,11 @@ pub steps_of-append : (h : ℕ) (xs ys : List Entry) → steps_of h (xs ++ ys) �
 steps_of-append h [] ys = refl
 steps_of-append h (x ∷ xs) ys = cons_if-append (eqb x.holder h) x.step (steps_of h (xs ++ ys)) (steps_of h xs) (steps_of h ys) (steps_of-append h xs ys)
 
--- nothing was added
+-- if a list with more elements at its end equals the list, no elements were added
 pub none_added : (xs ys zs : List Step) → zs ≡ xs ++ ys → zs ≡ xs → ys ≡ []
 none_added xs ys zs e f = nil_from_length ys (let a = length-append xs ys in let b = ap length e in let c = ap length f in omega (arith, a, b, c))
 
--- places are told apart by their indexes
+-- two places with the same index are the same place
 pub one_place : (p q : Place) → same p q ≡ true → p ≡ q
 one_place p q e = same_index p q (eqb-true (index_of p) (index_of q) e)
 
@@ -72,7 +72,7 @@ same_place p = eq-eqb (index_of p) (index_of p) refl
 pub apart_place : (p q : Place) → index_of p ≢ index_of q → same p q ≡ false
 apart_place p q ne = ne_eqb (index_of p) (index_of q) ne
 
--- a test is true or false
+-- a statement about a test holds if it holds when the test is true and when it is false
 pub by_test : (P : Bool → Type 0) (b : Bool) → (b ≡ true → P true) → (b ≡ false → P false) → P b
 by_test P true yes_it no_it = yes_it refl
 by_test P false yes_it no_it = no_it refl
@@ -85,26 +85,26 @@ and_left : (a b : Bool) → (a && b) ≡ true → a ≡ true
 and_left true b e = refl
 and_left false b e = absurd (true≢false (sym e))
 
--- where places are, by what is asked of that
-pub with_is : (h : ℕ) (w : Where) → is_with h w ≡ true → w ≡ with_holder h
+-- where a place is follows from a test that is true of it
+pub with_is : (h : ℕ) (w : Location) → is_with h w ≡ true → w ≡ with_holder h
 with_is h nowhere e = absurd (true≢false (sym e))
 with_is h (with_holder a) e = ap with_holder (eqb-true a h e)
 with_is h (in_stack k) e = absurd (true≢false (sym e))
 
-pub with_itself : (h : ℕ) (w : Where) → w ≡ with_holder h → is_with h w ≡ true
+pub with_itself : (h : ℕ) (w : Location) → w ≡ with_holder h → is_with h w ≡ true
 with_itself h w e = ap (is_with h) e ∙ eq-eqb h h refl
 
-pub stacked_is : (k : ℕ) (w : Where) → is_stacked k w ≡ true → w ≡ in_stack k
+pub stacked_is : (k : ℕ) (w : Location) → is_stacked k w ≡ true → w ≡ in_stack k
 stacked_is k nowhere e = absurd (true≢false (sym e))
 stacked_is k (with_holder a) e = absurd (true≢false (sym e))
 stacked_is k (in_stack j) e = ap in_stack (eqb-true j k e)
 
-pub nowhere_is : (w : Where) → is_nowhere w ≡ true → w ≡ nowhere
+pub nowhere_is : (w : Location) → is_nowhere w ≡ true → w ≡ nowhere
 nowhere_is nowhere e = refl
 nowhere_is (with_holder a) e = absurd (true≢false (sym e))
 nowhere_is (in_stack k) e = absurd (true≢false (sym e))
 
--- where a place was that a step moves
+-- a place that a step of the holder a moves was with no other holder before the step
 module _ (m : Moment) (sound : IsSound m) (a : ℕ) (p : Place) where
   with_a : m.place p ≡ with_holder a → (h : ℕ) → h ≢ a → is_with h (m.place p) ≡ false
   with_a e h ne = ap (is_with h) e ∙ ne_eqb a h (λ f. ne (sym f))
@@ -120,7 +120,7 @@ module _ (m : Moment) (sound : IsSound m) (a : ℕ) (p : Place) where
       let inside : is_in p (m.stack k) ≡ true = ap (is_in p) (sym fits) ∙ mv in
       ap (is_with h) (stacked_is k (m.place p) (sym (sound.members p k) ∙ inside))
 
--- who holds a place after a step
+-- a place that a step of the holder a has moved is with a exactly if the step moves places to its holder, and it is with no other holder
 goes_mine : (a : ℕ) (e : Step) → is_with a (goes a e) ≡ brings e
 goes_mine a (Claim q got) = eq-eqb a a refl
 goes_mine a (Release q) = refl
@@ -140,12 +140,12 @@ pub with_other : (m : Moment) → IsSound m → (a h : ℕ) (e : Step) (p : Plac
 with_other m sound a h e p fits ne = by_test (λ b. moves p e ≡ b → is_with h (cond b (goes a e) (m.place p)) ≡ is_with h (m.place p)) (moves p e)
     (λ t mv. goes_other a h e ne ∙ sym (was_other m sound a p e fits mv h ne)) (λ f mv. refl) refl
 
--- whether a test holds, in one case and in the other
+-- a statement about a test holds if it follows both from a true test and from a false test
 pub by_case : (P : Bool → Type 0) (b : Bool) → (b ≡ true → P b) → (b ≡ false → P b) → P b
 by_case P true yes_it no_it = yes_it refl
 by_case P false yes_it no_it = no_it refl
 
--- members of two lists, one after the other
+-- a place is in two joined lists exactly if it is in one of them
 pub in_both : (p : Place) (s t : List Place) → is_in p (s ++ t) ≡ (is_in p s || is_in p t)
 in_both p [] t = refl
 in_both p (q ∷ s) t = by_test (λ b. (b || is_in p (s ++ t)) ≡ ((b || is_in p s) || is_in p t)) (same p q) (λ _. refl) (λ _. in_both p s t)
@@ -163,7 +163,7 @@ once_both (p ∷ s) t a b apart = (
   once_both s t a.1 b (λ q e. apart q (in_rest p q s e)),
 )
 
--- what stacks have stays what the places say
+-- after a step, the members of each stack are still exactly the places that are in this stack
 module _ (m : Moment) (sound : IsSound m) (a : ℕ) where
   -- a place that is with a holder, or with nobody, is in no stack
   pub off_stacks : (p : Place) (k : ℕ) → m.place p ≡ with_holder a → is_in p (m.stack k) ≡ false

@@ -1,4 +1,4 @@
--- Accounts that go from hand to hand, and those of the first hand.
+-- Accounts that move from hand to hand, and the accounts that the first hand has at the start.
 use Rattle.std.proofs.Common.{◌≡◌, ◌≢◌, ℕ, zero, suc, ◌+◌, ◌<◌, ◌≤◌, eqb, true, false, List, [], ◌∷◌, ◌++◌, map, take, drop, length, get_or, set, sum_by, All, Contains, IsPermutation, ◌⊎◌, inl, inr, ⊎_elim, refl, sym, ap, ◌∙◌, subst, arith, eq-eqb, ne_eqb, append-nil, length-append, take-append-drop}
 use Rattle.std.specs.List.{IsDistinct, range_with_len}
 use Rattle.std.proofs.lemmas.List.{set-get_or}
@@ -13,24 +13,24 @@ use native.Mathlib.Decide.{ℕ_discrete}
 use lib.ListN.{get_elem?}
 use Rattle.atomic_table.specs.Table.{State, step, opening, keeps, Allows, Splits, Joins}
 use Rattle.ic_unsafe_ref.specs.Places.{index_of}
-use Rattle.ic_lock_free_stack.specs.declared.hand.Size.{Size}
-use Rattle.ic_lock_free_stack.specs.declared.hand.Account.{Account}
-use Rattle.ic_lock_free_stack.specs.declared.hand.HeldAccounts.{HeldAccounts}
+use Rattle.ic_lock_free_stack.specs.declared.held.Size.{Size}
+use Rattle.ic_lock_free_stack.specs.declared.held.Account.{Account}
+use Rattle.ic_lock_free_stack.specs.declared.held.HeldAccounts.{HeldAccounts}
 use Rattle.ic_lock_free_stack.specs.declared.step.Entry.{Entry}
 use Rattle.ic_lock_free_stack.specs.Moments.{at_first}
 use Rattle.ic_lock_free_stack.specs.Words.{head_at, Spells}
-use Rattle.ic_lock_free_stack.specs.Hands.{hand, accounts_in, fresh, all_fresh, without_first, only_first, both_hands, nothing_left, sees}
+use Rattle.ic_lock_free_stack.specs.Held.{hand, accounts_in, fresh, all_fresh, without_first, only_first, both_hands, nothing_left, sees}
 use Rattle.ic_lock_free_stack.specs.OneHistory.{IsKept, IsOneHistory}
 use Rattle.ic_lock_free_stack.specs.Rule.{Rule, Mine}
 use Rattle.ic_lock_free_stack.specs.Plays.{compared, Compares}
 use Rattle.ic_lock_free_stack.proofs.Lists.{each_all, all_each}
-use Rattle.ic_lock_free_stack.proofs.HandLemmas.{apart, cut, glue}
+use Rattle.ic_lock_free_stack.proofs.HeldLemmas.{apart, cut, glue}
 use Rattle.ic_lock_free_stack.proofs.HistoryLemmas.{name_of_account, heads_of_account, seen_itself, kept_seen}
 
 eqb_flips : (x y : ℕ) → eqb x y ≡ eqb y x
 eqb_flips x y = dite (ℕ_discrete x y) (λ e. eq-eqb x y e ∙ sym (eq-eqb y x (sym e))) (λ ne. ne_eqb x y ne ∙ sym (ne_eqb y x (λ e. ne (sym e))))
 
--- the one history does not hang on the order in which the accounts are counted
+-- whether accounts have one history does not depend on the order in which the accounts are listed
 pub permuted : (size : Size) (words : List ℕ) (xs ys : List Account) → IsPermutation xs ys → IsOneHistory size words xs → IsOneHistory size words ys
 permuted size words xs ys p was =
     let names : IsPermutation (map name_of_account xs) (map name_of_account ys) = IsPermutation-map name_of_account xs ys p in record {
@@ -47,7 +47,7 @@ permuted size words xs ys p was =
       counted = sum_by-IsPermutation heads_of_account xs ys p ∙ was.counted;
     }
 
--- the same accounts in other hands
+-- if the same accounts are in other hands, the rule still holds
 module _ (size : Size) (s t : State (Unit {0}) HeldAccounts) (words : t.words ≡ s.words) (moves : IsPermutation (accounts_in s.views) (accounts_in t.views)) where
   same_accounts : Rule size s → Rule size t
   same_accounts was = record {
@@ -57,7 +57,7 @@ module _ (size : Size) (s t : State (Unit {0}) HeldAccounts) (words : t.words �
     one = subst (λ w. IsOneHistory size w (accounts_in t.views)) (sym words) (permuted size s.words (accounts_in s.views) (accounts_in t.views) moves was.one);
   }
 
--- the first account goes to a new seat, and the accounts of a seat go to another
+-- the rule still holds if the first account of a seat moves to a new seat, or if the accounts of a seat move to another seat
 pub splits : (size : Size) (id : ℕ) (v : HeldAccounts) → Splits (Rule size) id v (without_first v) (only_first v)
 splits size id v s was at = same_accounts size s record { words = s.words; homes = s.homes; views = set s.views id (without_first v) ++ only_first v ∷ [] } refl
     (cut s.views id v (without_first v) (only_first v) at (take-append-drop 1 v.accounts)) was
@@ -66,7 +66,7 @@ pub joins : (size : Size) (id : ℕ) (v : HeldAccounts) (other : ℕ) (w : HeldA
 joins size id v other w s was at apart_from there = same_accounts size s record { words = s.words; homes = s.homes; views = set (set s.views id (both_hands v w)) other nothing_left } refl
     (glue s.views id other v w (both_hands v w) nothing_left at apart_from there refl refl) was
 
--- accounts see the whole history
+-- if some accounts see the whole history, the accounts still have one history
 at_seen : (f : Account → Account) (xs ys : List Account) (i : ℕ) (a : Account) → get_elem? (map f xs ++ ys) i ≡ some a → (b : Account) × (get_elem? (xs ++ ys) i ≡ some b) × ((b ≡ a) ⊎ (f b ≡ a))
 at_seen f [] ys i a e = (a, e, inl refl)
 at_seen f (x ∷ xs) ys zero a e = (x, refl, inr (some-injective (f x) a e))
@@ -102,7 +102,7 @@ length_seen : (o : List Entry) (xs : List Account) → length (map (sees o) xs) 
 length_seen o [] = refl
 length_seen o (x ∷ xs) = ap suc (length_seen o xs)
 
--- the accounts in hand are one history with all others, and see it
+-- after a load it is known that the accounts in hand and the accounts in all other hands have one history, which the accounts in hand have seen
 pub compares : (size : Size) (slots id : ℕ) (me : Mine) → me.0.size ≡ size → Allows (Rule size) slots id me 0 (λ n. n) (compared (step slots 0 0 0 none) me)
 unfolding permuted
 compares size slots id me sized s was homes at small =
@@ -136,7 +136,7 @@ compares size slots id me sized s was homes at small =
       })),
     )
 
--- THE TABLE AT THE START: every place's word is 0, every head is the word of an empty stack, and there is no step
+-- THE TABLE AT THE START: the word of each place is 0, each head is the word of an empty stack, and no step has been made
 names_fresh : (l : List ℕ) → map name_of_account (map fresh l) ≡ l
 names_fresh [] = refl
 names_fresh (x ∷ xs) = ap (λ l. x ∷ l) (names_fresh xs)

@@ -1,4 +1,4 @@
--- Places are taken of a stack in the order in which they came.
+-- Places are taken from a stack in the order in which they were pushed.
 use Rattle.std.proofs.Common.{◌≡◌, ℕ, eqb, cond, List, [], ◌∷◌, ◌++◌, reverse, append_assoc, append-nil, refl, sym, ap, ◌∙◌, eqb-true}
 use Rattle.std.proofs.lemmas.List.{reverse-append}
 use Rattle.ic_unsafe_ref.specs.declared.place.Place.{Place}
@@ -9,7 +9,7 @@ use Rattle.ic_lock_free_stack.specs.Moments.{Moment, at_first, members_after, af
 use Rattle.ic_lock_free_stack.specs.Orders.{sent, got, of_history}
 use Rattle.ic_lock_free_stack.proofs.MomentLemmas.{by_test}
 
--- what was there and then came is what was taken and then is there
+-- for one step, the members before the step and then the pushed places are the taken places and then the members after the step, in the order of the pushes
 one_comes : (m : Moment) (a k : ℕ) (e : Step) → Fits m a e → reverse (m.stack k) ++ sent k e ≡ got k e ++ reverse (members_after k (m.stack k) e)
 one_comes m a k (Claim q b) fits = append-nil (reverse (m.stack k))
 one_comes m a k (Release q) fits = append-nil (reverse (m.stack k))

@@ -1,24 +1,24 @@
--- A holder that tries to push a chain, of which this is the last place: what is kept from try to try, and why there are not too many.
+-- A holder that tries to push a chain with a given last place: what stays from try to try, and why there are not too many tries.
 use Rattle.std.proofs.Common.{length, ◌≡◌, ◌≢◌, ℕ, ◌+◌, ◌<◌, ◌≤◌, ◌||◌, false, true, true≢false, Some, List, [], ◌∷◌, drop, refl, sym, ap, ◌∙◌, subst, arith}
 use Rattle.std.proofs.lemmas.Option.{same_Some}
 use Rattle.ic_unsafe_ref.specs.declared.place.Place.{Place}
 use Rattle.ic_unsafe_ref.specs.Places.{index_of}
 use Rattle.ic_lock_free_stack.specs.Ends.{first, last}
-use Rattle.ic_lock_free_stack.specs.declared.hand.Known.{Known}
-use Rattle.ic_lock_free_stack.specs.declared.hand.Account.{Account}
+use Rattle.ic_lock_free_stack.specs.declared.held.Known.{Known}
+use Rattle.ic_lock_free_stack.specs.declared.held.Account.{Account}
 use Rattle.ic_lock_free_stack.specs.declared.stacks.Stacks.{Stacks}
 use Rattle.ic_lock_free_stack.specs.declared.stacks.Holder.{Holder}
 use Rattle.ic_lock_free_stack.specs.declared.stacks.Chain.{Chain}
 use Rattle.ic_lock_free_stack.specs.Moments.{same, is_in, IsOnce}
 use Rattle.ic_lock_free_stack.specs.Records.{holds}
 use Rattle.ic_lock_free_stack.specs.Words.{known_of, knows, AreKnownTo, forgets}
-use Rattle.ic_lock_free_stack.specs.Hands.{noted}
+use Rattle.ic_lock_free_stack.specs.Held.{noted}
 use Rattle.ic_lock_free_stack.specs.Plays.{only, Misses}
 use Rattle.ic_lock_free_stack.specs.Holders.{places_of, IsSeatOf, account_of, record_of, AreKnown, AreKnownBut, HasChain, IsReady}
 use Rattle.ic_lock_free_stack.proofs.MomentLemmas.{one_place, same_place, by_test, in_rest}
 use Rattle.ic_lock_free_stack.proofs.WordLemmas.{known_mine, known_other, knowledge_left, forgets_long}
 
--- between two tries: the head was last seen like this, at a count of steps on heads that is no less than the number of tries
+-- between two tries: the holder has seen the head `head`, at a count of steps on heads that is no less than the number of tries
 pub record IsTrying {A : Type 0} (stacks : Stacks A) (old now : Holder) (k : ℕ) (p : Place) (head tries : ℕ) : Type 0 where
   pub known : List Known
   pub looked : ℕ
@@ -30,7 +30,7 @@ pub record IsTrying {A : Type 0} (stacks : Stacks A) (old now : Holder) (k : ℕ
   pub counted : tries ≤ looked
   pub few : looked < 18446744073709551615
 
--- the last of a list is in it, and its first one is before the others
+-- the last place of a list is in the list, and the first place comes before all others
 pub last_in : (s : List Place) (p : Place) → last s ≡ Some p → is_in p s ≡ true
 last_in [] p e = absurd (cc e)
 last_in (q ∷ []) p e = rw (ap (same p) (same_Some q p e) ∙ same_place p) refl
@@ -40,12 +40,12 @@ pub from_first : (s : List Place) (p : Place) → first s ≡ Some p → s ≡ p
 from_first [] p e = absurd (cc e)
 from_first (q ∷ s) p e = ap (λ r. r ∷ s) (same_Some q p e)
 
--- of two places of which one is in a list and the other is not
+-- if one place is in a list and another is not, the two places are different
 apart_from : (q p : Place) (s : List Place) → is_in q s ≡ false → is_in p s ≡ true → same q p ≡ false
 apart_from q p s out member = by_test (λ b. same q p ≡ b → b ≡ false) (same q p)
     (λ _ e. absurd (true≢false (sym member ∙ (ap (λ r. is_in r s) (sym (one_place q p e)) ∙ out)))) (λ _ _. refl) refl
 
--- what is known of a chain once the word of its last place is written
+-- after the word `head` was written to the last place of a chain, the known words of the chain name the next places, and the last is `head`
 known_to : (ks known : List Known) (s : List Place) (p : Place) (head : ℕ) → ((q : Place) → same q p ≡ false → known_of known q ≡ known_of ks q)
     → IsOnce s → AreKnownBut ks s → last s ≡ Some p → AreKnownTo (knows p head ∷ known) s head
 known_to ks known [] p head beside once but ends = tt
@@ -54,7 +54,7 @@ known_to ks known (q ∷ r ∷ s) p head beside once but ends =
     let ne : same q p ≡ false = apart_from q p (r ∷ s) once.0 (last_in (r ∷ s) p ends) in
     (known_other known p q head ne ∙ (beside q ne ∙ but.0), known_to ks known (r ∷ s) p head beside once.1 but.1 ends)
 
--- a chain whose last place is known is ready
+-- if the known word of each place of a list names the next place, the known word of each place except the last does
 known_but : (ks : List Known) (s : List Place) → AreKnown ks s → AreKnownBut ks s
 known_but ks [] known = tt
 known_but ks (p ∷ []) known = tt
@@ -71,7 +71,7 @@ chain_ready stacks h chain front back s was starts ends = record {
   held = was.held;
 }
 
--- and so is one place
+-- a single place that its holder holds is ready for a push
 pub one_ready : {A : Type 0} (stacks : Stacks A) (h : Holder) (p : Place) → index_of p < places_of stacks → holds p (record_of h) ≡ true → IsReady stacks h p p (p ∷ [])
 one_ready stacks h p low held = record {
   starts = refl;
@@ -86,7 +86,7 @@ one_ready stacks h p low held = record {
     only_one q = by_test (λ b. same q p ≡ b → (b || false) ≡ true → q ≡ p) (same q p) (λ _ e _. one_place q p e) (λ _ _ f. absurd (true≢false (sym f))) refl
 
 module _ {A : Type 0} (stacks : Stacks A) (old now : Holder) (k : ℕ) (p : Place) (head tries : ℕ) (was : IsTrying stacks old now k p head tries) where
-  -- the account between the store and the compare-exchange, and after a push
+  -- `ready` is the account of the holder between the store of a link and the compare-exchange of the head. What is known after a push follows from this account
   abbrev pub ready : Account
   ready = noted (account_of old) (knows p head ∷ was.known) k head was.looked
 
@@ -102,7 +102,7 @@ module _ {A : Type 0} (stacks : Stacks A) (old now : Holder) (k : ℕ) (p : Plac
     pub ready_longer : length (account_of old).known ≤ length (forgets s ready.known)
     ready_longer = let l = was.longer in let f = forgets_long s ready.known in omega (arith, l, f)
 
-  -- a try that missed
+  -- if a try has found another head, the holder can make one more try
   pub tries_more : (new : Holder) (n : ℕ) → IsSeatOf stacks new.seat → Misses stacks.table.shared.key ready k n new.seat.me.0 → IsTrying stacks old new k p n (tries + 1)
   tries_more new n table missed = record {
     known = knows p head ∷ was.known;

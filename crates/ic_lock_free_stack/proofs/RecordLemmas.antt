@@ -1,4 +1,4 @@
--- What a holder holds after one step more.
+-- What places a holder holds after one more step.
 use Rattle.std.proofs.Common.{◌≡◌, ◌≢◌, ℕ, cond, Bool, true, false, List, [], ◌∷◌, ◌++◌, refl, ap, ◌∙◌}
 use Rattle.std.specs.Bool.{OnTrue, OnFalse}
 use Rattle.ic_unsafe_ref.specs.declared.place.Place.{Place}
@@ -8,7 +8,7 @@ use Rattle.ic_lock_free_stack.specs.Moments.{same, is_in, moves}
 use Rattle.ic_lock_free_stack.specs.Records.{brings, holds, HoldsAlso, GivesUp, GivesUpAll, HoldsAll, HoldsTheSame}
 use Rattle.ic_lock_free_stack.proofs.MomentLemmas.{holds_more, one_place, same_place, by_test, in_here}
 
--- two places are told apart
+-- two different places have different indexes
 pub differ : (p q : Place) → q ≢ p → same q p ≡ false
 differ p q ne = by_test (λ b. same q p ≡ b → b ≡ false) (same q p) (λ _ e. absurd (ne (one_place q p e))) (λ _ _. refl) refl
 
@@ -32,7 +32,7 @@ claim_holds es w p is free = record {
 pub refused_holds : (es w : List Step) (p : Place) → w ≡ es ++ Claim p false ∷ [] → HoldsTheSame es w
 refused_holds es w p is q = holds_beside es w (Claim p false) is q refl
 
--- what one test of the word that a claim found says
+-- if a claim succeeded, its holder also holds the place, and otherwise the holder holds the same places as before
 pub claim_by_zero : (p : Place) (b : Bool) (es w : List Step) → w ≡ es ++ Claim p b ∷ [] → (b ≡ true → holds p es ≡ false)
     → OnTrue b (HoldsAlso es w p) × OnFalse b (HoldsTheSame es w)
 claim_by_zero p true es w is free = (claim_holds es w p is (free refl), tt)
@@ -52,7 +52,7 @@ push_holds es w k s is held = record {
   others = λ p none. holds_beside es w (Push k s) is p none;
 }
 
--- of one place
+-- giving up all places of a list with one place is giving up this place
 pub gives_one : (es w : List Step) (p : Place) → GivesUpAll es w (p ∷ []) → GivesUp es w p
 gives_one es w p all = record {
   was = all.was p (in_here p []);

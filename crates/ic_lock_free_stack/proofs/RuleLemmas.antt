@@ -1,4 +1,4 @@
--- Each kind of step keeps the rule, and tells its holder what its play says.
+-- Each kind of step keeps the rule of stacks, and its holder knows after the step what the definition for this kind says.
 use Rattle.std.proofs.Common.{◌≡◌, ◌≢◌, ℕ, ◌<◌, ◌+◌, eqb, Bool, true, false, true≢false, cond, Option, None, Some, List, [], ◌∷◌, ◌++◌, length, get_or, set, refl, sym, ap, ◌∙◌, subst, arith, eq-eqb, ne_eqb, eqb-true, length-set}
 use Rattle.std.proofs.lemmas.List.{get_or-set_same, get_or-set_other, set-get_or}
 use mathlib.Core.Logic.{dite}
@@ -15,23 +15,23 @@ use Rattle.ic_lock_free_stack.specs.Ends.{first}
 use Rattle.ic_lock_free_stack.specs.declared.step.Step.{Step}
 use Rattle.ic_lock_free_stack.specs.declared.step.Entry.{Entry}
 use Rattle.ic_lock_free_stack.specs.declared.step.Step.TheVariants.{Claim, Release, Push, TakeAll}
-use Rattle.ic_lock_free_stack.specs.declared.hand.Size.{Size}
-use Rattle.ic_lock_free_stack.specs.declared.hand.Known.{Known}
-use Rattle.ic_lock_free_stack.specs.declared.hand.Account.{Account}
-use Rattle.ic_lock_free_stack.specs.declared.hand.HeldAccounts.{HeldAccounts}
+use Rattle.ic_lock_free_stack.specs.declared.held.Size.{Size}
+use Rattle.ic_lock_free_stack.specs.declared.held.Known.{Known}
+use Rattle.ic_lock_free_stack.specs.declared.held.Account.{Account}
+use Rattle.ic_lock_free_stack.specs.declared.held.HeldAccounts.{HeldAccounts}
 use Rattle.ic_lock_free_stack.specs.Moments.{Moment, entry, nowhere, with_holder, is_nowhere, is_with, same, is_in, IsOnce, in_stack, moves, after, Fits}
 use Rattle.ic_lock_free_stack.specs.Records.{holds, pushes_and_takes, most_steps}
 use Rattle.ic_lock_free_stack.specs.Words.{link_to, word_at, head_at, Spells, known_of, knows, knows_all, AreKnownTo, forgets}
-use Rattle.ic_lock_free_stack.specs.Hands.{accounts_in, made, noted, sees}
+use Rattle.ic_lock_free_stack.specs.Held.{accounts_in, made, noted, sees}
 use Rattle.ic_lock_free_stack.specs.OneHistory.{heads_in, IsKept, IsOneHistory}
 use Rattle.ic_lock_free_stack.specs.Rule.{Rule, Mine}
 use Rattle.ic_lock_free_stack.specs.Plays.{only, OfPlace, OfHead, claimed, released, looked, linked, tried, took_all, peeked, followed, Makes, Misses, Takes, Sees}
 use Rattle.ic_lock_free_stack.proofs.MomentLemmas.{holds_more, one_place, same_place, by_test, with_is, with_itself, nowhere_is, off_stacks, off_free, in_its_stack}
 use Rattle.ic_lock_free_stack.proofs.WordLemmas.{head_apart, spells_place, place_same, spells_push, spells_take, known_member, known_beside, knowledge_lost, knowledge_left, each_known, known_linked, one_named, one_chain}
-use Rattle.ic_lock_free_stack.proofs.HandLemmas.{IsAmong, among}
+use Rattle.ic_lock_free_stack.proofs.HeldLemmas.{IsAmong, among}
 use Rattle.ic_lock_free_stack.proofs.HistoryLemmas.{Leaves, few_heads, kept_seen, looks_on, rests, goes_on, steps_on}
 
--- what a step tells at its own place or head, it tells at whichever they are
+-- what a step says of its own place or head is true of every place or head whose word has the same number
 module _ (t : TableStep (Unit {0})) (me : Mine) (size : Size) (a : Account) (is : me.0 ≡ only size a) where
   one_size : (z : Size) (b : Account) → me.0 ≡ only z b → size ≡ z
   one_size z b e = ap (λ (v : HeldAccounts). v.size) (sym is ∙ e)
@@ -69,15 +69,15 @@ module _ (size : Size) (slots id : ℕ) (a : Account) (me : Mine) (is : me.0 ≡
     abbrev kept : IsKept size s.words was.one.order m a
     kept = was.one.kept here.place a here.at
 
-    -- the history with one step more of this holder
+    -- the history with one more step of this holder at its end
     abbrev longer : Step → List Entry
     longer e = one.order ++ entry a.name e ∷ []
 
-    -- what a step tells
+    -- what the holder knows after a possible step
     makes : (e : Step) (ks : List Known) → Fits m a.name e → Makes size a e ks (only size (made a e (longer e) ks))
     makes e ks fits = record { seen = longer e; goes = goes_on size s.words accounts one here.place a here.at e fits; same = refl }
 
-    -- the table after a change of a word and of this account
+    -- if a word and this holder's account change and the accounts still have one history, the rule still holds
     ruled : (i n : ℕ) (b : Account) → IsOneHistory size (set s.words i n) (set accounts here.place b)
         → Rule size record { words = set s.words i n; homes = s.homes; views = set s.views id (only size b) }
     ruled i n b next =
@@ -88,7 +88,7 @@ module _ (size : Size) (slots id : ℕ) (a : Account) (me : Mine) (is : me.0 ≡
           one = subst (IsOneHistory size (set s.words i n)) (sym changed) next;
         }
 
-    -- the same words
+    -- if a word is replaced by its own value, the words stay the same
     same_words : (i : ℕ) → set s.words i (get_or s.words i 0) ≡ s.words
     same_words i = set-get_or s.words i 0
 
@@ -101,7 +101,7 @@ module _ (size : Size) (slots id : ℕ) (a : Account) (me : Mine) (is : me.0 ≡
     room_for_head : (k : ℕ) → k < size.stacks → size.places + k < length s.words
     room_for_head k small = omega (arith, small, was.words)
 
-    -- A PLACE
+    -- A STEP ON A PLACE: p is the place whose word the step is on
     module _ (p : Place) (inside : index_of p < size.places) where
       abbrev i : ℕ
       i = index_of p
@@ -109,7 +109,7 @@ module _ (size : Size) (slots id : ℕ) (a : Account) (me : Mine) (is : me.0 ≡
       abbrev n : ℕ
       n = word_at s.words p
 
-      -- claimed
+      -- the step of a claim of the place p, which succeeds if the word that was found is 0
       abbrev got : Step
       got = Claim p (eqb n 0)
 
@@ -144,12 +144,12 @@ module _ (size : Size) (slots id : ℕ) (a : Account) (me : Mine) (is : me.0 ≡
           (record { places = λ q _ _ full. claim_words (eqb n 0) refl q full; heads_too = λ _ k. claim_heads (eqb n 0) k })
           (let f = kept.few in omega (arith, f)) claim_known
 
-      -- held by this holder
+      -- what follows if this holder holds the place p
       module _ (held : holds p a.steps ≡ true) where
         mine_here : m.place p ≡ with_holder a.name
         mine_here = with_is a.name (m.place p) (kept.held p ∙ held)
 
-        -- a change of its word alone
+        -- if the word of the place p changes, the words of all other places stay
         held_words : (w : ℕ) (q : Place) → same q p ≡ false → word_at (set s.words i w) q ≡ word_at s.words q
         held_words w q ne = get_or-set_other s.words i (index_of q) w 0 (λ e. true≢false (sym (eq-eqb (index_of q) i e) ∙ ne))
 
@@ -195,7 +195,7 @@ module _ (size : Size) (slots id : ℕ) (a : Account) (me : Mine) (is : me.0 ≡
           link_next = rests size s.words accounts one here.place a here.at (set s.words i w) ready refl refl link_spells (held_leaves w 0)
               (record { own = kept.own; own_seen = kept.own_seen; begun = kept.begun; held = kept.held; known = link_known; few = kept.few; earlier = kept.earlier; seen = λ e. held_heads w a.stack ∙ kept.seen e })
 
-    -- A HEAD
+    -- A STEP ON A HEAD: k is the stack whose head the step is on
     module _ (k : ℕ) (small : k < size.stacks) where
       abbrev j : ℕ
       j = size.places + k
@@ -242,7 +242,7 @@ module _ (size : Size) (slots id : ℕ) (a : Account) (me : Mine) (is : me.0 ≡
       head_leaves w = record { places = λ q low _ _. beside w q low; heads_too = λ e. absurd (omega (arith, e)) }
 
       module _ (few : pushes_and_takes a.steps < most_steps) where
-        -- a chain that is linked to what the head is
+        -- the push of a chain whose last place is linked to the first member that the head names
         module _ (p : Place) (r : List Place) (w : ℕ) (is_p : w ≡ link_to (Some p)) (once : IsOnce (p ∷ r)) (ready : AreKnownTo a.known (p ∷ r) h) where
           abbrev chain : List Place
           chain = p ∷ r
@@ -265,7 +265,7 @@ module _ (size : Size) (slots id : ℕ) (a : Account) (me : Mine) (is : me.0 ≡
               (known_linked s.words a.known chain h (λ q e. (known_here q e).2) ready) is_p)
               (head_leaves w) (omega (arith, few)) push_known
 
-          -- the first member of the stack is not this holder's
+          -- the holder knows no word of the first member of the stack, because it does not hold this member
           head_off : (q : Place) → h ≡ link_to (Some q) → known_of a.known q ≡ 0
           head_off q e = dite (ℕ_discrete (known_of a.known q) 0) (λ none. none)
               (λ full. absurd (true≢false (sym ((kept.known q full).1) ∙ held_off (m.stack k) (one.spells.heads k small) (λ x f. in_its_stack m one.sound a.name x k f) q e)))
@@ -279,7 +279,7 @@ module _ (size : Size) (slots id : ℕ) (a : Account) (me : Mine) (is : me.0 ≡
           pub the_chain : (t : List Place) → AreKnownTo a.known t h → w ≡ link_to (first t) → chain ≡ t
           the_chain t known e = one_chain a.known h head_some head_off p r t ready known (sym is_p ∙ e)
 
-        -- all members
+        -- the members of the stack k, all of which a call takes
         abbrev all : List Place
         all = m.stack k
 
@@ -300,14 +300,14 @@ module _ (size : Size) (slots id : ℕ) (a : Account) (me : Mine) (is : me.0 ≡
             (spells_take size s.words m one.spells k 1 small (room_for_head k small) a.name one.sound refl)
             (head_leaves 1) (omega (arith, few)) take_known
 
--- what a compare-exchange of a head does, which finds n and leaves n'
+-- what a compare-exchange of a head changes, if it finds the word n and leaves the word n'
 record Tries (size : Size) (a : Account) (k new : ℕ) (s : State (Unit {0}) HeldAccounts) (id n n' : ℕ) : Type 0 where
   after : HeldAccounts
   ruled : Rule size record { words = set s.words (size.places + k) n'; homes = s.homes; views = set s.views id after }
   hits : n ≡ a.saw → (t : List Place) → new ≡ link_to (first t) → IsOnce t → AreKnownTo a.known t a.saw → Makes size a (Push k t) (forgets t a.known) after
   misses : n ≢ a.saw → Misses size a k n after
 
--- WHAT EACH STEP OWES, where its word is given by a number
+-- EACH STEP KEEPS THE RULE, and its holder then knows what the definition for the step says, if the number of the step's word is given
 module _ (size : Size) (slots id : ℕ) (a : Account) (me : Mine) (is : me.0 ≡ only size a) where
   module _ (p : Place) (inside : index_of p < size.places) where
     claims_at : Allows (Rule size) slots id me (index_of p) (λ n. either (eqb n 0) 1 n) (claimed (step slots (index_of p) 0 1 none) me)
@@ -402,7 +402,7 @@ module _ (size : Size) (slots id : ℕ) (a : Account) (me : Mine) (is : me.0 ≡
           )
 
       module _ (p : Place) (r : List Place) (new : ℕ) (is_p : new ≡ link_to (Some p)) (once : IsOnce (p ∷ r)) (ready : AreKnownTo a.known (p ∷ r) a.saw) (on : a.stack ≡ k) where
-        -- whether it finds what was seen, or not
+        -- what a compare-exchange of a head changes is right if it finds the head that was seen, and also if it finds another head
         try_one : (s : State (Unit {0}) HeldAccounts) (was : Rule size s) (at : get_elem? s.views id ≡ some me.0) (b : Bool) → eqb (head_at size s.words k) a.saw ≡ b
             → Tries size a k new s id (head_at size s.words k) (either b new (head_at size s.words k))
         try_one s was at true e =
@@ -446,7 +446,7 @@ module _ (size : Size) (slots id : ℕ) (a : Account) (me : Mine) (is : me.0 ≡
                   (out.hits, out.misses),
             )
 
--- the same where the word is given by a number that is the place's index
+-- a step on the word with the number i keeps the rule if i is the index of the place p
 module _ (size : Size) (slots id : ℕ) (a : Account) (me : Mine) (is : me.0 ≡ only size a) (p : Place) (inside : index_of p < size.places) (i : ℕ) (on : i ≡ index_of p) where
   pub claims : Allows (Rule size) slots id me i (λ n. either (eqb n 0) 1 n) (claimed (step slots i 0 1 none) me)
   claims = subst (λ j. Allows (Rule size) slots id me j (λ n. either (eqb n 0) 1 n) (claimed (step slots j 0 1 none) me)) (sym on) (claims_at size slots id a me is p inside)
@@ -460,7 +460,7 @@ module _ (size : Size) (slots id : ℕ) (a : Account) (me : Mine) (is : me.0 ≡
   pub follows : known_of a.known p ≢ 0 → Allows (Rule size) slots id me i (λ n. n) (followed (step slots i 0 0 none) me)
   follows full = subst (λ j. Allows (Rule size) slots id me j (λ n. n) (followed (step slots j 0 0 none) me)) (sym on) (follows_at size slots id a me is p inside full)
 
--- the same of a head
+-- a step on the word with the number i keeps the rule if i is the number of the head of the stack k
 module _ (size : Size) (slots id : ℕ) (a : Account) (me : Mine) (is : me.0 ≡ only size a) (k : ℕ) (small : k < size.stacks) (i : ℕ) (on : i ≡ size.places + k) where
   pub looks : Allows (Rule size) slots id me i (λ n. n) (looked (step slots i 0 0 none) me)
   looks = subst (λ j. Allows (Rule size) slots id me j (λ n. n) (looked (step slots j 0 0 none) me)) (sym on) (looks_at size slots id a me is k small)

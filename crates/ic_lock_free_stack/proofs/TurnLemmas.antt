@@ -1,4 +1,4 @@
--- A chain that is turned round, place by place.
+-- A chain that is reversed, place by place.
 use Rattle.std.proofs.Common.{◌≡◌, ◌||◌, true, false, true≢false, Some, None, List, [], ◌∷◌, ◌++◌, reverse, drop, append_assoc, append-nil, refl, sym, ap, ◌∙◌, subst}
 use Rattle.std.proofs.lemmas.List.{reverse-append, reverse-reverse}
 use Rattle.ic_unsafe_ref.specs.declared.place.Place.{Place}
@@ -12,11 +12,11 @@ use Rattle.ic_lock_free_stack.proofs.MomentLemmas.{by_test, one_place, in_here, 
 use Rattle.ic_lock_free_stack.proofs.HolderLemmas.{apart_in, empty_chain, one_sequence}
 use Rattle.ic_lock_free_stack.proofs.PushLemmas.{from_first}
 
--- the first of a list is in it
+-- the first place of a list is in the list
 pub first_in : (l : List Place) (p : Place) → first l ≡ Some p → is_in p l ≡ true
 first_in l p e = ap (is_in p) (from_first l p e) ∙ in_here p (drop 1 l)
 
--- between two places: the chain was s, of which the places after are left, and those before are turned round
+-- during the reversal: the chain was s, the places after the current position are left, and the places before it are reversed
 pub record IsTurning {A : Type 0} (stacks : Stacks A) (old now : Holder) (chain left turned : Chain) (s : List Place) : Type 0 where
   pub was : HasChain stacks old chain s
   pub made : IsOf stacks now
@@ -46,7 +46,7 @@ module _ {A : Type 0} (stacks : Stacks A) where
     keeps = λ t u has _. has;
   }
 
-  -- one place more
+  -- after one more place was moved, one more place is reversed
   module _ (old now new : Holder) (chain left turned left' turned' : Chain) (s : List Place) (p : Place) (was : IsTurning stacks old now chain left turned s) (found : Some p ≡ first was.rest)
       (out : is_in p (drop 1 was.rest) ≡ false) (made : IsOf stacks new) (stays : Stays now new)
       (rest_is : HasChain stacks now left' (drop 1 was.rest)) (linked : HasChain stacks new turned' (p ∷ was.done)) (keeps : KeepsChains stacks now new (λ q. same q p)) where
@@ -79,7 +79,7 @@ module _ {A : Type 0} (stacks : Stacks A) where
           (λ _ f. absurd (true≢false (sym (was.inside p here) ∙ (ap (λ r. is_in r s) (sym (one_place q p f)) ∙ clean q member)))) (λ _ _. refl) refl);
     }
 
-  -- where none is left
+  -- if no place is left, the new chain has the places of the old chain in reverse order
   pub turned_round : (old now : Holder) (chain left turned : Chain) (s : List Place) (was : IsTurning stacks old now chain left turned s) → None ≡ first was.rest
       → (t : List Place) → HasChain stacks old chain t → HasChain stacks now turned (reverse t)
   turned_round old now chain left turned s was none t has =

@@ -1,4 +1,4 @@
--- The words at a moment, after one of them has changed.
+-- The words at a moment, after one word has changed.
 use Rattle.std.proofs.Common.{◌≡◌, ◌≢◌, ℕ, ◌+◌, ◌<◌, eqb, true, false, true≢false, cond, ◌||◌, Some, None, List, [], ◌∷◌, ◌++◌, length, set, refl, sym, ap, ◌∙◌, subst, arith, eq-eqb, eqb-true}
 use Rattle.std.proofs.lemmas.List.{get_or-set_same, get_or-set_other}
 use mathlib.Core.Logic.{dite}
@@ -8,14 +8,14 @@ use Rattle.ic_unsafe_ref.specs.Places.{index_of}
 use Rattle.ic_unsafe_ref.proofs.PlaceLemmas.{same_index}
 use Rattle.ic_lock_free_stack.specs.Ends.{first}
 use Rattle.ic_lock_free_stack.specs.declared.step.Step.TheVariants.{Push, TakeAll}
-use Rattle.ic_lock_free_stack.specs.declared.hand.Size.{Size}
-use Rattle.ic_lock_free_stack.specs.declared.hand.Known.{Known}
-use Rattle.ic_lock_free_stack.specs.Moments.{Where, with_holder, in_stack, is_nowhere, Moment, same, is_in, after}
+use Rattle.ic_lock_free_stack.specs.declared.held.Size.{Size}
+use Rattle.ic_lock_free_stack.specs.declared.held.Known.{Known}
+use Rattle.ic_lock_free_stack.specs.Moments.{Location, with_holder, in_stack, is_nowhere, Moment, same, is_in, after}
 use Rattle.ic_lock_free_stack.specs.Words.{link_to, word_at, head_at, AreLinked, link_or, AreLinkedTo, Spells, known_of, knows, knows_all, AreKnownTo, forgets}
 use Rattle.ic_lock_free_stack.specs.OneHistory.{IsSound}
 use Rattle.ic_lock_free_stack.proofs.MomentLemmas.{one_place, same_place, apart_place, by_test, by_case, off_stacks, in_both, in_here, in_rest}
 
--- a change of a word that is none of a member's leaves the members linked
+-- if a word changes that is not the word of a member, the members stay linked
 pub linked_beside : (words : List ℕ) (i n : ℕ) (s : List Place) → ((p : Place) → is_in p s ≡ true → index_of p ≢ i) → AreLinked words s → AreLinked (set words i n) s
 linked_beside words i n [] beside was = tt
 linked_beside words i n (p ∷ s) beside was = (
@@ -23,7 +23,7 @@ linked_beside words i n (p ∷ s) beside was = (
   linked_beside words i n s (λ q inside. beside q (by_test (λ b. (b || is_in q s) ≡ true) (same q p) (λ _. refl) (λ _. inside))) was.1,
 )
 
--- members that are linked to what is after them
+-- if the last of several members is linked to the first of other members, all members together are linked
 pub linked_both : (words : List ℕ) (s t : List Place) → AreLinkedTo words s (link_to (first t)) → AreLinked words t → AreLinked words (s ++ t)
 linked_both words [] t front back = back
 linked_both words (p ∷ []) t front back = (front.0, back)
@@ -33,12 +33,12 @@ pub linked_through : (words words' : List ℕ) (s : List Place) (n : ℕ) → ((
 linked_through words words' [] n through was = tt
 linked_through words words' (p ∷ s) n through was = (through p (in_here p s) ∙ was.0, linked_through words words' s n (λ q e. through q (in_rest p q s e)) was.1)
 
--- heads and places have words apart
+-- the word of a head is never the word of a place
 pub head_apart : (size : Size) (i k : ℕ) → i < size.places → size.places + k ≢ i
 head_apart size i k inside e = absurd (omega (arith, inside, e))
 
--- THE WORD OF A PLACE changes, which lies in no stack
-module _ (size : Size) (words : List ℕ) (m : Moment) (p : Place) (n : ℕ) (f : Place → Where) (was : Spells size words m)
+-- THE WORD OF A PLACE CHANGES: if the place is in no stack, the words agree with the moment after the change
+module _ (size : Size) (words : List ℕ) (m : Moment) (p : Place) (n : ℕ) (f : Place → Location) (was : Spells size words m)
     (inside : index_of p < size.places) (room : index_of p < length words)
     (off : (k : ℕ) → is_in p (m.stack k) ≡ false) (others : (q : Place) → same q p ≡ false → f q ≡ m.place q) (here : eqb n 0 ≡ is_nowhere (f p)) where
   beside_members : (k : ℕ) (q : Place) → is_in q (m.stack k) ≡ true → index_of q ≢ index_of p
@@ -58,7 +58,7 @@ module _ (size : Size) (words : List ℕ) (m : Moment) (p : Place) (n : ℕ) (f 
     inside = was.inside;
   }
 
--- A HEAD changes
+-- A HEAD CHANGES: the word of the head of the stack k is now n
 module _ (size : Size) (words : List ℕ) (m : Moment) (was : Spells size words m) (k n : ℕ) (small : k < size.stacks) (room : size.places + k < length words) where
   abbrev words' : List ℕ
   words' = set words (size.places + k) n
@@ -75,7 +75,7 @@ module _ (size : Size) (words : List ℕ) (m : Moment) (was : Spells size words 
   links_same : (j : ℕ) → AreLinked words' (m.stack j)
   links_same j = linked_beside words (size.places + k) n (m.stack j) (λ q member e. absurd (omega (arith, was.inside j q member, e))) (was.links j)
 
-  -- to the first of a chain that its holder has linked to what the head was
+  -- the head now names the first place of a chain whose holder has linked the last place to the member that the head named before
   module _ (a : ℕ) (p : Place) (r : List Place) (low : (q : Place) → is_in q (p ∷ r) ≡ true → index_of q < size.places) (mine : (q : Place) → is_in q (p ∷ r) ≡ true → m.place q ≡ with_holder a)
       (ready : AreLinkedTo words (p ∷ r) (head_at size words k)) (is : n ≡ link_to (Some p)) where
     abbrev s : List Place
@@ -103,7 +103,7 @@ module _ (size : Size) (words : List ℕ) (m : Moment) (was : Spells size words 
     pub spells_push : Spells size words' (after m a (Push k s))
     spells_push = record { free = push_free; heads = push_heads; links = push_links; inside = push_inside }
 
-  -- to the word of an empty stack
+  -- the head now is the word of an empty stack, because all members were taken
   module _ (a : ℕ) (sound : IsSound m) (is : n ≡ link_to None) where
     take_free : (q : Place) → index_of q < size.places → eqb (word_at words' q) 0 ≡ is_nowhere (cond (is_in q (m.stack k)) (with_holder a) (m.place q))
     take_free q low = ap (λ w. eqb w 0) (place_same q low) ∙ (was.free q low ∙ by_test (λ b. is_in q (m.stack k) ≡ b → is_nowhere (m.place q) ≡ is_nowhere (cond b (with_holder a) (m.place q))) (is_in q (m.stack k))
@@ -122,14 +122,14 @@ module _ (size : Size) (words : List ℕ) (m : Moment) (was : Spells size words 
     pub spells_take : Spells size words' (after m a (TakeAll k (m.stack k)))
     spells_take = record { free = take_free; heads = take_heads; links = take_links; inside = take_inside }
 
--- WHAT IS KNOWN
+-- WHAT WORDS ARE KNOWN: if the word n of the place p becomes known, the known word of p is n
 pub known_mine : (ks : List Known) (p : Place) (n : ℕ) → known_of (knows p n ∷ ks) p ≡ n
 known_mine ks p n = rw (same_place p) refl
 
 pub known_other : (ks : List Known) (p q : Place) (n : ℕ) → same q p ≡ false → known_of (knows p n ∷ ks) q ≡ known_of ks q
 known_other ks p q n ne = rw ne refl
 
--- of the members of a stack that are linked, the words are known, and of others as before
+-- after all members of a stack were taken, their words are known, and the known words of other places are as before
 pub known_member : (words : List ℕ) (s : List Place) (ks : List Known) (p : Place) → AreLinked words s → is_in p s ≡ true → known_of (knows_all s ks) p ≡ word_at words p
 known_member words [] ks p linked member = absurd (true≢false (sym member))
 known_member words (q ∷ s) ks p linked member = by_test (λ b. same p q ≡ b → (b || is_in p s) ≡ true → cond b (link_to (first s)) (known_of (knows_all s ks) p) ≡ word_at words p) (same p q)
@@ -153,7 +153,7 @@ pub forgets_long : (s : List Place) (ks : List Known) → length (forgets s ks) 
 forgets_long [] ks = omega arith
 forgets_long (q ∷ s) ks = let r = forgets_long s ks in omega (arith, r)
 
--- of each member of a chain the word is known
+-- the word of each member of a chain is known, because a link is never 0
 link_or_some : (s : List Place) (n : ℕ) → n ≢ 0 → link_or s n ≢ 0
 link_or_some [] n some e = some e
 link_or_some (p ∷ s) n some e = let f : link_to (Some p) ≡ 0 = e in absurd (omega (arith, f))
@@ -167,11 +167,11 @@ pub known_linked : (words : List ℕ) (ks : List Known) (s : List Place) (n : �
 known_linked words ks [] n through known = tt
 known_linked words ks (p ∷ s) n through known = (through p (in_here p s) ∙ known.0, known_linked words ks s n (λ q e. through q (in_rest p q s e)) known.1)
 
--- a word names one place
+-- two places with the same link are the same place
 pub one_named : (p q : Place) → link_to (Some p) ≡ link_to (Some q) → p ≡ q
 one_named p q e = same_index p q (omega (arith, e))
 
--- THE CHAIN IS ONE where its last word is the link to a place whose word is not known
+-- THE CHAIN IS DETERMINED by its first place and the known words if its last word is a link to a place whose word is not known
 module _ (ks : List Known) (n : ℕ) (some : n ≢ 0) (off : (p : Place) → n ≡ link_to (Some p) → known_of ks p ≡ 0) where
   one_rest : (s t : List Place) → AreKnownTo ks s n → AreKnownTo ks t n → link_or s n ≡ link_or t n → s ≡ t
   one_rest [] [] a b e = refl

@@ -13,7 +13,7 @@ abbrev pub times : Place → List Place → ℕ
 times p [] = 0
 times p (q ∷ qs) = (if same p q then 1 else 0) + times p qs
 
--- how often a step pushes the place to the stack k, and how often a step takes it from the stack
+-- how often a step pushes the place to the stack k, and how often a step takes the place from the stack k
 abbrev pub puts : ℕ → Place → Step → ℕ
 puts k p (Claim q got) = 0
 puts k p (Release q) = 0
@@ -26,11 +26,11 @@ takes_out k p (Release q) = 0
 takes_out k p (Push j s) = 0
 takes_out k p (TakeAll j s) = if j == k then times p s else 0
 
--- the same counts for all records together
+-- the sum of a count f over all steps of all records
 abbrev pub in_all : (Step → ℕ) → List Party → ℕ
 in_all f parties = sum_by (λ (x : Party). sum_by f x.steps) parties
 
--- one of the holders has made one more step, and the others none
+-- the holder with the name h has made one more step, which is e, and the other holders have made no step
 pub record OneStepOn (parties later : List Party) (h : ℕ) (e : Step) : Type 0 where
   pub names : map (λ (x : Party). x.name) later ≡ map (λ (x : Party). x.name) parties
   pub there : Contains (map (λ (x : Party). x.name) parties) h

@@ -2,7 +2,7 @@
 use Rattle.std.specs.Prelude.{Option, Some, None, List, [], ◌∷◌}
 use Rattle.ic_unsafe_ref.specs.declared.place.Place.{Place}
 
--- the first and the last of a list, none if it is empty
+-- the first place and the last place of a list, or none if the list is empty
 abbrev pub first : List Place → Option Place
 first [] = None
 first (p ∷ s) = Some p

@@ -3,7 +3,7 @@ pub mod Moments
 pub mod Records
 pub mod Words
 pub mod OneHistory
-pub mod Hands
+pub mod Held
 pub mod Rule
 pub mod Plays
 pub mod Holders

@@ -5,7 +5,7 @@ use Rattle.ic_lock_free_stack.specs.declared.step.Step.{Step}
 use Rattle.ic_lock_free_stack.specs.declared.step.Entry.{Entry}
 use Rattle.ic_lock_free_stack.specs.declared.step.Step.TheVariants.{Claim, Release, Push, TakeAll}
 
--- the places that a step pushes to the stack k, and those that it takes from it, in the order of the pushes
+-- the places that a step pushes to the stack k, and the places that a step takes from the stack k, each in the order in which they were pushed
 abbrev pub sent : ℕ → Step → List Place
 sent k (Claim q got) = []
 sent k (Release q) = []
@@ -18,7 +18,7 @@ got k (Release q) = []
 got k (Push j s) = []
 got k (TakeAll j s) = if j == k then reverse s else []
 
--- the same for all steps of a record, and of a history
+-- the places that f gives for all steps of a record, and for all steps of a history, one step after the other
 abbrev pub of_record : (Step → List Place) → List Step → List Place
 of_record f es = flat_map f es
 

@@ -1,4 +1,4 @@
-//! Laws of histories: what they imply for stacks.
+//! Laws of histories, and what they imply for stacks.
 
 ghost use Rattle.std.specs.Prelude.{◌≡◌, ℕ, ◌+◌, false, List, [], ◌∷◌, ◌++◌, reverse};
 ghost use Rattle.ic_unsafe_ref.specs.declared.place.Place.{Place};
@@ -10,7 +10,7 @@ ghost use Rattle.ic_lock_free_stack.specs.Counts.{times, puts, takes_out, in_all
 ghost use Rattle.ic_lock_free_stack.specs.Orders.{sent, got, of_history};
 ghost use Rattle.ic_lock_free_stack.specs.Moments.{entry, at_first, is_in, is_stacked, IsOnce, IsLegal, is_on_stack, stack_after, place_after};
 
-/// The law of the records of all holders: no place is lost, and none is taken twice.
+/// The law of the records of all holders: no place is lost, and no place is taken twice for one push.
 ///
 /// Each place was pushed to each stack as often as it was taken from it, and once more if it is in the stack.
 pub fn nothing_is_lost()
@@ -18,8 +18,7 @@ pub fn nothing_is_lost()
         → in_all (puts k p) parties ≡ in_all (takes_out k p) parties + times p (stack_after order k) }
 {}
 
-/// The law of order: the places pushed to a stack are those taken from it and then those left in it, in the order of
-/// the pushes.
+/// The law of order: in the order of the pushes, the places pushed to a stack are the places taken from it, followed by the places left in it.
 ///
 /// Of the places of one push, the last one counts as pushed first.
 pub fn places_come_in_order()
@@ -27,11 +26,9 @@ pub fn places_come_in_order()
         → of_history (sent k) order ≡ of_history (got k) order ++ reverse (stack_after order k) }
 {}
 
-/// The law of calls in turn: if all holders are together before a call and after it, the history gains the step of this call, and no
-/// other.
+/// The law of calls in turn: if all holders are together before a call and after it, the history gains the step of this call and no other step.
 ///
-/// So for one thread that has all holders, the stacks are plain lists: the laws of a history state how each call changes
-/// them.
+/// For one thread that has all holders, the stacks are therefore plain lists: the laws of a history state how each call changes them.
 pub fn calls_go_in_turn()
     ensures { (order new last : List Entry) (parties later : List Party) (h : ℕ) (e : Step) → IsHistory order parties
         → GoesOn h order e new → IsSeen new last → IsHistory last later → OneStepOn parties later h e
@@ -40,8 +37,8 @@ pub fn calls_go_in_turn()
 
 /// The laws of a history in which each step is possible at its moment.
 ///
-/// A push adds its places at the front of its stack. A call that takes all returns exactly the members of the stack, and leaves it
-/// empty. No other step changes a stack. The members of a stack are the places that are in it, each once.
+/// A push adds its places at the front of its stack. A call that takes all returns exactly the members of the stack, and leaves it empty. Only pushes and these
+/// calls change a stack. The members of a stack are the places that are in the stack, each once.
 pub fn history_laws()
     ensures pushes { (order : List Entry) (h k : ℕ) (s : List Place)
         → stack_after (order ++ entry h (Push k s) ∷ []) k ≡ s ++ stack_after order k }

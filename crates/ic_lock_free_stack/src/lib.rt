@@ -15,11 +15,11 @@
 //! stacks.audit(&mut holders);
 //! ```
 //!
-//! No call takes a single member, so the ABA problem does not arise: if a push finds the head that it has read, it may link its
-//! places to that head, whatever happened in between.
+//! No call takes a single member, so the ABA problem does not arise. If a push finds the head that it has read, it may link its places to this head, whatever
+//! happened in between.
 #![tactic(auto)]
 
-mod hand;
+mod held;
 mod laws;
 mod rule;
 mod stacks;

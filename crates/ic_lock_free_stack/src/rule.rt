@@ -1,13 +1,13 @@
 //! The rule of the words, and what a holder knows after each kind of step.
 
-use crate::hand::{HeldAccounts, Size};
+use crate::held::{HeldAccounts, Size};
 use atomic_table::{Join, Play, Split, TableRule};
 
-// The rule between any two steps.
+// The rule that holds between any two steps: the words and the accounts in all hands agree with one history.
 pub(crate) struct OneHistory;
 
 impl TableRule<(), HeldAccounts, Size> for OneHistory {
-    ghost use Rattle.ic_lock_free_stack.specs.Hands.{all_fresh};
+    ghost use Rattle.ic_lock_free_stack.specs.Held.{all_fresh};
     ghost use Rattle.ic_lock_free_stack.specs.Rule.{Rule};
 
     ghost holds = { Rule };
@@ -15,7 +15,7 @@ impl TableRule<(), HeldAccounts, Size> for OneHistory {
     ghost first = { all_fresh };
 }
 
-// A compare-exchange of a place's word, 0 to 1.
+// The step of a claim: a compare-exchange of a place's word from 0 to 1.
 pub(crate) struct Claimed;
 
 impl Play<(), HeldAccounts> for Claimed {
@@ -24,7 +24,7 @@ impl Play<(), HeldAccounts> for Claimed {
     ghost then = { claimed };
 }
 
-// A store of 0 in a place's word.
+// The step of a release: a store of 0 in a place's word.
 pub(crate) struct Released;
 
 impl Play<(), HeldAccounts> for Released {
@@ -33,7 +33,7 @@ impl Play<(), HeldAccounts> for Released {
     ghost then = { released };
 }
 
-// A load of a head.
+// The step that reads a head before a push: a load of the head.
 pub(crate) struct Looked;
 
 impl Play<(), HeldAccounts> for Looked {
@@ -42,7 +42,7 @@ impl Play<(), HeldAccounts> for Looked {
     ghost then = { looked };
 }
 
-// A store of the next member in a place's word.
+// The step that links a place that its holder holds: a store of a link to the next place, or of the head of a stack, in the place's word.
 pub(crate) struct Linked;
 
 impl Play<(), HeldAccounts> for Linked {
@@ -51,7 +51,7 @@ impl Play<(), HeldAccounts> for Linked {
     ghost then = { linked };
 }
 
-// A compare-exchange of a head, from the value that was seen to a place.
+// The step of a push: a compare-exchange of a head from the value that was seen to a link to a place.
 pub(crate) struct Tried;
 
 impl Play<(), HeldAccounts> for Tried {
@@ -60,7 +60,7 @@ impl Play<(), HeldAccounts> for Tried {
     ghost then = { tried };
 }
 
-// A swap of a head with the word of an empty stack.
+// The step that takes all members of a stack: a swap of its head with the word of an empty stack.
 pub(crate) struct TookAll;
 
 impl Play<(), HeldAccounts> for TookAll {
@@ -78,7 +78,7 @@ impl Play<(), HeldAccounts> for Peeked {
     ghost then = { peeked };
 }
 
-// A load of a place's word that the holder knows.
+// A load of a place's word whose content the holder knows.
 pub(crate) struct Followed;
 
 impl Play<(), HeldAccounts> for Followed {
@@ -87,7 +87,7 @@ impl Play<(), HeldAccounts> for Followed {
     ghost then = { followed };
 }
 
-// A load by which a new seat is made, with no account in hand.
+// The load by which a new seat is made. The new seat has no account in hand.
 pub(crate) struct Seated;
 
 impl Play<(), HeldAccounts> for Seated {
@@ -96,7 +96,7 @@ impl Play<(), HeldAccounts> for Seated {
     ghost then = { seated };
 }
 
-// A load after which the holder knows that the accounts in hand are one history with all others.
+// The load after which the holder knows that the accounts in hand and the accounts in all other hands have one history.
 pub(crate) struct Compared;
 
 impl Play<(), HeldAccounts> for Compared {
@@ -105,22 +105,22 @@ impl Play<(), HeldAccounts> for Compared {
     ghost then = { compared };
 }
 
-// The first account moves to a new seat.
+// The first account of a seat moves to a new seat.
 pub(crate) struct FirstOff;
 
 impl Split<HeldAccounts> for FirstOff {
-    ghost use Rattle.ic_lock_free_stack.specs.Hands.{without_first, only_first};
+    ghost use Rattle.ic_lock_free_stack.specs.Held.{without_first, only_first};
 
     ghost left = { without_first };
 
     ghost right = { only_first };
 }
 
-// The accounts of another seat are appended.
+// The accounts of another seat are appended to the accounts of a seat.
 pub(crate) struct After;
 
 impl Join<HeldAccounts> for After {
-    ghost use Rattle.ic_lock_free_stack.specs.Hands.{both_hands, nothing_left};
+    ghost use Rattle.ic_lock_free_stack.specs.Held.{both_hands, nothing_left};
 
     ghost both = { both_hands };
 

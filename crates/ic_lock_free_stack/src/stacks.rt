@@ -1,4 +1,4 @@
-//! The words, which threads share.
+//! The words of places and of heads, which threads share.
 
 ghost use Rattle.std.specs.Prelude.{◌≡◌, true, false, ◌<◌, ◌≤◌, ◌+◌, ℕ, List, [], ◌∷◌, ◌++◌, drop, IfSome};
 ghost use Rattle.std.specs.Bool.{OnTrue, OnFalse};
@@ -6,7 +6,7 @@ ghost use Rattle.ic_unsafe_ref.specs.declared.place.Place.{Place};
 ghost use Rattle.ic_unsafe_ref.specs.Places.{index_of};
 ghost use Rattle.ic_lock_free_stack.specs.Ends.{first};
 
-use crate::hand::{HeldAccounts, Size};
+use crate::held::{HeldAccounts, Size};
 use crate::rule::{
     After, Claimed, Compared, FirstOff, Followed, Linked, Looked, OneHistory, Peeked, Released,
     Seated, TookAll, Tried,
@@ -16,11 +16,10 @@ use ic_unsafe_ref::Place;
 use std::alloc::{AllocError, Allocator, Global};
 use thiserror::Error;
 
-/// Claims on places, and stacks of claimed places: a word for each place, and one for the head of each stack.
+/// Claims on places, and stacks of claimed places: there is a word for each place, and a word for the head of each stack.
 ///
-/// The word of a place is 0 if the place is free. Otherwise a holder holds the place, or it is in a stack, and its word names the next
-/// member. Threads share the stacks by reference, and a holder makes each call. Between any two atomic steps there is one history of all
-/// holders' steps.
+/// The word of a place is 0 if the place is free. Otherwise a holder holds the place, or the place is in a stack and its word names the next member. Threads
+/// share the stacks by reference, and a holder makes each call. Between any two atomic steps there is one history of all holders' steps.
 #[derive(Drop)]
 pub struct Stacks<A: Allocator = Global> {
     table: Table<(), HeldAccounts, Size, OneHistory, A>,
@@ -33,19 +32,17 @@ pub struct Stacks<A: Allocator = Global> {
     ghost fits: { places + stacks ≤ 8589934592 },
 }
 
-/// A token of no bytes, with which a party claims, pushes and takes places. It has the record of its steps, which only
-/// contracts see.
+/// A token of no bytes, with which a party claims, pushes and takes places. The holder has the record of its own steps, which only contracts see.
 ///
-/// If a holder is dropped, its places stay held.
+/// If a holder is dropped, the places that it holds stay held.
 #[derive(Drop)]
 pub struct Holder {
     seat: Seat<(), HeldAccounts>,
 }
 
-/// A chain of places that a holder holds, each linked to the next. The holder has taken them from a stack, or linked
-/// them itself.
+/// A chain of places that a holder holds, each linked to the next. The holder has taken the places from a stack, or has linked the places itself.
 ///
-/// If a chain is dropped, its holder still holds its places.
+/// If a chain is dropped, the holder still holds the places of the chain.
 #[derive(Drop)]
 pub struct Chain {
     first: Option<Place>,
@@ -54,14 +51,14 @@ pub struct Chain {
 impl Chain {
     ghost use Rattle.ic_lock_free_stack.specs.Holders.{first_of, IsNoChain};
 
-    /// An empty chain, for any stacks and any holder. O(1).
+    /// Makes an empty chain, for any stacks and any holder. O(1).
     pub fn new() -> Chain
         ensures { IsNoChain result }
     {
         Chain { first: None }
     }
 
-    /// Its first place, or `None` if the chain is empty. O(1).
+    /// Returns the first place of the chain, or `None` if the chain is empty. O(1).
     #[inline]
     pub fn first(&self) -> Option<Place>
         ensures { result ≡ first_of self.now }
@@ -69,7 +66,7 @@ impl Chain {
         self.first
     }
 
-    /// Whether the chain is empty. O(1).
+    /// Returns whether the chain is empty. O(1).
     #[inline]
     pub fn is_empty(&self) -> bool
         ensures empty { OnTrue result (IsNoChain self.now) }
@@ -85,7 +82,7 @@ pub enum StacksError {
     /// The caller requested more than 4,294,967,296 places.
     #[error("TooManyPlaces")]
     TooManyPlaces = 1,
-    /// There was no memory for them.
+    /// There was no memory for the stacks.
     #[error("OutOfMemory")]
     OutOfMemory = 2,
 }
@@ -93,15 +90,15 @@ pub enum StacksError {
 impl<A: Allocator + Copy> Stacks<A> {
     ghost use Rattle.std.specs.Prelude.{replicate, map, vec_len, All, IfOk, ◌↔◌};
     ghost use Rattle.std.specs.List.{range_with_len};
-    ghost use Rattle.ic_lock_free_stack.specs.Hands.{fresh};
+    ghost use Rattle.ic_lock_free_stack.specs.Held.{fresh};
     ghost use Rattle.ic_lock_free_stack.specs.Holders.{places_of, stacks_of, holders_of, IsSeatOf, hand_with, name_of, IsOf, IsNew};
 
-    /// Makes the given number of empty stacks over the places with an index below `places`, all of them free, and
-    /// `holders` holders, whose records are empty.
+    /// Makes the given number of empty stacks over the places with an index below `places`, all of them free. The call also makes `holders` holders, whose
+    /// records are empty.
     ///
-    /// It is refused if `places` is above 4,294,967,296, or if there is no memory; then nothing is made. It requires at least one stack and at
-    /// most 65,535 holders. At most four requests for memory, for one word for each place and each stack, and for the holders; no other call
-    /// makes any. O(places + stacks + holders).
+    /// The call is refused if `places` is above 4,294,967,296, or if there is no memory, and then nothing is made. The call requires at least one stack and at
+    /// most 65,535 holders. The call makes at most four requests for memory, for one word for each place and each stack, and for the holders. No other call
+    /// requests memory. O(places + stacks + holders).
     pub fn new(
         alloc: A,
         places: usize,
@@ -178,7 +175,7 @@ impl<A: Allocator> Stacks<A> {
     ghost use Rattle.ic_lock_free_stack.specs.Ends.{last as last_of};
     ghost use Rattle.ic_lock_free_stack.specs.declared.step.Entry.{Entry};
     ghost use Rattle.ic_lock_free_stack.specs.declared.stacks.Holder.{Holder};
-    ghost use Rattle.ic_lock_free_stack.specs.Hands.{without_first, only_first, both_hands};
+    ghost use Rattle.ic_lock_free_stack.specs.Held.{without_first, only_first, both_hands};
     ghost use Rattle.ic_lock_free_stack.specs.OneHistory.{IsSeen, IsHistory};
     ghost use Rattle.ic_lock_free_stack.specs.Holders.{holders_of, IsSeatOf, party_of, AreOneHistory, NoneTwice};
     ghost use Rattle.ic_lock_free_stack.specs.declared.step.Step.TheVariants.{Claim, Release, Push, TakeAll};
@@ -197,7 +194,7 @@ impl<A: Allocator> Stacks<A> {
         self.table.shared.split_seat::<FirstOff>(seat)
     }
 
-    // Appends the accounts of another seat to those of this one, and consumes that seat.
+    // Appends the accounts of the seat `other` to the accounts of the seat `seat`, and consumes `other`.
     fn put_after(&self, seat: &mut Seat<(), HeldAccounts>, other: Seat<(), HeldAccounts>)
         requires seat { IsSeatOf self.now seat.old }
         requires other { IsSeatOf self.now other × (other.me.1 ≡ []) }
@@ -207,7 +204,7 @@ impl<A: Allocator> Stacks<A> {
         self.table.shared.join_seat::<After>(seat, other);
     }
 
-    /// The number of places. These are the places whose index is smaller than this number. O(1).
+    /// Returns the number of places. A place belongs to the stacks if its index is smaller than this number. O(1).
     #[inline]
     pub fn places(&self) -> usize
         ensures { result ≡ places_of self.now }
@@ -215,7 +212,7 @@ impl<A: Allocator> Stacks<A> {
         self.places
     }
 
-    /// The number of stacks. O(1).
+    /// Returns the number of stacks. O(1).
     #[inline]
     pub fn stacks(&self) -> usize
         ensures { result ≡ stacks_of self.now }
@@ -223,11 +220,11 @@ impl<A: Allocator> Stacks<A> {
         self.stacks
     }
 
-    /// Proves to its caller that the records of these holders are parts of one history, which each of them has seen
-    /// then.
+    /// Proves to its caller that the records of the given holders are parts of one history, which each of these holders has seen afterwards.
     ///
-    /// It is the history of all holders, and it continues what each of these had seen. No place is held by two of them. It changes no word
-    /// and no record, and chains stay. It is never refused. Four loads for each holder and two more, O(holders). It waits for nobody.
+    /// The history has the steps of all holders, and continues what each given holder had seen. No place is held by two of the given holders. The call changes
+    /// no word and no record, and chains stay as they are. The call is never refused. Four loads for each holder and two more, O(holders). The call waits for
+    /// no other thread.
     pub fn audit<B: Allocator>(&self, holders: &mut Vec<Holder, B>)
         requires made { All (λ h. IsOf self.now h) holders.old.items }
         ensures made { All (λ h. IsOf self.now h) holders.new.items }
@@ -241,7 +238,7 @@ impl<A: Allocator> Stacks<A> {
         ensures apart { NoneTwice (map party_of holders.new.items) }
     {
         let words = &self.table.shared;
-        // The contract of a load is about one seat, so all accounts are first moved to one.
+        // The contract of a load is about one seat, so all accounts are first moved to one seat.
         let mut all = words.load_new_seat::<Seated>(0).1;
         for i in 0..holders.len() {
             let account = self.first_of(&mut holders[i].seat);
@@ -254,8 +251,7 @@ impl<A: Allocator> Stacks<A> {
         }
     }
 
-    /// Claims `place` and returns true, or returns false if the place is not free. One compare-exchange, O(1), which
-    /// waits for nobody.
+    /// Claims `place` and returns true, or returns false if the place is not free. One compare-exchange, O(1), which waits for no other thread.
     #[inline]
     pub fn claim(&self, holder: &mut Holder, place: Place) -> bool
         requires place { index_of place < places_of self.now }
@@ -271,7 +267,7 @@ impl<A: Allocator> Stacks<A> {
         found == 0
     }
 
-    /// Releases `place`. Any holder may claim it then. One store, O(1), which waits for nobody.
+    /// Releases `place`, so that any holder may claim the place afterwards. One store, O(1), which waits for no other thread.
     #[inline]
     pub fn release(&self, holder: &mut Holder, place: Place)
         requires place { index_of place < places_of self.now }
@@ -286,12 +282,12 @@ impl<A: Allocator> Stacks<A> {
         words.store::<Released>(&mut holder.seat, place.index(), 0);
     }
 
-    /// Whether the stack with the given number is empty, at a moment no earlier than the last that the holder had seen. One load,
-    /// O(1), which waits for nobody.
+    /// Returns whether the stack with the given number is empty, at a moment no earlier than the last moment that the holder had seen. One load, O(1), which
+    /// waits for no other thread.
     ///
-    /// Afterwards the holder has seen the history up to that moment. The moment is during the call, but the contract states less: if the
-    /// holder has seen nothing yet, it may be any moment since the stacks were made. After a [`Stacks::audit`] of all holders, each of them
-    /// has seen all steps.
+    /// After the call the holder has seen the history up to the moment to which the result belongs. The moment of the result is during the call, but the
+    /// contract states less: if the holder has seen nothing yet, any moment since the stacks were made is possible. After a [`Stacks::audit`] of all holders,
+    /// each holder has seen all steps.
     #[inline]
     pub fn is_empty(&self, holder: &mut Holder, stack: usize) -> bool
         requires stack { stack < stacks_of self.now }
@@ -306,11 +302,11 @@ impl<A: Allocator> Stacks<A> {
         words.load::<Peeked>(&mut holder.seat, self.places + stack) == 1
     }
 
-    /// Pushes `place` to the front of the stack with the given number. The holder no longer holds it then.
+    /// Pushes `place` to the front of the stack with the given number. Afterwards the holder no longer holds the place.
     ///
-    /// It requires that the holder holds the place, and that it has made fewer than 281,474,976,710,656 pushes and calls that take all. It is
-    /// never refused, takes no lock and waits for nobody. It makes one load, and then a store and a compare-exchange for each try. A try
-    /// fails only if another holder has changed a head in between, so there is at most one try more than such changes. O(1) a try.
+    /// The call requires that the holder holds the place, and that the holder has made fewer than 281,474,976,710,656 pushes and calls that take all members.
+    /// The call is never refused, takes no lock and waits for no other thread. The call makes one load, and then a store and a compare-exchange for each try. A
+    /// try fails only if another holder has changed a head in between, so there is at most one try more than such changes. O(1) a try.
     #[inline]
     pub fn push(&self, holder: &mut Holder, stack: usize, place: Place)
         requires stack { stack < stacks_of self.now }
@@ -326,11 +322,11 @@ impl<A: Allocator> Stacks<A> {
         self.push_linked(holder, stack, place, place);
     }
 
-    /// Pushes a chain to the front of the stack with the given number, in its order: the chain's first place is the stack's first then. The holder
-    /// no longer holds its places.
+    /// Pushes a chain to the front of the stack with the given number, in the order of the chain: the chain's first place becomes the stack's first. Afterwards
+    /// the holder no longer holds the places of the chain.
     ///
-    /// It requires that the chain is not empty, and that `last` is its last place: for example the one that was linked first. Otherwise it
-    /// is as [`Stacks::push`], and takes as many steps, whatever the number of places. O(1) a try.
+    /// The call requires that the chain is not empty, and that `last` is the last place of the chain, for example the place that was linked first. In
+    /// everything else the call is like [`Stacks::push`], and makes as many steps, whatever the number of places. O(1) a try.
     #[inline]
     pub fn push_all(&self, holder: &mut Holder, stack: usize, chain: Chain, last: Place)
         requires stack { stack < stacks_of self.now }
@@ -346,7 +342,7 @@ impl<A: Allocator> Stacks<A> {
         self.push_linked(holder, stack, first, last);
     }
 
-    // Pushes the places from `front` to `back`; each except the last is linked to the next.
+    // Pushes the places from `front` to `back`, of which each except the last is linked to the next place.
     #[inline]
     fn push_linked(&self, holder: &mut Holder, stack: usize, front: Place, back: Place)
         requires stack { stack < stacks_of self.now }
@@ -377,11 +373,11 @@ impl<A: Allocator> Stacks<A> {
         unreachable!()
     }
 
-    /// Takes all members of the stack with the given number, the last pushed first, and leaves it empty. The holder holds
-    /// each of them then.
+    /// Takes all members of the stack with the given number, the last pushed first, and leaves the stack empty. Afterwards the holder holds each of these
+    /// members.
     ///
-    /// It requires that the holder has made fewer than 281,474,976,710,656 pushes and calls that take all. One swap, O(1), which waits for
-    /// nobody. [`Stacks::next`] returns the members of the chain one by one.
+    /// The call requires that the holder has made fewer than 281,474,976,710,656 pushes and calls that take all members. One swap, O(1), which waits for no
+    /// other thread. [`Stacks::next`] returns the members of the chain one by one.
     #[inline]
     pub fn take_all(&self, holder: &mut Holder, stack: usize) -> Chain
         requires stack { stack < stacks_of self.now }
@@ -403,8 +399,8 @@ impl<A: Allocator> Stacks<A> {
 
     /// Adds `place` at the front of a chain. One store, O(1).
     ///
-    /// It requires that the holder holds the place, and that the place is not in the chain. It makes no step of the history,
-    /// since no other holder sees a chain.
+    /// The call requires that the holder holds the place, and that the place is not in the chain. The call makes no step of the history, because no other
+    /// holder sees a chain.
     #[inline]
     pub fn link(&self, holder: &mut Holder, chain: &mut Chain, place: Place)
         requires place { index_of place < places_of self.now }
@@ -425,7 +421,7 @@ impl<A: Allocator> Stacks<A> {
     /// Removes the first place from a chain and returns it, or `None` if the chain is empty. The holder still holds the place. One
     /// load, O(1).
     ///
-    /// It requires that the chain is intact: the holder has released or pushed none of its places.
+    /// The call requires that the chain is intact, which means that the holder has released or pushed no place of the chain.
     #[inline]
     pub fn next(&self, holder: &mut Holder, chain: &mut Chain) -> Option<Place>
         requires made { IsOf self.now holder.old }
@@ -443,8 +439,8 @@ impl<A: Allocator> Stacks<A> {
         Some(place)
     }
 
-    /// Reverses the chain: if it was taken from a stack, the place that was pushed first comes first then. One load and
-    /// one store for each place, O(n).
+    /// Reverses the chain: if the chain was taken from a stack, the place that was pushed first comes first afterwards. One load and one store for each place,
+    /// O(n).
     ///
     /// The holder rewrites the words of its own places, and makes no step of the history.
     pub fn reversed(&self, holder: &mut Holder, chain: Chain) -> Chain

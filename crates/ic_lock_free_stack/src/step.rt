@@ -7,20 +7,20 @@ use std::collections::LinkedList;
 ///
 /// No value of this type is made. Only contracts see records.
 pub enum Step {
-    /// It tried to claim the place; the result says whether it succeeded.
+    /// The holder tried to claim the place, and the second field says whether the claim succeeded.
     Claim(Place, bool),
-    /// It released the place.
+    /// The holder released the place.
     Release(Place),
-    /// It pushed these places to the front of the stack with this number, in this order.
+    /// The holder pushed the listed places to the front of the stack with the given number, in the order of the list.
     Push(usize, LinkedList<Place>),
-    /// It took all members of the stack with this number, which were these.
+    /// The holder took all members of the stack with the given number, and the members were the listed places.
     TakeAll(usize, LinkedList<Place>),
 }
 
-/// The steps of one holder, in their order.
+/// The steps of one holder, in the order in which the holder made them.
 pub type Record = LinkedList<Step>;
 
-/// A step of the holder with this name, in a history of all holders.
+/// An entry of a history of all holders: a step, and the name of the holder that made the step.
 ///
 /// No value of this type is made.
 pub struct Entry {
@@ -28,5 +28,5 @@ pub struct Entry {
     pub step: Step,
 }
 
-/// The steps of all holders, in their order.
+/// The steps of all holders, in the order in which they were made.
 pub type History = LinkedList<Entry>;

@@ -1,4 +1,4 @@
-//! A world at the command line: reads calls from standard input, one a line, and prints the answer to each.
+//! A world at the command line: the program reads calls from standard input, one on each line, and prints the answer to each call.
 #![tactic(auto)]
 
 use ic_program::{FAULT, Fault, run_program};
@@ -14,7 +14,7 @@ use std::thread::Threads;
 // The number of bytes that the program reads at once.
 const CAPACITY: usize = 65536;
 
-// The most bytes of any argument that the program knows.
+// The program knows no argument that is longer than this many bytes.
 const LONGEST: usize = 32;
 
 /// Returns the arguments after the program's name. If one of them is not UTF-8, or longer than any argument that the program knows, it returns a
@@ -36,7 +36,7 @@ fn arguments(rt: &(impl Env + AllocGlobal)) -> Result<Vec<String>, AllocError> {
     Ok(words)
 }
 
-// The word that replaces all arguments if one of them is unknown.
+// Returns the single empty word that replaces all arguments if one of them is not UTF-8 or is too long.
 fn unknown(rt: &impl AllocGlobal) -> Result<Vec<String>, AllocError> {
     Ok(vec![in rt.alloc(); String::new(rt.alloc())]?)
 }

@@ -1,4 +1,4 @@
--- For callers: trees in the order of their keys, after each kind of step, and what a search finds in them.
+-- Lemmas for callers about trees in the order of their keys: what a search finds, and that the order stays after an insert and a removal.
 use Rattle.std.proofs.Common.{◌≡◌, ◌≢◌, Bool, true, false, cond, Option, Some, None, IsSome, not, List, [], ◌∷◌, ◌++◌, map, drop, refl, sym, ap, ◌∙◌, subst, true≢false}
 use Rattle.std.proofs.lemmas.List.Elements.{filter_map-append}
 use Rattle.std.specs.Cmp.{IsTotalOrder, upto}
@@ -24,14 +24,14 @@ use Rattle.ic_rbtree.proofs.SortedAnswers.{put_after}
 use Rattle.ic_rbtree.proofs.SortedValues.{own_order_is}
 use Rattle.ic_plain.specs.SortedTrees.{IsInOrder, RepresentsInOrder}
 
--- a member at an end of what is represented
+-- the first place of a represented sequence is a member. `last_member` says the same of the last place
 pub first_member : {shows : List Place → Type 0} (s : List Place) → shows s → {p : Place} → Some p ≡ first s → HasMember shows p
 first_member {shows} s shown is = record { front = []; back = drop 1 s; shown = subst shows (first_is s is) shown }
 
 pub last_member : {shows : List Place → Type 0} (s : List Place) → shows s → {p : Place} → Some p ≡ last s → HasMember shows p
 last_member {shows} s shown is = record { front = but_last s; back = []; shown = subst shows (split_last s (sym is)) shown }
 
--- and the first of those that pass a test
+-- the first place of s that passes a test occurs in s. `passing_member` says that it is a member if s is represented
 first_passing : (test : Place → Bool) (s : List Place) (p : Place) → Some p ≡ first (filter test s) → (front : List Place) × (back : List Place) × (s ≡ front ++ p ∷ back)
 first_passing test [] p is = absurd (none_not p (sym is))
 first_passing test (x ∷ s) p is = by (test x) is (λ rest. first_passing test s p rest) where
@@ -43,7 +43,7 @@ first_passing test (x ∷ s) p is = by (test x) is (λ rest. first_passing test 
 pub passing_member : {shows : List Place → Type 0} (s : List Place) → shows s → (test : Place → Bool) {p : Place} → Some p ≡ first (filter test s) → HasMember shows p
 passing_member {shows} s shown test {p} is = let r = first_passing test s p is in record { front = r.0; back = r.1; shown = subst shows r.2 shown }
 
--- WHAT RISES, with one less
+-- A SORTED SEQUENCE stays sorted if one member is left out
 module _ {T K : Type 0} {cmp : K → K → Ordering} (total : IsTotalOrder cmp) (key : T → K) where
   level : (r : Ordering) → r ≢ Greater → is_gt r ≡ false
   level Less h = refl
@@ -64,13 +64,13 @@ module _ {T K : Type 0} {cmp : K → K → Ordering} (total : IsTotalOrder cmp) 
   rises_without (f ∷ g ∷ front) p back h = (h.0, rises_without (g ∷ front) p back h.1)
 
 module _ {T K : Type 0} {cmp : K → K → Ordering} (key : T → K) where
-  -- A NEW TREE is in order
+  -- A NEW TREE is in the order of the keys, because it has no members
   pub nothing_in_order : {E : Type 0} {n : E → Node} (t : Table E) {root : Option Place} (objects : Objects T) → root ≡ None → RepresentsInOrder cmp key (Represents n t root) objects
   nothing_in_order {n = n} t objects none = record { placed = record { members = []; shown = rw none (represents_nothing {n = n} t); placed = tt }; sorted = tt }
 
 module _ {T K : Type 0} {cmp : K → K → Ordering} (total : IsTotalOrder cmp) (key : T → K) {old : List Place → Type 0} (one : (s u : List Place) → old s → old u → s ≡ u) where
   module _ (objects : Objects T) (o : RepresentsInOrder cmp key old objects) where
-    -- of whatever sequence is represented, the objects are placed and sorted for each key
+    -- in each represented sequence, an object is at each member. `sorted_in` says that these members are sorted for each key
     placed_in : (s : List Place) → old s → ArePlaced objects s
     placed_in s shown = subst (ArePlaced objects) (one o.placed.members s o.placed.shown shown) o.placed.placed
 
@@ -78,7 +78,8 @@ module _ {T K : Type 0} {cmp : K → K → Ordering} (total : IsTotalOrder cmp) 
     sorted_in s shown k =
         sorted_for total key objects k s (placed_in s shown) (subst (λ (u : List Place). IsSorted cmp (map key (values_at objects u))) (one o.placed.members s o.placed.shown shown) o.sorted)
 
-    -- WHAT A SEARCH FINDS is the first with the key, or the first with that or a greater one
+    -- WHAT A SEARCH FINDS is the first member with the key. `bounded` says that a search by a lower bound finds the first member with the key or a
+    -- greater key
     pub found : (k : K) (s : List Place) → old s → {position : Option Place} → Finds (compared (order_of cmp key k) objects) s position
         → position ≡ first (filter (equal_at (compared (order_of cmp key k) objects)) s)
     found k s shown finds = found_is (sorted_in s shown k) finds
@@ -87,7 +88,7 @@ module _ {T K : Type 0} {cmp : K → K → Ordering} (total : IsTotalOrder cmp) 
         → position ≡ first (filter (at_most_at (compared (order_of cmp key k) objects)) s)
     bounded k s shown border = lower_is (cuts_at_most (sorted_in s shown k)) border
 
-    -- AN INSERT IN ORDER puts the object in by its key, and leaves the order
+    -- AN INSERT IN ORDER places the object after the members whose keys are not greater, and the tree stays in the order of the keys
     module _ {E H : Type 0} {Represents : Table E → H → List Place → Type 0} {t u : Table E} {head : H} {p : Place} (there : IsSome (object_at objects p)) where
       pub inserted : (s : List Place) → old s → InsertsInOrder Represents (compared (own_order cmp key objects p) objects) t u head s p
           → Represents u head (filter (λ q. not (less_at (compared (own_order cmp key objects p) objects) q)) s ++ p ∷ filter (less_at (compared (own_order cmp key objects p) objects)) s)
@@ -111,7 +112,7 @@ module _ {T K : Type 0} {cmp : K → K → Ordering} (total : IsTotalOrder cmp) 
             sorted = stays_sorted total key objects p v.1 x.gap placed sorted border;
           }
 
-  -- A REMOVAL leaves the order
+  -- A REMOVAL of a member leaves the tree in the order of the keys
   pub removed_in_order : {new : List Place → Type 0} {p : Place} → HasMember old p → ((front back : List Place) → old (front ++ p ∷ back) → new (front ++ back))
       → (objects : Objects T) → RepresentsInOrder cmp key old objects → RepresentsInOrder cmp key new objects
   removed_in_order {p = p} m off objects o =
@@ -132,14 +133,15 @@ module _ {T K : Type 0} {cmp : K → K → Ordering} (total : IsTotalOrder cmp) 
             (rises_without total key (values_at objects m.front) v.0 (values_at objects m.back) (subst (λ (l : List T). IsSorted cmp (map key l)) are sorted));
       }
 
--- A TREE IN ORDER
+-- THE TREE IS IN ORDER in each of the following lemmas: its members are in the order of their keys
 module _ {D T K E : Type 0} (cmp : K → K → Ordering) (key_of : D → T → K) (node : E → Node) (t : Table E) (tree : RBTree D (Option Place)) (objects : Objects T) (o : IsInOrder cmp key_of node t tree objects) where
-  -- is represented, with an object at each member,
+  -- if a tree is in order, the table represents its members, and an object is at each member
   pub in_order_placed : RepresentsPlaced (Represents node t (root_of tree)) objects
   unfolding IsInOrder
   in_order_placed = o.placed
 
-  -- and is so AFTER `Pool::place`: `keeps.entries` and `placed` are clauses of the call
+  -- the tree is still in order after a call of `Pool::place`, which grows the table and places a new object. `keeps.entries` and `placed` are clauses
+  -- of this call
   pub in_order_grown : (grown : Table E) {more : Objects T} {p : Place} {v : T} → ((q : Place) → grown.entry q ≡ t.entry q) → Places objects more p v → IsInOrder cmp key_of node grown tree more
   unfolding IsInOrder
   in_order_grown grown {more} {p} entries places =

@@ -11,7 +11,7 @@ use Rattle.ic_link_ops.specs.Widths.{wide}
 use Rattle.ic_link_ops.specs.Readings.{successor_of}
 use Rattle.ic_link_ops.specs.SinglyLinkedList.{Front, Represents, RepresentsSome}
 
--- the link of a singly linked list, and a table of such links
+-- the link of a singly linked list. `SinglyLinkOps` is a table of such links
 abbrev pub SinglyLink : Type 0
 SinglyLink = Link (OneWord Singly) ⊤
 
@@ -22,19 +22,19 @@ SinglyLinkOps A = PlainTable (OneWord Singly) A ⊤
 abbrev pub is_linked : SinglyLink → Bool
 is_linked = linked_by has_word
 
--- THE PLAIN TABLE of these links, as contracts of its callers see it
+-- THE PLAIN TABLE of the links of singly linked lists, as the contracts of its callers describe it
 abbrev pub plain_table : {A : Type 0} → SinglyLinkOps A → Table SinglyLink
 plain_table links = table wide no_word links
 
--- a table of such links represents s for the list with this first member
+-- a table of links of singly linked lists represents the sequence s for the list with the given first member
 abbrev pub RepresentsList : Table SinglyLink → Front → List Place → Type 0
 RepresentsList = Represents (successor_of next_word_of has_word)
 
--- the table represents some sequence for the list
+-- a table of links of singly linked lists represents some sequence for the list
 abbrev pub RepresentsSomeList : Table SinglyLink → Front → Type 0
 RepresentsSomeList = RepresentsSome (successor_of next_word_of has_word)
 
--- the plain table represents s, or some sequence, for the list
+-- the plain table represents the sequence s for the list. `PlainRepresentsSome` says that the plain table represents some sequence for the list
 abbrev pub PlainRepresents : {A : Type 0} → SinglyLinkOps A → Front → List Place → Type 0
 PlainRepresents links list s = RepresentsList (plain_table links) list s
 

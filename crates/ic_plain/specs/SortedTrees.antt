@@ -13,7 +13,7 @@ use Rattle.ic_rbtree.specs.Comparing.{compared, order_of, own_order}
 use Rattle.ic_rbtree.specs.PlainTrees.{node_by}
 use Rattle.ic_rbtree.specs.Tree.{adapter_of, root_of}
 
--- the link of a tree with words of 4 bytes, and the node that it stores
+-- the link of a tree, made of three words of 4 bytes. `narrow_node_of` is the node of the tree that a link stores
 abbrev pub NarrowTreeLink : Type 0
 NarrowTreeLink = Link ThreeNarrowWords ⊤
 
@@ -21,7 +21,8 @@ abbrev pub narrow_node_of : NarrowTreeLink → Node
 narrow_node_of = node_by node_in
 
 module _ {T K : Type 0} (cmp : K → K → Ordering) (key : T → K) where
-  -- a sequence is represented, each of its members has an object, and no key is less than the one before it
+  -- some sequence is represented, and an object is at each of its members. The keys of these objects are in order: no key is less than the key before
+  -- it
   pub record RepresentsInOrder (shows : List Place → Type 0) (objects : Objects T) : Type 0 where
     pub placed : RepresentsPlaced shows objects
     pub sorted : IsSorted cmp (map key (values_at objects placed.members))
@@ -30,26 +31,26 @@ module _ {T K : Type 0} (cmp : K → K → Ordering) (key : T → K) where
 module _ {D T K : Type 0} (cmp : K → K → Ordering) (key_of : D → T → K) where
   -- `node`: the node of a tree that an entry stores
   module _ {E : Type 0} (node : E → Node) where
-    -- THE TREE IS IN ORDER: its members, as the table represents them, are in the order of their keys
+    -- THE TREE IS IN ORDER: the members that the table represents for the tree are in the order of their keys
     unfoldable pub IsInOrder : Table E → RBTree D (Option Place) → Objects T → Type 0
     IsInOrder t tree objects = RepresentsInOrder cmp (key_of (adapter_of tree)) (Represents node t (root_of tree)) objects
 
-    -- THE ORDER STAYS, whatever objects there are
+    -- THE ORDER STAYS: if the old tree is in order, the new tree is in order, whatever objects are at the places
     abbrev pub StaysInOrder : Table E → RBTree D (Option Place) → Table E → RBTree D (Option Place) → Type 0
     StaysInOrder t old u new = (objects : Objects T) → IsInOrder t old objects → IsInOrder u new objects
 
   module _ (tree : RBTree D (Option Place)) (objects : Objects T) where
-    -- the members of a sequence with this key, and those with this key or a greater one
+    -- the members of the sequence s whose keys are equal to `key`. `from_key` returns the members of s whose keys are equal to `key` or greater
     abbrev pub with_key : K → List Place → List Place
     with_key key s = filter (equal_at (compared (order_of cmp (key_of (adapter_of tree)) key) objects)) s
 
     abbrev pub from_key : K → List Place → List Place
     from_key key s = filter (at_most_at (compared (order_of cmp (key_of (adapter_of tree)) key) objects)) s
 
-    -- whether the key of p is less than that of another place
+    -- whether the key of the object at p is less than the key of the object at q
     abbrev pub is_before : Place → Place → Bool
     is_before p q = less_at (compared (own_order cmp (key_of (adapter_of tree)) objects p) objects) q
 
-    -- p inserted by its key: after the members whose keys are equal or less, before those whose keys are greater
+    -- the sequence s with p inserted by its key: after the members whose keys are equal or less, and before the members whose keys are greater
     abbrev pub put_by_key : List Place → Place → List Place
     put_by_key s p = filter (λ q. not (is_before p q)) s ++ p ∷ filter (is_before p) s

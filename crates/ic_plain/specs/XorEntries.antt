@@ -12,7 +12,7 @@ use Rattle.ic_link_ops.specs.Widths.{wide}
 use Rattle.ic_link_ops.specs.Readings.{HasXorNeighbors}
 use Rattle.ic_link_ops.specs.XorLinkedList.{Represents, RepresentsSome}
 
--- the link of an XOR list, and a table of such links
+-- the link of an XOR list. `XorLinkOps` is a table of such links
 abbrev pub XorLink : Type 0
 XorLink = Link (OneWord Xor) ⊤
 
@@ -23,19 +23,19 @@ XorLinkOps A = PlainTable (OneWord Xor) A ⊤
 abbrev pub is_linked : XorLink → Bool
 is_linked = linked_by has_word
 
--- THE PLAIN TABLE of these links, as contracts of its callers see it
+-- THE PLAIN TABLE of the links of XOR lists, as the contracts of its callers describe it
 abbrev pub plain_table : {A : Type 0} → XorLinkOps A → Table XorLink
 plain_table links = table wide no_word links
 
--- a table of XOR links represents s for the list with these ends
+-- a table of XOR links represents the sequence s for the list with the given first and last members
 abbrev pub RepresentsList : Table XorLink → Ends → List Place → Type 0
 RepresentsList = Represents is_linked (HasXorNeighbors next_word_of)
 
--- the table represents some sequence for the list
+-- a table of XOR links represents some sequence for the list
 abbrev pub RepresentsSomeList : Table XorLink → Ends → Type 0
 RepresentsSomeList = RepresentsSome is_linked (HasXorNeighbors next_word_of)
 
--- the plain table represents s, or some sequence, for the list
+-- the plain table represents the sequence s for the list. `PlainRepresentsSome` says that the plain table represents some sequence for the list
 abbrev pub PlainRepresents : {A : Type 0} → XorLinkOps A → Ends → List Place → Type 0
 PlainRepresents links list s = RepresentsList (plain_table links) list s
 

@@ -1,4 +1,4 @@
-//! Examples of callers, with their contracts. None of them needs a proof file.
+//! Examples of callers, with their contracts. No example needs a proof file.
 //!
 //! ```text
 //! example::add(&mut recent, &mut links, object);
@@ -30,7 +30,7 @@ use ic_rbtree::{KeyAdapter, RBTree};
 use ic_unsafe_ref::{Objects, UnsafeRef};
 use std::alloc::Allocator;
 
-/// Inserts an object that is not linked, before all others. O(1).
+/// Inserts an object that is not linked, before all other members. O(1).
 pub fn add<T, A: Allocator>(list: &mut LinkedList<T>, links: &mut LinkOps<A>, object: UnsafeRef<T>)
     requires covered { IsCovered (plain_table links.old) object }
     requires unlinked { IsUnlinked is_linked (plain_table links.old) object }
@@ -40,7 +40,7 @@ pub fn add<T, A: Allocator>(list: &mut LinkedList<T>, links: &mut LinkOps<A>, ob
     linked_list::push_front(list, links, object);
 }
 
-/// Moves a member before all others, since it was used. O(1).
+/// Moves a member before all other members, because it was used. O(1).
 pub fn reuse<T, A: Allocator>(
     list: &mut LinkedList<T>,
     links: &mut LinkOps<A>,
@@ -53,7 +53,7 @@ pub fn reuse<T, A: Allocator>(
     linked_list::move_to_front(list, links, object);
 }
 
-/// Removes a member, and inserts it again after all others. O(1).
+/// Removes a member, and inserts it again after all other members. O(1).
 pub fn requeue<T, A: Allocator>(
     list: &mut LinkedList<T>,
     links: &mut LinkOps<A>,
@@ -67,8 +67,8 @@ pub fn requeue<T, A: Allocator>(
     linked_list::push_back(list, links, UnsafeRef::new(object.place()));
 }
 
-/// Inserts an object that is not linked after all others, and removes the first member, as a sliding window does. The links have words of
-/// 8 bytes or of 4. O(1).
+/// Inserts an object that is not linked after all other members, and removes and returns the first member, as a sliding window does. The links may
+/// have words of 8 bytes or of 4. O(1).
 pub fn slide<T, L: LinkedListOps + AcceptsUnlinked>(
     window: &mut LinkedList<T>,
     links: &mut L,
@@ -89,7 +89,7 @@ pub fn slide<T, L: LinkedListOps + AcceptsUnlinked>(
 /// A timer: an object that waits until it is due.
 #[derive(Drop)]
 pub struct Timer {
-    /// The number by which its owner knows the timer.
+    /// The number by which the owner of the timer knows it.
     pub number: u64,
     /// The time from which on the timer is due.
     pub deadline: u64,
@@ -128,7 +128,7 @@ pub fn schedule<A: Allocator, B: Allocator>(
     rbtree::insert(timers, links, objects, timer);
 }
 
-/// The number of the first timer that is due at this time or later, `None` if all are due before it. O(log n).
+/// The number of the first timer that is due at `time` or later, or `None` if all timers are due before `time`. O(log n).
 pub fn first_from<A: Allocator, B: Allocator>(
     timers: &RBTree<ByDeadline>,
     links: &TreeLinkOps<A>,

@@ -1,9 +1,9 @@
-//! The lists and the tree over plain tables, by calls that are not refused.
+//! Calls on lists and on the tree over plain tables. A table never refuses an object of such a call.
 //!
-//! A collection works over any table, so its contracts have to treat a link that the table refuses. The calls here require a table that accepts
-//! each place that is not linked ([`AcceptsUnlinked`](ic_link_ops::AcceptsUnlinked)), and an object that is not linked yet. Plain tables accept
-//! such places, whether their words have 8 bytes or 4. The contracts are a few clauses, and most callers need no proof file. A call with the name
-//! of the collection's own call does and costs the same.
+//! A collection works over any table, so the contracts of its own calls have to treat a link that the table refuses. The calls of this crate require
+//! a table that accepts each place that is not linked ([`AcceptsUnlinked`](ic_link_ops::AcceptsUnlinked)), and an object that is not linked yet.
+//! Plain tables accept places that are not linked, whether their words have 8 bytes or 4. Each contract is a few clauses, and most callers need no
+//! proof file. A call does the same and costs the same as the collection's own call of this name.
 //!
 //! ```text
 //! use ic_plain::{linked_list, rbtree};
@@ -21,7 +21,7 @@ pub mod example;
 pub mod list;
 pub mod rbtree;
 
-// The calls on lists, under the name of each kind.
+// The module of calls on lists is exported under the name of each kind of list.
 pub use list as linked_list;
 pub use list as singly_linked_list;
 pub use list as xor_linked_list;

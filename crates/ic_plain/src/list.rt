@@ -1,7 +1,8 @@
-//! Lists of every kind, over a table that accepts each place that is not linked, as a plain one does with words of 8 bytes or of 4.
+//! Calls on lists of every kind, over a table that accepts each place that is not linked. Plain tables accept such places, with words of 8 bytes or
+//! of 4.
 //!
-//! A call has the bounds of the collection's own call, and these determine which kinds have it. Instead of `list` you can also write the
-//! name of a kind.
+//! A call has the type bounds of the collection's own call. The bounds determine which kinds of lists have the call. Instead of `list` you can also
+//! write the name of a kind.
 //!
 //! ```text
 //! let mut list: LinkedList<Job> = linked_list::new();
@@ -13,21 +14,21 @@ ghost use Rattle.std.specs.Prelude.{◌≡◌, ◌↔◌, ◌∷◌, [], List, I
 ghost use Rattle.ic_link_ops.specs.Prelude.{Place, first, last, but_last, IsCovered, IsUnlinked, LinksAlso, Unlinks, KeepsLinked, ChangesOnlyIn, HasMember};
 ghost use Rattle.ic_link_ops.specs.Chains.{empty_list, RepresentsChain, RepresentsSomeChain};
 
-use ic_chain::{BidirectionalLinks, Chain, DoubleEnded, ForwardLinks, ListKind, NamesBoth};
+use ic_chain::{BidirectionalLinks, DoubleEnded, ForwardLinks, LinkList, ListKind, NamesBoth};
 use ic_link_ops::{AcceptsUnlinked, LinkOps};
 use ic_unsafe_ref::{Place, UnsafeRef};
 
-/// A list with no members, for which every table represents the empty sequence. It takes no memory. O(1).
+/// A new list with no members. Every table represents the empty sequence for it. The call takes no memory. O(1).
 #[inline]
-pub fn new<K: ListKind, T>() -> Chain<K, T>
+pub fn new<K: ListKind, T>() -> LinkList<K, T>
     ensures empty { result ≡ empty_list K.kept }
 {
-    Chain::new()
+    LinkList::new()
 }
 
 /// Whether the list has no members. O(1).
 #[inline]
-pub fn is_empty<K: ForwardLinks<L>, T, L: LinkOps>(list: &Chain<K, T>, links: &L) -> bool
+pub fn is_empty<K: ForwardLinks<L>, T, L: LinkOps>(list: &LinkList<K, T>, links: &L) -> bool
     requires shown { RepresentsSomeChain K.Between K.kept (L.table links.now) list.now }
     ensures empty { (s : List Place) → RepresentsChain K.Between K.kept (L.table links.now) list.now s → IsTrue result ↔ (s ≡ []) }
 {
@@ -35,9 +36,9 @@ pub fn is_empty<K: ForwardLinks<L>, T, L: LinkOps>(list: &Chain<K, T>, links: &L
     list.is_empty()
 }
 
-/// The place of the first member, `None` in an empty list. O(1).
+/// The place of the first member, or `None` in an empty list. O(1).
 #[inline]
-pub fn first<K: ForwardLinks<L>, T, L: LinkOps>(list: &Chain<K, T>, links: &L) -> Option<Place>
+pub fn first<K: ForwardLinks<L>, T, L: LinkOps>(list: &LinkList<K, T>, links: &L) -> Option<Place>
     requires shown { RepresentsSomeChain K.Between K.kept (L.table links.now) list.now }
     ensures first { (s : List Place) → RepresentsChain K.Between K.kept (L.table links.now) list.now s → result ≡ first s }
 {
@@ -45,10 +46,10 @@ pub fn first<K: ForwardLinks<L>, T, L: LinkOps>(list: &Chain<K, T>, links: &L) -
     list.first()
 }
 
-/// The place of the last member, `None` in an empty list. O(1).
+/// The place of the last member, or `None` in an empty list. O(1).
 #[inline]
 pub fn last<K: DoubleEnded + ForwardLinks<L>, T, L: LinkOps>(
-    list: &Chain<K, T>,
+    list: &LinkList<K, T>,
     links: &L,
 ) -> Option<Place>
     requires shown { RepresentsSomeChain K.Between K.kept (L.table links.now) list.now }
@@ -58,11 +59,10 @@ pub fn last<K: DoubleEnded + ForwardLinks<L>, T, L: LinkOps>(
     list.last()
 }
 
-/// Inserts the object before all others. It requires that the object's place is covered, and that the object is not
-/// linked. O(1).
+/// Inserts the object before all other members. The call requires that the table covers the object's place, and that the object is not linked. O(1).
 #[inline]
 pub fn push_front<K: ForwardLinks<L>, T, L: AcceptsUnlinked>(
-    list: &mut Chain<K, T>,
+    list: &mut LinkList<K, T>,
     links: &mut L,
     object: UnsafeRef<T>,
 )
@@ -79,11 +79,10 @@ pub fn push_front<K: ForwardLinks<L>, T, L: AcceptsUnlinked>(
     let _ = list.push_front(links, object); // proved: it is not linked
 }
 
-/// Inserts the object after all others. It requires that the object's place is covered, and that the object is not
-/// linked. O(1).
+/// Inserts the object after all other members. The call requires that the table covers the object's place, and that the object is not linked. O(1).
 #[inline]
 pub fn push_back<K: DoubleEnded + ForwardLinks<L>, T, L: AcceptsUnlinked>(
-    list: &mut Chain<K, T>,
+    list: &mut LinkList<K, T>,
     links: &mut L,
     object: UnsafeRef<T>,
 )
@@ -103,7 +102,7 @@ pub fn push_back<K: DoubleEnded + ForwardLinks<L>, T, L: AcceptsUnlinked>(
 /// Removes the first member and returns it, or `None` if the list is empty. O(1).
 #[inline]
 pub fn pop_front<K: ForwardLinks<L>, T, L: LinkOps>(
-    list: &mut Chain<K, T>,
+    list: &mut LinkList<K, T>,
     links: &mut L,
 ) -> Option<UnsafeRef<T>>
     requires shown { RepresentsSomeChain K.Between K.kept (L.table links.old) list.old }
@@ -122,7 +121,7 @@ pub fn pop_front<K: ForwardLinks<L>, T, L: LinkOps>(
 /// Removes the last member and returns it, or `None` if the list is empty. O(1).
 #[inline]
 pub fn pop_back<K: DoubleEnded + BidirectionalLinks<L>, T, L: LinkOps>(
-    list: &mut Chain<K, T>,
+    list: &mut LinkList<K, T>,
     links: &mut L,
 ) -> Option<UnsafeRef<T>>
     requires shown { RepresentsSomeChain K.Between K.kept (L.table links.old) list.old }
@@ -141,7 +140,7 @@ pub fn pop_back<K: DoubleEnded + BidirectionalLinks<L>, T, L: LinkOps>(
 /// Removes the object from the list. It requires that the object is a member. O(1).
 #[inline]
 pub fn remove<K: NamesBoth<L>, T, L: LinkOps>(
-    list: &mut Chain<K, T>,
+    list: &mut LinkList<K, T>,
     links: &mut L,
     object: &UnsafeRef<T>,
 )
@@ -156,10 +155,10 @@ pub fn remove<K: NamesBoth<L>, T, L: LinkOps>(
     list.remove(links, object);
 }
 
-/// Moves the object before all others. It requires that the object is a member, which stays linked. O(1).
+/// Moves the object before all other members. The call requires that the object is a member. It stays linked. O(1).
 #[inline]
 pub fn move_to_front<K: DoubleEnded + NamesBoth<L>, T, L: LinkOps>(
-    list: &mut Chain<K, T>,
+    list: &mut LinkList<K, T>,
     links: &mut L,
     object: &UnsafeRef<T>,
 )
@@ -174,10 +173,10 @@ pub fn move_to_front<K: DoubleEnded + NamesBoth<L>, T, L: LinkOps>(
     list.move_to_front(links, object);
 }
 
-/// Moves the object after all others. It requires that the object is a member, which stays linked. O(1).
+/// Moves the object after all other members. The call requires that the object is a member. It stays linked. O(1).
 #[inline]
 pub fn move_to_back<K: DoubleEnded + NamesBoth<L>, T, L: LinkOps>(
-    list: &mut Chain<K, T>,
+    list: &mut LinkList<K, T>,
     links: &mut L,
     object: &UnsafeRef<T>,
 )

@@ -1,4 +1,4 @@
-//! Trees over a plain table of their links, of words of 8 bytes or of 4, whose members are in the order of their keys.
+//! Calls on trees whose members are in the order of their keys, over a plain table of their links with words of 8 bytes or of 4.
 //!
 //! ```text
 //! let mut tree = rbtree::new(ByDeadline);
@@ -22,8 +22,8 @@ use ic_rbtree::{Bound, KeyAdapter, RBTree};
 use ic_unsafe_ref::{Objects, Place, UnsafeRef};
 use std::alloc::Allocator;
 
-/// A tree with no members, in the order of the keys that the adapter finds, for which every table represents the empty sequence. It takes no
-/// memory. O(1).
+/// A new tree with no members. Every table represents the empty sequence for it. Later members are in the order of the keys that the adapter finds.
+/// The call takes no memory. O(1).
 #[inline]
 pub fn new<K: KeyAdapter>(adapter: K) -> RBTree<K>
     ensures empty { root_of result ≡ None }
@@ -45,7 +45,7 @@ pub fn is_empty<K: KeyAdapter, L: RBTreeOps>(tree: &RBTree<K>, links: &L) -> boo
     tree.is_empty()
 }
 
-/// The place of the first member, `None` in an empty tree. In a tree in order this member has the lowest key. O(log n).
+/// The place of the first member, or `None` in an empty tree. If the tree is in the order of the keys, this member has the lowest key. O(log n).
 #[inline]
 pub fn first<K: KeyAdapter, L: RBTreeOps>(tree: &RBTree<K>, links: &L) -> Option<Place>
     requires shown { RepresentsSome L.node (L.table links.now) (root_of tree.now) }
@@ -54,7 +54,7 @@ pub fn first<K: KeyAdapter, L: RBTreeOps>(tree: &RBTree<K>, links: &L) -> Option
     tree.first(links)
 }
 
-/// The place of the last member, `None` in an empty tree. In a tree in order this member has the highest key. O(log n).
+/// The place of the last member, or `None` in an empty tree. If the tree is in the order of the keys, this member has the highest key. O(log n).
 #[inline]
 pub fn last<K: KeyAdapter, L: RBTreeOps>(tree: &RBTree<K>, links: &L) -> Option<Place>
     requires shown { RepresentsSome L.node (L.table links.now) (root_of tree.now) }
@@ -63,8 +63,8 @@ pub fn last<K: KeyAdapter, L: RBTreeOps>(tree: &RBTree<K>, links: &L) -> Option<
     tree.last(links)
 }
 
-/// The place of the first member with this key, `None` if no member has it. It requires that the members are in the order of their keys.
-/// O(log n).
+/// The place of the first member whose key equals `key`, or `None` if no member has such a key. It requires that the members are in the order of
+/// their keys. O(log n).
 #[inline]
 pub fn find<K: KeyAdapter, L: RBTreeOps, B: Allocator>(
     tree: &RBTree<K>,
@@ -79,8 +79,8 @@ pub fn find<K: KeyAdapter, L: RBTreeOps, B: Allocator>(
     tree.find(links, objects, key).get_ptr()
 }
 
-/// The place of the first member with this key or a greater one, `None` if all keys are less. It requires that the members are in the
-/// order of their keys. O(log n).
+/// The place of the first member whose key is `key` or greater, or `None` if all keys are less. It requires that the members are in the order of
+/// their keys. O(log n).
 #[inline]
 pub fn lower_bound<K: KeyAdapter, L: RBTreeOps, B: Allocator>(
     tree: &RBTree<K>,
@@ -96,8 +96,8 @@ pub fn lower_bound<K: KeyAdapter, L: RBTreeOps, B: Allocator>(
         .get_ptr()
 }
 
-/// The place of the member after this one, `None` after the last. It requires that the place is that of a member. O(log n), and O(1) on
-/// average over a walk.
+/// The place of the member after the member at `place`, or `None` if it is the last member. The call requires that `place` is a member. O(log n), and
+/// O(1) on average over a walk.
 #[inline]
 pub fn next<K: KeyAdapter, L: RBTreeOps>(tree: &RBTree<K>, links: &L, place: Place) -> Option<Place>
     requires member { HasMember (Represents L.node (L.table links.now) (root_of tree.now)) place }
@@ -106,8 +106,8 @@ pub fn next<K: KeyAdapter, L: RBTreeOps>(tree: &RBTree<K>, links: &L, place: Pla
     tree.next_of(links, &PlaceWord::of(Some(place))).get()
 }
 
-/// The place of the member before this one, `None` before the first. It requires that the place is that of a member. O(log n), and
-/// O(1) on average over a walk.
+/// The place of the member before the member at `place`, or `None` if it is the first member. The call requires that `place` is a member. O(log n),
+/// and O(1) on average over a walk.
 #[inline]
 pub fn prev<K: KeyAdapter, L: RBTreeOps>(tree: &RBTree<K>, links: &L, place: Place) -> Option<Place>
     requires member { HasMember (Represents L.node (L.table links.now) (root_of tree.now)) place }
@@ -116,8 +116,8 @@ pub fn prev<K: KeyAdapter, L: RBTreeOps>(tree: &RBTree<K>, links: &L, place: Pla
     tree.prev_of(links, &PlaceWord::of(Some(place))).get()
 }
 
-/// Inserts the object by its key, after the members with the same key or a lower one. It requires that the object is placed and not
-/// linked, that its place is covered, and that the members are in the order of their keys. O(log n).
+/// Inserts the object by its key, after the members whose keys are the same or lower. The call requires that the object is in `objects` and is not
+/// linked, and that the table covers its place. The call also requires that the members are in the order of their keys. O(log n).
 #[inline]
 pub fn insert<K: KeyAdapter, L: RBTreeOps + AcceptsUnlinked, B: Allocator>(
     tree: &mut RBTree<K>,
@@ -160,8 +160,8 @@ pub fn remove<K: KeyAdapter, L: RBTreeOps>(
     tree.remove(links, object);
 }
 
-/// Removes the first member with this key and returns it, or `None` if no member has the key. It requires that the members are in the
-/// order of their keys. O(log n).
+/// Removes the first member whose key equals `key` and returns it, or returns `None` if no member has such a key. It requires that the members are in
+/// the order of their keys. O(log n).
 #[inline]
 pub fn remove_key<K: KeyAdapter, L: RBTreeOps, B: Allocator>(
     tree: &mut RBTree<K>,
@@ -186,7 +186,8 @@ pub fn remove_key<K: KeyAdapter, L: RBTreeOps, B: Allocator>(
     Some(object)
 }
 
-/// Removes the first member and returns it, or `None` if the tree is empty. In a tree in order this member has the lowest key. O(log n).
+/// Removes the first member and returns it, or `None` if the tree is empty. If the tree is in the order of the keys, this member has the lowest key.
+/// O(log n).
 #[inline]
 pub fn pop_front<K: KeyAdapter, L: RBTreeOps>(
     tree: &mut RBTree<K>,
@@ -207,7 +208,8 @@ pub fn pop_front<K: KeyAdapter, L: RBTreeOps>(
     Some(object)
 }
 
-/// Removes the last member and returns it, or `None` if the tree is empty. In a tree in order this member has the highest key. O(log n).
+/// Removes the last member and returns it, or `None` if the tree is empty. If the tree is in the order of the keys, this member has the highest key.
+/// O(log n).
 #[inline]
 pub fn pop_back<K: KeyAdapter, L: RBTreeOps>(
     tree: &mut RBTree<K>,

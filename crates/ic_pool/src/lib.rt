@@ -1,4 +1,4 @@
-//! Objects together with the tables of their links. The tables have room for all of them.
+//! A pool keeps objects together with the tables of their links. The tables have room for the links of all objects.
 //!
 //! ```text
 //! let mut pool = Pool::new(rt.alloc(), linked_list::LinkOps::new(rt.alloc()));

@@ -1,4 +1,4 @@
-//! Why a value was not placed.
+//! This file defines the error of a value that was not placed.
 //!
 //! ```text
 //! if let Err(refused) = pool.place(value) {
@@ -7,14 +7,14 @@
 //! let object = pool.place(other)?; // in a function that returns the same error, or an `anyhow::Result`
 //! ```
 //!
-//! It is a `std::error::Error` if the values can be printed and dropped.
+//! The error is a `std::error::Error` if the values can be printed and dropped.
 
 ghost use Rattle.std.specs.Prelude.{◌≡◌, Some};
 
 use std::error::Error;
 use std::fmt;
 
-/// Why a value was not placed. The error returns the value.
+/// The reason why a value was not placed. The error contains the value.
 #[derive(Debug, Drop)]
 pub enum PlaceError<T> {
     /// There is no place left for another object.

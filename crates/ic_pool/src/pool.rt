@@ -1,4 +1,4 @@
-//! The pool.
+//! The pool stores objects together with the tables of their links.
 //!
 //! ```text
 //! let object = pool.place(10)?;
@@ -17,11 +17,11 @@ use ic_link_ops::CoverError;
 use ic_unsafe_ref::{Objects, UnsafeRef};
 use std::alloc::{Allocator, Global};
 
-/// Objects with the tables of their links.
+/// A store of objects with the tables of their links.
 ///
-/// Both fields are public, since a call of a collection borrows a table, or a table and the objects:
-/// `list.push_back(&mut pool.links, ..)`, `tree.insert(&mut pool.links.0, &pool.objects, ..)`. The invariant of a loop
-/// over a pool is `IsPooled` (specs/Pooled.antt).
+/// Both fields are public, because a call of a collection borrows a table, or a table and the objects: `list.push_back(&mut
+/// pool.links, ..)`, `tree.insert(&mut pool.links.0, &pool.objects, ..)`. The invariant of a loop over a pool is `IsPooled`
+/// (specs/Pooled.antt).
 #[derive(Drop)]
 pub struct Pool<T, L, A: Allocator = Global> {
     /// The store of objects, each at its place.
@@ -35,7 +35,7 @@ impl<T, L: Tables, A: Allocator> Pool<T, L, A> {
     ghost use Rattle.std.specs.Option.{option_copied_mut};
     ghost use Rattle.ic_pool.specs.Lends.{LendsPooled};
 
-    /// An empty pool with these tables. It takes no memory. O(1).
+    /// An empty pool with the given tables. The call takes no memory. O(1).
     pub fn new(alloc: A, links: L) -> Pool<T, L, A>
         ensures empty { result.objects.values ≡ map.empty }
         ensures vacant { (place : Place) → object_at result.objects place ≡ None }
@@ -48,14 +48,15 @@ impl<T, L: Tables, A: Allocator> Pool<T, L, A> {
         }
     }
 
-    /// Places `value`, after making room for its links. O(1), and it takes memory only if a table or the objects grow.
+    /// Puts `value` at a place, after the call has made room for the links of the object. O(1), and the call takes memory only if
+    /// a table or the objects grow.
     ///
-    /// If it is refused, the error returns the value, and no object and no link has changed. The error is `NoPlaceLeft`
-    /// exactly if all 4,294,967,296 places are in use. Otherwise it is `OutOfMemory`, also if a table of 4-byte words can
-    /// name no further place.
+    /// If the call is refused, the error returns the value, and no object and no link has changed. The error is `NoPlaceLeft`
+    /// exactly if all 4,294,967,296 places are in use. In every other case the error is `OutOfMemory`, for example if a table
+    /// with words of 4 bytes can name no further place.
     ///
-    /// Over a plain table, `keeps` is `Grows`. Its field `entries` states that each link is as it was, which lemmas on lists
-    /// require.
+    /// If the table is a plain table, the clause `keeps` is the predicate `Grows`. The field `entries` of `Grows` states that
+    /// each link is as it was, and lemmas on lists need this fact.
     pub fn place(&mut self, value: T) -> Result<UnsafeRef<T>, PlaceError<T>>
         ensures placed { IfOk result (λ object. Places self.old.objects self.new.objects object value) }
         ensures covered { IfOk result (λ object. L.Covers self.new.links object) }
@@ -75,10 +76,10 @@ impl<T, L: Tables, A: Allocator> Pool<T, L, A> {
         }
     }
 
-    /// Removes the object from the pool and returns it. Its place is vacant then, and a later object may get it. O(1),
-    /// and it takes no memory.
+    /// Removes the object from the pool and returns it. The place of the object is then vacant, and a later object may get the
+    /// place. O(1), and the call takes no memory.
     ///
-    /// It requires that the object is placed, and that no table links it.
+    /// The call requires that the object is placed, and that no table links it.
     pub fn remove(&mut self, object: UnsafeRef<T>) -> T
         requires placed { is_placed self.old.objects object ≡ true }
         requires free { L.IsFree self.old.links object }
@@ -89,7 +90,7 @@ impl<T, L: Tables, A: Allocator> Pool<T, L, A> {
         object.into_box(&mut self.objects)
     }
 
-    /// The object at the reference's place, `None` if the place is vacant. O(1).
+    /// The object at the reference's place, or `None` if the place is vacant. O(1).
     #[inline]
     pub fn get(&self, object: &UnsafeRef<T>) -> Option<&T>
         ensures { option_copied result ≡ object_at self.now.objects object.now }
@@ -97,9 +98,10 @@ impl<T, L: Tables, A: Allocator> Pool<T, L, A> {
         self.objects.get(object.place())
     }
 
-    /// A mutable reference to the object at the reference's place, `None` if the place is vacant. O(1).
+    /// A mutable reference to the object at the reference's place, or `None` if the place is vacant. O(1).
     ///
-    /// When the borrow ends, the object there is the last value written through it, and nothing else has changed.
+    /// When the borrow ends, the object at the place is the last value that was written through the reference, and nothing else
+    /// has changed.
     #[inline]
     pub fn get_mut(&mut self, object: &UnsafeRef<T>) -> Option<&mut T>
         ensures* writes_back { sem 𝓛 (LendsPooled T.row L.row A.row A.Allocator self.entry object.now result) }
@@ -116,7 +118,7 @@ impl<T, L: Tables, A: Allocator> Pool<T, L, A> {
         self.objects.is_placed(object.place())
     }
 
-    /// The number of objects that are placed. O(1).
+    /// The number of objects in the pool. O(1).
     #[inline]
     pub fn len(&self) -> usize
         ensures { result ≡ map.len self.now.objects.values }

@@ -1,4 +1,4 @@
-//! Tables that cover the same places: one, or a pair of them.
+//! Tables that cover the same places grow together: there is one table, or a pair of tables.
 //!
 //! ```text
 //! let mut links = (linked_list::LinkOps::new(rt.alloc()), rbtree::LinkOps::new(rt.alloc()));
@@ -12,18 +12,18 @@ use ic_link_ops::{CoverError, LinkValue, PlainTable, Words};
 use std::alloc::Allocator;
 use std::cmp::min;
 
-/// Tables of links that grow together: a plain table, or a pair of such tables.
+/// Tables of links that grow together: a plain table, or a pair of tables that have this trait.
 pub trait Tables {
-    // The greatest number of places that can be covered.
+    // The greatest number of places that all the tables can cover.
     ghost most: { ℕ };
 
-    // THE PLACE HAS ROOM for its link in each table.
+    // THE PLACE HAS ROOM for its link in each of the tables.
     ghost Covers: { Self → Place → Type 0 };
 
-    // NO TABLE LINKS THE PLACE.
+    // THE PLACE IS FREE: no table links it.
     ghost IsFree: { Self → Place → Type 0 };
 
-    // EACH ENTRY STAYS as it was, and each place that was covered still is. The tables may have grown.
+    // EACH ENTRY STAYS as it was, and each place that was covered is still covered. The tables may have grown.
     ghost Keeps: { Self → Self → Type 0 };
 
     /// The greatest number of places that can be covered: 4,294,967,296, or 536,870,911 if one of the tables has words
@@ -33,14 +33,16 @@ pub trait Tables {
 
     /// Covers the first `count` places in each table.
     ///
-    /// It is refused if `count` is above [`most_places`](Self::most_places), or if there is no memory. Then the first
-    /// of two tables may have grown. Each link stays as it was. At most one request for memory for each table.
+    /// The call is refused if `count` is above [`most_places`](Self::most_places), or if there is no memory. If there is no
+    /// memory, the first of two tables may have grown. Each link stays as it was. The call requests memory at most once for each
+    /// table.
     fn cover(&mut self, count: usize) -> Result<(), CoverError>
         ensures too_many { (result ≡ Err CoverError.TooManyPlaces) ↔ most < count }
         ensures covers { OnOk result ((place : Place) → index_of place < count → Covers self.new place) }
         ensures keeps { Keeps self.old self.new };
 
-    // The laws: tables that are kept have the same room, and link the same places; tables that do not change are kept.
+    // The laws: If the tables are kept, each place that had room still has room, and each free place stays free. Tables that do
+    // not change are kept.
     ghost keeps_room: { (old new : Self) (place : Place) → Keeps old new → Covers old place → Covers new place };
 
     ghost keeps_free: { (old new : Self) (place : Place) → Keeps old new → IsFree old place → IsFree new place };
@@ -79,7 +81,7 @@ impl<W: Words, A: Allocator, V: LinkValue> Tables for PlainTable<W, A, V> {
     ghost keeps_itself = { λ tables. grows_itself (table_beside W.width W.unlinked V.initial V.printed tables) };
 }
 
-/// A pair of tables, or of such pairs. An object has a link in each table.
+/// A pair of tables, or of pairs of tables. An object has a link in each table.
 impl<L: Tables, M: Tables> Tables for (L, M) {
     ghost most = { min L.most M.most };
 

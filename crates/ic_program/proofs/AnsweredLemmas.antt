@@ -1,4 +1,4 @@
--- Lines that are answered.
+-- How the program's functions together answer lines: which lines are answered, and what remains.
 use Rattle.std.proofs.Common.{◌≡◌, ℕ, ◌+◌, ◌<◌, ◌⊎◌, inl, inr, List, [], ◌∷◌, ◌++◌, length, drop, Option, Some, None, Result, Ok, Err, IsOk, IsErr, IsErrAnd, IfErr, OnOk, true, false, cond, option_map, refl, sym, ap, ◌∙◌, subst, append_assoc, append-nil, length-append, arith}
 use Rattle.std.specs.Prelude.{⊤, IfSome}
 use Rattle.std.specs.Ordering.{nat_cmp}
@@ -30,7 +30,7 @@ use Rattle.ic_program.proofs.CutLemmas.{cut_nothing, cut_more}
 use Rattle.ic_program.specs.Played.{own_key, CutTo, NoCommandLeft}
 use Rattle.ic_program.specs.HowFar.{is_loss, AnswersCall, Answered, AnsweredFirst, AnsweredShort, HowFar, NotTextLeft, StopLeft, IsLost, UnlessLoss}
 
--- the commands of two lists of lines
+-- the commands of two lists of lines, one after the other, are the commands of the first list and then those of the second
 commands_both : (xs ys : List (List ℕ)) (cs ds : List (Command ℕ ℕ)) → commands_in xs ≡ Some cs → commands_in ys ≡ Some ds → commands_in (xs ++ ys) ≡ Some (cs ++ ds)
 commands_both [] ys cs ds is others = let none : [] ≡ cs = same_Some [] cs is in others ∙ ap (λ (c : List (Command ℕ ℕ)). Some (c ++ ds)) none
 commands_both (x ∷ xs) ys cs ds is others = at (said_in x) is (commands_both xs ys)
@@ -63,7 +63,7 @@ pub fast_answered : (text rest : List ℕ) (old new : Family OwnKey ℕ) (comman
     → (command : Command ℕ ℕ) × (command_in (words_in text) ≡ Some command) × IsLawful nat_cmp own_key old command replied new × (rest ≡ after_line text)
 fast_answered text rest old new command reply replied said sound step same = (command, said.0, step_lawful old new command command reply replied refl sound step same, said.1)
 
--- no line was answered; one was; and then others
+-- if no line was answered, if one line was answered, and if more lines were answered after others, `Answered` holds of these lines
 pub none_answered : (w : Family OwnKey ℕ) (output : Option (List ℕ)) → Answered [] w w output output
 none_answered w output = record { commands = []; said = refl; replies = []; lawful = refl; printed = Appends-nil output }
 
@@ -90,7 +90,7 @@ more_answered xs ys old mid new output then_output now a b = record {
   printed = subst (Appends output now) (sym (flat_map-append line_of a.replies b.replies)) (Appends-trans output then_output now (lines_of a.replies) (lines_of b.replies) a.printed b.printed);
 }
 
--- what was answered may wait after what is written, and is written then
+-- the answers may wait in a buffer after the bytes that are already written, and may be written later
 after_known : (known : Option (List ℕ)) (output now text : List ℕ) → now ≡ output ++ text → Appends (append_known known output) (append_known known now) text
 after_known None output now text line = tt
 after_known (Some xs) output now text line = ap (λ (l : List ℕ). xs ++ l) line ∙ sym (append_assoc xs output text)
@@ -102,7 +102,7 @@ answered_after xs old new known output now a = record { commands = a.commands; s
 answered_kept : (xs : List (List ℕ)) (old new : Family OwnKey ℕ) (output then_output now : Option (List ℕ)) → Answered xs old new output then_output → Keeps then_output now → Answered xs old new output now
 answered_kept xs old new output then_output now a kept = record { commands = a.commands; said = a.said; replies = a.replies; lawful = a.lawful; printed = Appends-kept output then_output now (lines_of a.replies) a.printed kept }
 
--- THE FIRST LINES OF SOME, with what is left of them
+-- THE FIRST LINES OF `all` WERE ANSWERED: no line, one line, or the same lines with another statement about the lines that remain
 pub none_first : (all : Option (List (List ℕ))) (IsLeft : ℕ → List (List ℕ) → Type 0) (w : Family OwnKey ℕ) (output : Option (List ℕ))
     → ((others : List (List ℕ)) → all ≡ Some others → IsLeft 0 others) → AnsweredFirst all IsLeft w w output output
 none_first None IsLeft w output left = record { answered = []; is = none_answered w output; left = tt }
@@ -117,7 +117,7 @@ pub left_as : (all : Option (List (List ℕ))) (P Q : ℕ → List (List ℕ) �
 left_as None P Q old new output now a as_is = record { answered = a.answered; is = a.is; left = tt }
 left_as (Some ls) P Q old new output now a as_is = record { answered = a.answered; is = a.is; left = (a.left.0, a.left.1, as_is (length a.answered) a.left.0 a.left.2) }
 
--- more of them are answered, if what is left of the first is known
+-- if the first lines of `all` were answered, and then the first of the remaining lines, the first lines of `all` were answered
 pub and_then : (all more : Option (List (List ℕ))) (Next Then IsLeft : ℕ → List (List ℕ) → Type 0) (old mid new : Family OwnKey ℕ) (output then_output now : Option (List ℕ))
     → AnsweredFirst all Next old mid output then_output → AnsweredFirst more Then mid new then_output now
     → ((count : ℕ) (others : List (List ℕ)) → Next count others → more ≡ Some others)
@@ -149,7 +149,7 @@ pub first_kept : (all : Option (List (List ℕ))) (IsLeft : ℕ → List (List �
 first_kept all IsLeft old new same output then_output now a kept is =
     record { answered = a.answered; is = subst (λ w. Answered a.answered old w output now) (sym is) (answered_kept a.answered old new output then_output now a.is kept); left = a.left }
 
--- WHAT IS CUT SHORT: answers that are known so far; others after them
+-- ANSWERS THAT ARE CUT SHORT: only a beginning of the answers was written. This also holds if they come after other answers
 pub short_first : (all : Option (List (List ℕ))) (IsLeft : ℕ → List (List ℕ) → Type 0) (old new : Family OwnKey ℕ) (output whole now : Option (List ℕ))
     → AnsweredFirst all IsLeft old new output whole → CutTo whole now → AnsweredShort all old output now
 short_first None IsLeft old new output whole now a cut = record { answered = a.answered; new = new; whole = whole; is = a.is; cut = cut; left = tt }
@@ -189,7 +189,7 @@ short_then (Some ls) more Next old mid output then_output now a s goes_on =
       left = (rest.0, a.left.1 ∙ ap (λ (l : List (List ℕ)). a.answered ++ l) rest.1 ∙ sym (append_assoc a.answered s.answered rest.0));
     }
 
--- after what is known
+-- a beginning of the bytes stays a beginning, if both come after the same known bytes
 cut_after_known : (known : Option (List ℕ)) (whole now : List ℕ) → CutTo (Some whole) (Some now) → CutTo (append_known known whole) (append_known known now)
 cut_after_known None whole now cut = tt
 cut_after_known (Some xs) whole now cut = (cut.0, ap (λ (l : List ℕ). xs ++ l) cut.1 ∙ sym (append_assoc xs now cut.0))
@@ -209,7 +209,7 @@ short_after all old known output now s = at s.whole s.is s.cut
       left = s.left;
     }
 
--- A STOP IS PASSED ON as it is
+-- A STOP IS PASSED ON as it is: a function returns the stop of the function that it called
 pub passed_far : {T : Type 0} (r : Result T Stop) (stop : Stop) (before after : ℕ) (IsLeft : T → List (List ℕ) → Type 0) (all : Option (List (List ℕ))) (old new : Family OwnKey ℕ) (output now : Option (List ℕ))
     → IsErr r × IsErrAnd r (λ passed. passed ≡ stop)
     → UnlessLoss stop (AnsweredShort all old output now) (AnsweredFirst all (λ count others. StopLeft stop after (before + count) others) old new output now)
@@ -218,7 +218,7 @@ passed_far (Err passed) stop before after IsLeft all old new output now is q =
     subst (λ (s : Stop). UnlessLoss s (AnsweredShort all old output now) (AnsweredFirst all (λ count others. StopLeft s after (before + count) others) old new output now)) (sym is.1) q
 passed_far (Ok x) stop before after IsLeft all old new output now is q = absurd is.1
 
--- one that loses answers says what is cut short
+-- a stop by which answers may be lost states `Loss`
 pub lost : (Loss P : Type 0) (stop : Stop) → IsLost stop → Loss → UnlessLoss stop Loss P
 lost Loss P NoCommand is loss = absurd is
 lost Loss P (AFault fault) is loss = subst (λ b. cond b Loss P) (sym is) loss
@@ -228,14 +228,14 @@ pub lost_far : {T : Type 0} (r : Result T Stop) (stop : Stop) (before after : �
 lost_far r stop before after IsLeft all old new output now is loses short =
     passed_far r stop before after IsLeft all old new output now is (lost (AnsweredShort all old output now) (AnsweredFirst all (λ count others. StopLeft stop after (before + count) others) old new output now) stop loses short)
 
--- and what follows from that
+-- what holds after a stop can be weakened: L to M if answers may be lost, and P to Q otherwise
 pub unless_loss_map : {L M P Q : Type 0} (stop : Stop) → (L → M) → (P → Q) → UnlessLoss stop L P → UnlessLoss stop M Q
 unless_loss_map NoCommand l f p = f p
 unless_loss_map {L} {M} {P} {Q} (AFault fault) l f p =
     let both : cond (is_loss fault) L P → cond (is_loss fault) M Q = elim (is_loss fault) as (λ b. cond b L P → cond b M Q) [ true ↦ l | false ↦ f ] in
     both p
 
--- whatever the result says, the answers are known so far
+-- whatever the result of a function is, a beginning of the answers of some first lines was written
 pub far_short : {T : Type 0} (r : Result T Stop) (before after : ℕ) (IsLeft : T → List (List ℕ) → Type 0) (all : Option (List (List ℕ))) (old new : Family OwnKey ℕ) (output now : Option (List ℕ))
     → HowFar r before after IsLeft all old new output now → AnsweredShort all old output now
 far_short (Ok x) before after IsLeft all old new output now far = short_first all (λ count others. (after ≡ before + count) × IsLeft x others) old new output now now far (cut_nothing now)
@@ -246,7 +246,7 @@ far_short (Err (AFault fault)) before after IsLeft all old new output now far =
     [ true ↦ λ s. s | false ↦ λ a. short_first all (λ count others. StopLeft (AFault fault) after (before + count) others) old new output now now a (cut_nothing now) ] in
     both far
 
--- A LINE THAT IS NO COMMAND stops the answers
+-- A LINE THAT IS NO COMMAND stops the run: no line is answered, and the stop says whether the line is UTF-8
 pub stop_first : (text : List ℕ) (stop : Stop) (read before : ℕ) (w : Family OwnKey ℕ) (output : Option (List ℕ)) → 0 < length text → said_in (line_in text) ≡ NoLine → read ≡ before + 1
     → ((stop ≡ NoCommand) × IsUtf8 (line_in text)) ⊎ ((stop ≡ AFault (NotText read)) × ¬ (IsUtf8 (line_in text)))
     → UnlessLoss stop (AnsweredShort (Some (lines text)) w output output) (AnsweredFirst (Some (lines text)) (λ count others. StopLeft stop read (before + count) others) w w output output)
@@ -276,11 +276,11 @@ call_first text rest command read before old new output now some call after coun
     one_first (line_in text) (lines (after_line text)) (lines text) (λ count others. (read ≡ before + count) × (others ≡ lines rest)) old new (Some output) (Some now)
     (text_lines text some) (call_answered (line_in text) command old new output now call a) (count, ap lines (sym after))
 
--- NO LINE WAS ANSWERED, and so many were read
+-- NO LINE WAS ANSWERED, and the number of lines that were read stays `before`
 pub reading_first : (all : Option (List (List ℕ))) (before : ℕ) (w : Family OwnKey ℕ) (output : Option (List ℕ)) → AnsweredFirst all (λ count others. before ≡ before + count) w w output output
 reading_first all before w output = none_first all (λ count others. before ≡ before + count) w output (λ others is. omega arith)
 
--- ONE LINE MORE is answered after others, and what waits may be written
+-- ONE MORE LINE is answered after others, and the answers that wait in the buffer may be written
 pub then_first : (text mid rest : List ℕ) (before at after last : ℕ) (old then_old new same : Family OwnKey ℕ) (output known then_known : Option (List ℕ)) (waits then_waits now : List ℕ)
     → AnsweredFirst (Some (lines text)) (λ count others. (at ≡ before + count) × (others ≡ lines mid)) old then_old output (append_known known waits)
     → AnsweredFirst (Some (lines mid)) (λ count others. (after ≡ at + count) × (others ≡ lines rest)) then_old new (Some waits) (Some then_waits)
@@ -304,7 +304,7 @@ then_next text mid rest taken before at after last old then_old new same output 
     then_first text mid rest before at after last old then_old new same output known then_known waits then_waits now a
     (subst (λ (t : List ℕ). AnsweredFirst (Some (lines mid)) (λ count others. (after ≡ at + count) × (others ≡ lines t)) then_old new (Some waits) (Some then_waits)) (sym rest_is) b) kept is last_is
 
--- and where a stop comes instead
+-- after some lines were answered, a stop comes in place of one more answer
 pub then_stop : (text mid : List ℕ) (stop : Stop) (before at after : ℕ) (old then_old new : Family OwnKey ℕ) (output known : Option (List ℕ)) (waits then_waits : List ℕ)
     → AnsweredFirst (Some (lines text)) (λ count others. (at ≡ before + count) × (others ≡ lines mid)) old then_old output (append_known known waits)
     → AnsweredFirst (Some (lines mid)) (λ count others. StopLeft stop after (at + count) others) then_old new (Some waits) (Some then_waits)
@@ -318,7 +318,7 @@ then_stop text mid stop before at after old then_old new output known waits then
     let same : at + count2 ≡ before + (count + count2) = omega (arith, next.0) in
     subst (λ n. StopLeft stop after n others2) same then)
 
--- or a loss
+-- after some lines were answered, answers to the following lines may be lost
 pub then_short : (text mid : List ℕ) (before at : ℕ) (old then_old : Family OwnKey ℕ) (output known : Option (List ℕ)) (waits then_waits : List ℕ)
     → AnsweredFirst (Some (lines text)) (λ count others. (at ≡ before + count) × (others ≡ lines mid)) old then_old output (append_known known waits)
     → AnsweredShort (Some (lines mid)) then_old (Some waits) (Some then_waits)
@@ -327,7 +327,7 @@ then_short text mid before at old then_old output known waits then_waits a s =
     short_then (Some (lines text)) (Some (lines mid)) (λ count others. (at ≡ before + count) × (others ≡ lines mid)) old then_old output (append_known known waits) (append_known known then_waits)
     a (short_after (Some (lines mid)) then_old known waits then_waits s) (λ count others next. ap (λ (l : List (List ℕ)). Some l) (sym next.1))
 
--- or the line was answered, but what waits could not be written
+-- one more line was answered, but the answers that wait in the buffer could not be written
 pub then_room : (text mid rest : List ℕ) (before at after : ℕ) (old then_old new : Family OwnKey ℕ) (output known then_known : Option (List ℕ)) (waits then_waits now : List ℕ)
     → AnsweredFirst (Some (lines text)) (λ count others. (at ≡ before + count) × (others ≡ lines mid)) old then_old output (append_known known waits)
     → AnsweredFirst (Some (lines mid)) (λ count others. (after ≡ at + count) × (others ≡ lines rest)) then_old new (Some waits) (Some then_waits)
@@ -337,7 +337,7 @@ then_room text mid rest before at after old then_old new output known then_known
     short_first (Some (lines text)) (λ count others. (after ≡ before + count) × (others ≡ lines rest)) old new output (append_known known then_waits) (append_known then_known now)
     (then_first text mid rest before at after after old then_old new new output known known waits then_waits then_waits a b (Keeps-refl (append_known known then_waits)) refl refl) cut
 
--- MORE LINES BEHIND THOSE: as far as the first are answered, so are all
+-- MORE LINES FOLLOW: what was answered of the first lines was answered of all lines, and the lines that follow remain, too
 stop_more : (stop : Stop) (read count : ℕ) (others more : List (List ℕ)) → StopLeft stop read count others → StopLeft stop read count (others ++ more)
 stop_more NoCommand read count [] more left = absurd left
 stop_more NoCommand read count (line ∷ others) more left = left
@@ -383,7 +383,7 @@ short_before front more all old output now split s = record {
   left = (s.left.0 ++ more, split ∙ ap (λ (l : List (List ℕ)). l ++ more) s.left.1 ∙ append_assoc s.answered s.left.0 more);
 }
 
--- two steps, of which the second answers what the first has left
+-- two steps, of which the second answers the lines that the first has left, are one step
 pub both_steps : (all : Option (List (List ℕ))) (mid left : List (List ℕ)) (before at after : ℕ) (old then_old new : Family OwnKey ℕ) (output then_output now : Option (List ℕ))
     → AnsweredFirst all (λ count others. (at ≡ before + count) × (others ≡ mid)) old then_old output then_output
     → AnsweredFirst (Some mid) (λ count others. (after ≡ at + count) × (others ≡ left)) then_old new then_output now
@@ -413,7 +413,7 @@ pub step_and_short : (all : Option (List (List ℕ))) (mid : List (List ℕ)) (b
 step_and_short all mid before at old then_old output then_output now a s =
     short_then all (Some mid) (λ count others. (at ≡ before + count) × (others ≡ mid)) old then_old output then_output now a s (λ count others next. ap (λ (l : List (List ℕ)). Some l) (sym next.1))
 
--- what is kept for later may find no memory
+-- the bytes of an incomplete line are kept for the next read, unless there is not enough memory. Then answers may be lost
 pub kept_far : {T : Type 0} (r : Result T Stop) (before after : ℕ) (IsLeft : List (List ℕ) → Type 0) (all : Option (List (List ℕ))) (old new : Family OwnKey ℕ) (output now : Option (List ℕ))
     → IfErr r IsLost → AnsweredShort all old output now → (IsOk r → AnsweredFirst all (λ count others. (after ≡ before + count) × IsLeft others) old new output now)
     → HowFar r before after (λ _ others. IsLeft others) all old new output now

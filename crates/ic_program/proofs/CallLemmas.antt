@@ -1,4 +1,4 @@
--- Which call a line is, and that it is none.
+-- How the parser finds which call a line is, or that it is no call.
 use Rattle.std.proofs.Common.{true≢false, IsTrue, ◌≡◌, ◌≢◌, ℕ, ◌<◌, Bool, true, false, List, [], ◌∷◌, Option, Some, None, option_and_then, IfNone, nat_eq, nat_lt, ◌&&◌, bytes_eq, refl, sym, ap, ◌∙◌}
 use Rattle.std.specs.List.{AllByRecursion, list_any}
 use Rattle.std.proofs.lemmas.Bool.{cond-true, cond-false, cond_both, and_parts, or_parts, or_from, eq-eqb, ne_eqb, ltb-true}
@@ -11,13 +11,13 @@ use Rattle.ic_program.specs.Text.{begins_with, words_in, after_line, without_las
 abbrev Entry : Type 0
 Entry = List ℕ × (List (List ℕ) → Option (Command ℕ ℕ))
 
--- THE LINE IS A CALL, by its name and the words after it
+-- THE FIRST LINE OF A TEXT IS A CALL if its first word is the name of the call, and the words after it are the arguments
 pub is_call : (name : List ℕ) (read : List (List ℕ) → Option (Command ℕ ℕ)) (text : List ℕ) (command : Command ℕ ℕ) (rest : List ℕ)
     → IsCall name read text command rest → named calls (without_last name) ≡ Some read → (command_in (words_in text) ≡ Some command) × (rest ≡ after_line text)
 unfolding command_in
 is_call name read text command rest is entry = (ap (command_among calls) is.are ∙ ap (λ o. option_and_then (λ r. r is.words) o) entry ∙ is.said, is.after)
 
--- no entry of that name, and no words that it reads
+-- the words are no command of a list of entries, if they are none of the first entry and none of the other entries
 among_one : (entry : Entry) (entries : List Entry) (w : List ℕ) (ws : List (List ℕ))
     → (w ≡ entry.0 → entry.1 ws ≡ None) → command_among entries (w ∷ ws) ≡ None → command_among (entry ∷ entries) (w ∷ ws) ≡ None
 among_one entry entries w ws here others =
@@ -44,7 +44,7 @@ neither_call_at slot name second read read_second text entries none none_second 
         among_one (without_last name, read) ((without_last second, read_second) ∷ []) w ws (λ same. none word ws (is ∙ ap (λ v. v ∷ ws) same))
         (among_one (without_last second, read_second) [] w ws (λ same. none_second word ws (is ∙ ap (λ v. v ∷ ws) same)) refl)
 
--- the same of what a function returns
+-- if a function that reads the call of a slot returns none, the words are no call with this slot
 if_none : {A P : Type 0} (r : Option A) → P → IfNone r P
 if_none None p = p
 if_none (Some x) p = tt
@@ -63,7 +63,7 @@ neither_call r slot at is name second read read_second text entries none none_se
     λ word. neither_call_at slot name second read read_second text (ap (λ s. with_slot s slots calls) is ∙ entries) none none_second word in
     if_none r here
 
--- the same of the calls that most lines make
+-- if a function that reads the frequent call of a slot returns none, the words are no call with this slot
 if_fast : {A : Type 0} (B C D : Type 0) (r : Option A) → IfNone r (B → D) → IfNone r (B → C → D)
 if_fast B C D None at = λ b _. at b
 if_fast B C D (Some x) at = tt
@@ -80,7 +80,7 @@ pub neither_fast_call : {A : Type 0} (r : Option A) (slot at : ℕ) → slot ≡
 neither_fast_call r slot at is name second read read_second text entries none none_second =
     if_fast (begins_with 32 text ≡ false) (IsTrue (is_fast slot)) (IsNoCallAt slot (words_in text)) r (neither_call r slot at is name second read read_second text entries none none_second)
 
--- no call has another slot
+-- no call has a slot that is not in the list of slots
 none_with : {A : Type 0} (slot : ℕ) (ss : List ℕ) (entries : List A) → AllByRecursion (λ s. slot ≢ s) ss → with_slot slot ss entries ≡ []
 none_with slot [] entries others = refl
 none_with slot (s ∷ ss) [] others = refl
@@ -94,7 +94,7 @@ no_slot slot words others = ap (λ es. command_among es words) (none_with slot s
     at [] = refl
     at (w ∷ ws) = refl
 
--- whether a slot is among some
+-- a slot is different from each slot of a list exactly if `list_any` does not find it in the list
 not_among : (slot : ℕ) (ss : List ℕ) → AllByRecursion (λ s. slot ≢ s) ss → list_any (nat_eq slot) ss ≡ false
 not_among slot [] others = refl
 not_among slot (s ∷ ss) others = or_from _ _ (ne_eqb slot s others.0) (not_among slot ss others.1)
@@ -105,13 +105,13 @@ among_none slot (s ∷ ss) none =
     let parts = or_parts _ _ none in
     (λ same. true≢false (sym (eq-eqb slot s same) ∙ parts.0), among_none slot ss parts.1)
 
--- a slot of none of the fast calls
+-- a slot that no frequent call has is not a slot of the frequent calls, so nothing is stated of it
 pub not_fast : (slot : ℕ) (text : List ℕ) → AllByRecursion (λ s. slot ≢ s) fast_slots
     → begins_with 32 text ≡ false → IsTrue (is_fast slot) → IsNoCallAt slot (words_in text)
 unfolding is_fast
 not_fast slot text others _ fast = absurd (true≢false (sym fast ∙ not_among slot fast_slots others))
 
--- a slot of none of the others
+-- words that are no frequent call with the slot are no call with the slot, if no other call has the slot either
 pub no_other : {A : Type 0} (r : Option A) (slot : ℕ) (text : List ℕ)
     → IfNone r (begins_with 32 text ≡ false → IsTrue (is_fast slot) → IsNoCallAt slot (words_in text))
     → (AllByRecursion (λ s. slot ≢ s) fast_slots → AllByRecursion (λ s. slot ≢ s) slots)
@@ -124,7 +124,7 @@ no_other None slot text none others = λ word. at (is_fast slot) refl (none word
     at true is call = call refl
     at false is call = no_slot slot (words_in text) (others (among_none slot fast_slots is))
 
--- WORDS THAT ARE NO CALL OF ANY SLOT ARE NO COMMAND
+-- WORDS THAT ARE NO CALL OF ANY SLOT ARE NO COMMAND, because each call has a slot
 among_here : (e : Entry) (es : List Entry) (w : List ℕ) (ws : List (List ℕ)) → bytes_eq w e.0 ≡ true → command_among (e ∷ es) (w ∷ ws) ≡ e.1 ws
 among_here e es w ws same = ap (λ o. option_and_then (λ r. r ws) o) (cond-true _ _ _ same)
 
@@ -136,7 +136,7 @@ AreSlots n [] [] = Unit {0}
 AreSlots n (s ∷ ss) (e ∷ es) = (s < n) × AreSlots n ss es
 AreSlots n _ _ = ⊥
 
--- which computes
+-- `are_slots` tests whether `AreSlots` holds, and computes a truth value
 abbrev are_slots : ℕ → List ℕ → List Entry → Bool
 are_slots n [] [] = true
 are_slots n (s ∷ ss) (e ∷ es) = nat_lt s n && are_slots n ss es

@@ -1,8 +1,8 @@
--- The digits of numbers below 1000.
+-- The decimal digits of numbers below 1000.
 use Rattle.std.proofs.Common.{◌≡◌, ℕ, ◌+◌, ◌/◌, ◌%◌, ◌<◌, ◌≤◌, List, [], ◌∷◌, ◌++◌, decimal, arith, ap, ◌∙◌}
 use Rattle.std.proofs.lemmas.Fmt.{decimal_digit, decimal_step}
 
--- one digit, two, and three
+-- the decimal digits of a number below 10, of a number from 10 to 99, and of a number from 100 to 999
 pub one_digit : (n : ℕ) → n < 10 → decimal n ≡ (48 + n % 10) ∷ []
 one_digit n small =
     let same : 48 + n ≡ 48 + n % 10 = omega arith in

@@ -1,4 +1,4 @@
--- A number that is read digit by digit.
+-- How a number is read digit by digit.
 use Rattle.std.proofs.Common.{◌≡◌, ℕ, ◌+◌, ◌*◌, ◌^◌, ◌<◌, ◌≤◌, Bool, true, false, cond, List, [], ◌∷◌, take, drop, length, get_or, arith, sym, subst, ap, refl, ◌∙◌}
 use Rattle.std.specs.Char.{digit_value, is_ascii_digit}
 use Rattle.std.specs.List.{prefix_len}
@@ -24,13 +24,13 @@ pub all_leading : (text : List ℕ) → AllDigits 10 (leading_digits text)
 all_leading [] = tt
 all_leading (c ∷ cs) = subst (AllDigits 10) (sym (take_while-cons is_ascii_digit c cs)) (all_if c (leading_digits cs) (is_ascii_digit c) refl (all_leading cs))
 
--- a word of digits alone is what it begins with
+-- the leading digits of a word that has only digits are the whole word
 pub whole : (word : List ℕ) → AllDigits 10 word → leading_digits word ≡ word
 whole [] all = refl
 whole (c ∷ cs) all = take_while-cons is_ascii_digit c cs ∙ (rw (is_digit c all.0) (ap (λ ds. c ∷ ds) (whole cs all.1)))
 
 module _ (text : List ℕ) where
-  -- the number is that of the first i bytes, which are digits
+  -- the first i bytes of the text are digits, and their value is `number`
   abbrev pub ReadTo : ℕ → ℕ → Type 0
   ReadTo number i = (number ≡ digits_value 10 (take i text)) × (prefix_len is_ascii_digit text ≡ i + prefix_len is_ascii_digit (drop i text))
 
@@ -48,7 +48,7 @@ module _ (text : List ℕ) where
         let same : take (i + 1) (leading_digits text) ≡ take (i + 1) text = take-take (i + 1) (prefix_len is_ascii_digit text) text longer in
         not_more (is_small (get_or text i 0) digit, omega (arith, is.2, read_more.0, part, ap (digits_value 10) same))
 
-  -- the digits end where a byte is none
+  -- if the first i bytes are digits and the next byte is not, the text begins with exactly i digits
   read_all : (number i : ℕ) → i < length text → ReadTo number i → is_ascii_digit (get_or text i 0) ≡ false → IsLeading text number i
   read_all number i there read stop =
       let stops : prefix_len is_ascii_digit (drop i text) ≡ 0 = prefix_len-drop_no is_ascii_digit text i 0 there stop in
@@ -62,7 +62,7 @@ module _ (text : List ℕ) where
     abbrev Stops : ℕ → Type 0
     Stops i = is_ascii_digit (get_or text i 0) ≡ false
 
-    -- two to four digits
+    -- a text that begins with exactly two, three or four digits has the number that these digits give
     to_one : (a : ℕ) → Digit 0 a → ReadTo a 1
     to_one a d =
         let start : ReadTo 0 0 = (refl, omega arith) in
@@ -84,6 +84,6 @@ module _ (text : List ℕ) where
     four_digits a b c d da db dc dd stop =
         read_all _ 4 long (to_next _ 3 d (omega arith) (to_next _ 2 c (omega arith) (to_next a 1 b (omega arith) (to_one a da) db) dc) dd) stop
 
--- a text that is as long as the digits that it begins with is those
+-- a text that is as long as its leading digits has only these digits
 pub leading_all : (word : List ℕ) → length (leading_digits word) ≡ length word → leading_digits word ≡ word
 leading_all word long = take_all (prefix_len is_ascii_digit word) word (omega (arith, long, length-prefix_len is_ascii_digit word))

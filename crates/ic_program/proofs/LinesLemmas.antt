@@ -7,7 +7,7 @@ use Rattle.std.proofs.lemmas.List.Splits.{slice_split-cons_yes, slice_split-cons
 use Rattle.ic_program.specs.Text.{begins_with, ends_line, line_in, after_line}
 use Rattle.ic_program.proofs.TextLemmas.{line_end, line_more, slice_from}
 
--- one byte more of the first line
+-- if no line ends at the index `at`, the byte there belongs to the first line
 pub line_step : (text : List ℕ) (at : ℕ) → at < length text → ends_line (drop at text) ≡ false → take at text ++ line_in (drop at text) ≡ take (at + 1) text ++ line_in (drop (at + 1) text)
 line_step [] at low not = absurd (omega (arith, low))
 line_step (x ∷ xs) zero low not = line_more x xs not
@@ -34,7 +34,7 @@ pieces_more : (x : ℕ) (xs : List ℕ) → (x == 10) ≡ false → pieces (x �
 unfolding pieces
 pieces_more x xs not = slice_split-cons_no (λ b. b == 10) x xs not
 
--- there is a first piece
+-- a list of pieces of a text has a first piece
 data First (ps : List (List ℕ)) : Type 0 where
   first : (p : List ℕ) (others : List (List ℕ)) → ps ≡ p ∷ others → First ps
 
@@ -43,7 +43,7 @@ unfolding pieces
 has_first [] = first [] [] refl
 has_first (x ∷ xs) = cond_both (x == 10) ([] ∷ pieces xs) (onto_first x (pieces xs)) First (λ _. first [] (pieces xs) refl) (λ _. elim (has_first xs) [ first p others is ↦ first (x ∷ p) others (ap (onto_first x) is) ])
 
--- pieces of a text with a line feed in it
+-- the pieces of a text with a line feed are the pieces before the line feed, and then the pieces after it
 onto_both : (x : ℕ) (ps qs : List (List ℕ)) → First ps → onto_first x (ps ++ qs) ≡ onto_first x ps ++ qs
 onto_both x ps qs (first p others is) = ap (λ (l : List (List ℕ)). onto_first x (l ++ qs)) is ∙ sym (ap (λ (l : List (List ℕ)). onto_first x l ++ qs) is)
 
@@ -72,13 +72,13 @@ ended xs ys = ap lines_of_parts (pieces_both xs ys) ∙ at (has_first ys)
         ∙ of_both (pieces xs) q qs
         ∙ ap (λ (l : List (List ℕ)). map strip_carriage_return (pieces xs) ++ lines_of_parts l) (sym is)
 
--- THE LINES BEHIND LINES THAT HAVE ENDED are those of the rest
+-- THE LINES AFTER LINES THAT HAVE ENDED are the lines of the rest of the text
 pub lines_after : (xs ys : List ℕ) → lines (xs ++ 10 ∷ ys) ≡ lines (xs ++ 10 ∷ []) ++ lines ys
 lines_after xs ys =
     let here : lines (xs ++ 10 ∷ []) ≡ map strip_carriage_return (pieces xs) = ended xs [] ∙ append-nil (map strip_carriage_return (pieces xs)) in
     ended xs ys ∙ ap (λ (l : List (List ℕ)). l ++ lines ys) (sym here)
 
--- THE FIRST LINE of a text: it has no line feed, or it ends before one
+-- THE FIRST LINE of a text either has no line feed after it and is the whole text, or ends before a line feed
 data FirstLine (text : List ℕ) : Type 0 where
   last : (p : List ℕ) → pieces text ≡ p ∷ [] → line_in text ≡ p → after_line text ≡ [] → FirstLine text
   more : (p : List ℕ) (rest : List ℕ) → pieces text ≡ p ∷ pieces rest → line_in text ≡ strip_carriage_return p → after_line text ≡ rest → FirstLine text
@@ -93,7 +93,7 @@ strip_more x y ys =
     at true = refl
     at false = refl
 
--- the first line, one byte more
+-- a text with one more byte at its front has a first line, which begins with this byte if no line ends there
 no_pieces : (ps : List (List ℕ)) → First ps → ps ≢ []
 no_pieces ps (first p others is) none = cc
 
@@ -120,7 +120,7 @@ one_more x xs not other (more p rest is line after) =
     at [] is = absurd (starts xs (pieces rest) other (no_pieces (pieces rest) (has_first rest)) is)
     at (y ∷ ys) is = strip_more x y ys
 
--- the last byte before a line feed
+-- a byte directly before a line feed is the last byte of the first line, or a carriage return that is dropped
 last_byte : (x y : ℕ) (ys : List ℕ) → (x == 10) ≡ false → (y == 10) ≡ true → FirstLine (x ∷ y ∷ ys)
 last_byte x y ys not feed =
     more (x ∷ []) ys (pieces_more x (y ∷ ys) not ∙ ap (onto_first x) (pieces_feed y ys feed)) (at (x == 13) refl) (cond-false _ _ _ not ∙ cond-true _ _ _ feed)
@@ -146,7 +146,7 @@ first_line (x ∷ xs) = at (x == 10) refl xs (first_line xs)
     at true feed xs others = more [] xs (pieces_feed x xs feed) (line_end (x ∷ xs) (or_left _ _ feed)) (cond-true _ _ _ feed)
     at false not xs others = after xs not others (begins_with 10 xs) refl
 
--- THE LINES OF A TEXT are the first one and those after it
+-- THE LINES OF A TEXT are the first line and then the lines of the text after it
 pub lines_first : (x : ℕ) (xs : List ℕ) → lines (x ∷ xs) ≡ line_in (x ∷ xs) ∷ lines (after_line (x ∷ xs))
 unfolding pieces
 lines_first x xs = at (first_line (x ∷ xs))
@@ -180,7 +180,7 @@ after_shorter (x ∷ xs) rest some is =
     cond_both (x == 10) xs (after_line xs) (λ t. length t < length (x ∷ xs)) (λ _. omega arith) (λ _. omega (arith, after_within xs)) in
     subst (λ (r : List ℕ). length r < length (x ∷ xs)) (sym is) shorter
 
--- the text after the line, by how long that is
+-- the text after the first line is found by its length: the bytes before it are skipped
 pub after_taken : (text : List ℕ) → drop (length text - length (after_line text)) text ≡ after_line text
 after_taken [] = refl
 after_taken (x ∷ xs) =
@@ -192,7 +192,7 @@ after_taken (x ∷ xs) =
 pub after_drop : (text rest : List ℕ) (taken : ℕ) → rest ≡ after_line text → taken ≡ length text - length rest → drop taken text ≡ after_line text
 after_drop text rest taken is taken_is = ap (λ (k : ℕ). drop k text) (taken_is ∙ ap (λ (r : List ℕ). length text - length r) is) ∙ after_taken text
 
--- it has some bytes
+-- a line of a text that is not empty takes at least one byte
 pub some_taken : (text : List ℕ) (taken : ℕ) → 0 < length text → drop taken text ≡ after_line text → 0 < taken
 some_taken text taken some is = at taken is
   where

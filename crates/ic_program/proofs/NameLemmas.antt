@@ -1,4 +1,4 @@
--- A text that begins with a name, by the bytes that are compared.
+-- A text begins with a name if the bytes that are compared are the same.
 use Rattle.std.proofs.Common.{◌≡◌, ℕ, ◌+◌, ◌-◌, ◌<◌, ◌≤◌, ◌↔◌, List, length, take, drop, get_or, IsTrue, nat_eq, w32, w64, sym, ap, ◌∙◌, arith, eq-eqb, eqb-true, inl, inr}
 use Rattle.std.specs.Int.{from_le_bytes, to_le_bytes}
 use Rattle.std.proofs.lemmas.Nat.{le_bytes_4, le_bytes_8}
@@ -18,7 +18,7 @@ part_bytes bs at n are i =
 part_length : (bs : List ℕ) (at n : ℕ) → at + n ≤ length bs → length (take n (drop at bs)) ≡ n
 part_length bs at n within = omega (arith, within, length-take n (drop at bs), length-drop at bs)
 
--- the same bytes are the same number
+-- four or eight bytes are the same exactly if they are the same number
 module _ (xs ys : List ℕ) (at m n : ℕ) (bytes_xs : AreBytes xs) (bytes_ys : AreBytes ys) where
   pub same_four : at + 4 ≤ length xs → at + 4 ≤ length ys → m ≡ from_le_bytes w32 (take 4 (drop at xs)) → n ≡ from_le_bytes w32 (take 4 (drop at ys))
       → IsTrue (nat_eq m n) ↔ (take 4 (drop at xs) ≡ take 4 (drop at ys))
@@ -40,7 +40,7 @@ module _ (xs ys : List ℕ) (at m n : ℕ) (bytes_xs : AreBytes xs) (bytes_ys : 
     λ same. eq-eqb m n (m_is ∙ ap (from_le_bytes w64) same ∙ sym n_is),
   )
 
--- alike from there on
+-- the text and the name have the same n bytes from the index `at` on
 abbrev pub Alike : List ℕ → List ℕ → ℕ → ℕ → Type 0
 Alike text name at n = take n (drop at text) ≡ take n (drop at name)
 
@@ -65,7 +65,7 @@ alike_within text name n at m is within =
     let front : drop at (take n text) ≡ take (n - at) (drop at text) = ap (λ i. drop at (take i text)) (sym sum) ∙ drop-take at (n - at) text in
     sym (ap (λ (l : List ℕ). take m (drop at l)) (sym is) ∙ ap (take m) front ∙ take-take m (n - at) (drop at text) (omega (arith, within)))
 
--- A NAME OF 4 TO 7 BYTES, by its first four and its last four; and one of 8 to 24
+-- A NAME OF 4 TO 7 BYTES is found by its first four and its last four bytes. A name of 8 to 24 bytes is found by two or three groups of eight bytes
 module _ (text name : List ℕ) (n : ℕ) (long : length name ≡ n) (within : n ≤ length text) where
   pub short_name : 4 ≤ n → n < 8 → Alike text name 0 4 → Alike text name (n - 4) 4 → take n text ≡ name
   short_name low high first last =

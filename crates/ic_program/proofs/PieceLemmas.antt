@@ -1,18 +1,18 @@
--- Pieces of a text: lines that have ended, what is cut off, and what comes later.
+-- Pieces of a text: lines that have ended, an incomplete line that is cut off, and the bytes that come later.
 use Rattle.std.proofs.Common.{◌≡◌, ℕ, suc, zero, ◌+◌, ◌<◌, inl, inr, List, [], ◌∷◌, ◌++◌, length, take, drop, slice_index, sym, ap, ◌∙◌, arith, append_assoc}
 use Rattle.std.specs.Str.Lines.{lines}
 use Rattle.std.proofs.lemmas.List.{take-append-drop, take_more}
 use Rattle.ic_program.specs.Text.{HaveEnded}
 use Rattle.ic_program.proofs.LinesLemmas.{lines_after}
 
--- bytes around a line feed
+-- bytes with a line feed at the index e are the bytes before it, the line feed and the bytes after it
 around_feed : (bytes : List ℕ) (e : ℕ) → e < length bytes → slice_index bytes e ≡ 10 → bytes ≡ take e bytes ++ 10 ∷ drop (e + 1) bytes
 around_feed bytes e low feed =
     sym (take-append-drop (e + 1) bytes)
     ∙ ap (λ (l : List ℕ). l ++ drop (e + 1) bytes) (take_more bytes e 0 low ∙ ap (λ b. take e bytes ++ b ∷ []) feed)
     ∙ append_assoc (take e bytes) (10 ∷ []) (drop (e + 1) bytes)
 
--- THE LINE THAT IS CUT OFF ends at a line feed
+-- THE INCOMPLETE LINE `cut` ENDS at the first line feed of the next bytes
 pub cut_ended : (cut bytes more now : List ℕ) (e : ℕ) → e < length bytes → slice_index bytes e ≡ 10 → now ≡ cut ++ take (e + 1) bytes
     → lines (cut ++ (bytes ++ more)) ≡ lines now ++ lines (drop (e + 1) bytes ++ more)
 cut_ended cut bytes more now e low feed is =
@@ -26,7 +26,7 @@ cut_ended cut bytes more now e low feed is =
     is ∙ ap (λ (l : List ℕ). cut ++ l) (take_more bytes e 0 low ∙ ap (λ b. take e bytes ++ b ∷ []) feed) ∙ sym (append_assoc cut (take e bytes) (10 ∷ [])) in
     ap lines whole ∙ lines_after front rest ∙ ap (λ (l : List ℕ). lines l ++ lines rest) (sym ended)
 
--- LINES THAT HAVE ENDED, and what is after them
+-- LINES THAT HAVE ENDED are lines of the whole text, and then come the lines of the rest
 ended_after : (text rest : List ℕ) → HaveEnded text → lines (text ++ rest) ≡ lines text ++ lines rest
 ended_after text rest how =
     elim how [

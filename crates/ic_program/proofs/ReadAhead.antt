@@ -1,4 +1,4 @@
--- What a reader has left, line by line.
+-- Which lines remain for a reader, after it was read.
 use Rattle.std.proofs.Common.{◌≡◌, ℕ, ◌+◌, true, List, [], ◌++◌, length, drop, Option, Some, None, IfSome, sym, ap, ◌∙◌, subst, arith, append-nil, take-append-drop}
 use Rattle.std.specs.Str.Lines.{lines}
 use Rattle.std.specs.Io.{StartsWith}
@@ -10,11 +10,11 @@ use Rattle.ic_program.specs.HowFar.{AnsweredFirst, AnsweredShort, StopLeft, Unle
 use Rattle.ic_program.proofs.AnsweredLemmas.{none_first, unless_loss_map}
 
 module _ (old new : Family OwnKey ℕ) (output now : Option (List ℕ)) where
-  -- lines of which nothing is known
+  -- if the lines are not known, nothing is stated of the lines that remain
   abbrev unknown : {all : Option (List (List ℕ))} {P Q : ℕ → List (List ℕ) → Type 0} → AnsweredFirst all P old new output now → AnsweredFirst None Q old new output now
   unknown a = record { answered = a.answered; is = a.is; left = tt }
 
-  -- nothing more is to be read
+  -- nothing more is to be read, so that the bytes of the incomplete line are all lines that remain
   pub read_end : (left : Option (List ℕ)) (cut : List ℕ) (P : ℕ → List (List ℕ) → Type 0) → IfSome left (λ xs. xs ≡ []) → AnsweredFirst (Some (lines cut)) P old new output now
       → AnsweredFirst (lines_of_both cut left) P old new output now
   read_end None cut P none a = record { answered = a.answered; is = a.is; left = tt }
@@ -35,7 +35,7 @@ module _ (old new : Family OwnKey ℕ) (output now : Option (List ℕ)) where
       (λ a. read_end left cut (λ count others. StopLeft stop after (before + count) others) none
       (subst (λ (t : List ℕ). AnsweredFirst (Some (lines t)) (λ count others. StopLeft stop after (before + count) others) old new output now) is a))
 
-  -- bytes were taken from the reader
+  -- the bytes `taken` were taken from the reader, and the lines that end in them were answered
   pub read_on : (before after : ℕ) (left rest : Option (List ℕ)) (cut then_cut taken : List ℕ) → Consumes left rest taken
       → ((more : List ℕ) → AnsweredFirst (Some (lines (cut ++ (taken ++ more)))) (λ count others. (after ≡ before + count) × (others ≡ lines (then_cut ++ more))) old new output now)
       → AnsweredFirst (lines_of_both cut left) (λ count others. (after ≡ before + count) × IsLeftToRead then_cut rest true others) old new output now
@@ -52,7 +52,7 @@ module _ (old new : Family OwnKey ℕ) (output now : Option (List ℕ)) where
         );
       }
 
-  -- or were only shown
+  -- the bytes `shown` were seen but not taken from the reader, because the run stopped
   pub read_stop : (stop : Stop) (before after : ℕ) (left : Option (List ℕ)) (cut shown : List ℕ) → IfSome left (λ xs. StartsWith xs shown)
       → ((more : List ℕ) → UnlessLoss stop (AnsweredShort (Some (lines (cut ++ (shown ++ more)))) old output now) (AnsweredFirst (Some (lines (cut ++ (shown ++ more)))) (λ count others. StopLeft stop after (before + count) others) old new output now))
       → UnlessLoss stop (AnsweredShort (lines_of_both cut left) old output now) (AnsweredFirst (lines_of_both cut left) (λ count others. StopLeft stop after (before + count) others) old new output now)
@@ -65,7 +65,7 @@ module _ (old new : Family OwnKey ℕ) (output now : Option (List ℕ)) where
       let split : xs ≡ shown ++ rest = sym (take-append-drop (length shown) xs) ∙ ap (λ (l : List ℕ). l ++ rest) front in
       subst (λ (l : List ℕ). UnlessLoss stop (AnsweredShort (Some (lines (cut ++ l))) old output now) (AnsweredFirst (Some (lines (cut ++ l))) (λ count others. StopLeft stop after (before + count) others) old new output now)) (sym split) (a rest)
 
--- nothing was taken, and nothing answered
+-- nothing was taken from the reader, and no line was answered
 pub read_none : (before : ℕ) (left rest : Option (List ℕ)) (cut : List ℕ) (w : Family OwnKey ℕ) (output : Option (List ℕ)) → Keeps left rest
     → AnsweredFirst (lines_of_both cut left) (λ count others. (before ≡ before + count) × IsLeftToRead cut rest true others) w w output output
 read_none before None rest cut w output kept = none_first None (λ count others. (before ≡ before + count) × IsLeftToRead cut rest true others) w output (λ others is. absurd (cc (is)))

@@ -1,4 +1,4 @@
--- What is read of a text, word by word.
+-- How a text is read word by word.
 use Rattle.std.proofs.Common.{◌≡◌, ◌≢◌, ℕ, ◌^◌, ◌<◌, ◌≤◌, true, false, List, [], ◌∷◌, ◌++◌, inl, inr, length, take, drop, Option, Some, None, option_map, option_and_then, IsTrue, refl, sym, ap, ap₂, ◌∙◌, arith, ◌==◌}
 use Rattle.std.proofs.lemmas.Option.{some_pair_parts}
 use Rattle.std.proofs.lemmas.Bool.{or_cases, and_parts, eqb-true, ltb-true, ne_eqb}
@@ -15,7 +15,7 @@ use Rattle.ic_program.specs.Grammar.{number_in}
 use Rattle.ic_program.specs.Text.{words_in, after_line, ends_word, word_in, before_words, ReadsWord, first_says, Reads, BeginsWithNumber, is_name, without_last, ReadsName, IsNoName}
 use Rattle.ic_program.proofs.TextLemmas.{after_word, after_end, after_more, after_stops, word_end, word_more, words_are, words_end, word_or_end, after_line_word, word_then_after}
 
--- what the first word says
+-- `says` reads x from the first word of a list, which is then not empty
 pub first_parts : {A : Type 0} (says : List ℕ → Option A) (words : List (List ℕ)) (x : A) (others : List (List ℕ)) → first_says says words ≡ Some (x, others)
     → (word : List ℕ) × (words ≡ word ∷ others) × (says word ≡ Some x)
 first_parts says [] x others is = absurd (cc (is))
@@ -44,7 +44,7 @@ no_first {A} says word others is = at (says word) refl is
     at None none _ = none
     at (Some y) _ is = absurd (cc (is))
 
--- a word was read, and says that, or does not
+-- a word was read, and `says` reads x from it, or cannot read it
 pub word_says : {A : Type 0} (says : List ℕ → Option A) (text word rest : List ℕ) (x : A) → ReadsWord text word rest → says [] ≡ None → says word ≡ Some x → Reads says text x rest
 word_says says text [] rest x reads none is = absurd (cc (none, is))
 word_says says text (c ∷ cs) rest x reads none is = record { first = ap (first_says says) reads.words ∙ first_is says (c ∷ cs) (words_in rest) x is; after = reads.after }
@@ -53,7 +53,7 @@ pub word_says_not : {A : Type 0} (says : List ℕ → Option A) (text word rest 
 word_says_not says text [] rest reads is = ap (first_says says) (reads.none refl)
 word_says_not says text (c ∷ cs) rest reads is = ap (first_says says) reads.words ∙ first_none says (c ∷ cs) (words_in rest) is
 
--- a number was read, and the text after it was found by itself
+-- a number was read from a word, whether or not the text after the word is returned with it
 pub number_begins : (text word rest : List ℕ) (result : Option ℕ) → ReadsWord text word rest → result ≡ number_in word → BeginsWithNumber text result
 number_begins text word rest None reads is = word_says_not number_in text word rest reads (sym is)
 number_begins text word rest (Some n) reads is = (words_in rest, (word_says number_in text word rest n reads refl (sym is)).first)
@@ -69,7 +69,7 @@ number_after text rest n begins reads = at reads.0 reads.1
         let same : c ∷ cs ≡ p.0 = cc (r.words, p.1) in
         word_says number_in text (c ∷ cs) rest n r refl (ap number_in same ∙ p.2)
 
--- what it says is taken for another thing, if that can be
+-- the function f turns what `says` has read into another argument, or fails
 module _ {A B : Type 0} (says : List ℕ → Option A) (f : A → Option B) where
   abbrev then_says : List ℕ → Option B
   then_says word = option_and_then f (says word)
@@ -95,7 +95,7 @@ letter_more c text above =
     let e32 : (c == 32) ≡ false = ne_eqb c 32 (λ e. omega (arith, e)) in
     rw (e10, e13, e32) refl
 
--- A NUMBER OF A FEW DIGITS
+-- A NUMBER OF A FEW DIGITS at the beginning of a text is its first word
 digits_word : (ds rest : List ℕ) → AllDigits 10 ds → ends_word rest ≡ true → (word_in (ds ++ rest) ≡ ds) × (after_word (ds ++ rest) ≡ rest)
 digits_word [] rest all stops = (word_end rest stops, after_end rest stops)
 digits_word (d ∷ ds) rest all stops =
@@ -131,7 +131,7 @@ small_reads text rest number digits is some few rest_is stops =
     first_of [] rest number all some few is = absurd (omega (arith, some))
     first_of (d ∷ ds) rest number all some few is = first_is number_in (d ∷ ds) (words_in rest) number (small_is (d ∷ ds) all some few ∙ ap (λ (n : ℕ). Some n) (sym is))
 
--- A NAME, and the space after it
+-- A TEXT BEGINS WITH A NAME and a space, and the name is its first word
 named_word : (name text : List ℕ) → is_name name ≡ true → take (length name) text ≡ name → (word_in text ≡ without_last name) × (after_word text ≡ 32 ∷ drop (length name) text)
 named_word [] text is same = absurd (cc (is))
 named_word (x ∷ []) [] is same = absurd (cc (same))
@@ -156,7 +156,7 @@ name_read (x ∷ y ∷ ys) text rest is long same after =
       after = ap after_line after ∙ ap after_line (sym w.1) ∙ after_line_word text;
     }
 
--- a line that has the name for its first word has no other word, unless a space is after the name
+-- if the first word of a line is the name, the line has no other word, unless a space follows the name
 name_is : (name : List ℕ) → is_name name ≡ true → name ≡ without_last name ++ 32 ∷ []
 name_is [] is = absurd (cc (is))
 name_is (x ∷ []) is = ap (λ y. y ∷ []) (eqb-true x 32 is)

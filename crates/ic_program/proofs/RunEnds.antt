@@ -1,4 +1,4 @@
--- How runs end.
+-- How the runs of the program end.
 use Rattle.std.proofs.Common.{◌≡◌, ℕ, ◌+◌, Bool, List, [], ◌++◌, length, Option, Some, None, Result, Ok, Err, IsErr, IsErrAnd, OnSome, IfSome, true, false, cond, arith, refl, sym, ap, ◌∙◌, subst, append-nil, inl, inr}
 use Rattle.std.specs.Prelude.{◌⊎◌, IsSome, IsTrue, IfOk}
 use Rattle.std.specs.FinMap as map
@@ -18,16 +18,16 @@ use Rattle.ic_program.specs.HowFar.{AnsweredFirst, AnsweredShort, FaultLeft, Sto
 use Rattle.ic_program.proofs.AnsweredLemmas.{none_first, and_then, first_kept, left_as, short_then, short_cut, short_none}
 use Rattle.ic_program.proofs.CutLemmas.{cut_nothing, cut_more, cut_kept, appended_after}
 
--- all lines of the input
+-- all lines of the input, or none if its bytes are not known
 abbrev pub lines_in : Option (List ℕ) → Option (List (List ℕ))
 lines_in input = lines_of_both [] input
 
--- what waits is nothing
+-- if no bytes wait, the known bytes with the waiting bytes are the known bytes
 none_waits : (known : Option (List ℕ)) (waits : List ℕ) → waits ≡ [] → Keeps known (append_known known waits)
 none_waits None waits is = tt
 none_waits (Some xs) waits is = ap (λ (l : List ℕ). xs ++ l) is ∙ append-nil xs
 
--- ONE ROUND: what is read is answered after what is written, and is written
+-- ONE ROUND: the lines that were read are answered after the earlier answers, and their answers are written
 pub round : (input left rest : Option (List ℕ)) (cut then_cut : List ℕ) (going : Bool) (at after : ℕ) (first old new : Family OwnKey ℕ) (output k0 k1 k2 : Option (List ℕ)) (waits then_waits : List ℕ)
     → AnsweredFirst (lines_in input) (λ count others. (at ≡ count) × IsLeftToRead cut left true others) first old output k0 → waits ≡ []
     → AnsweredFirst (lines_of_both cut left) (λ count others. (after ≡ at + count) × IsLeftToRead then_cut rest going others) old new (append_known k0 waits) (append_known k1 then_waits)
@@ -68,7 +68,7 @@ short_round input left cut at first old output k0 k1 k2 waits then_waits a none 
     (λ count others next. next.1))
     short
 
--- what was answered of a new world is a run, with its last line
+-- if the first lines of the input were answered on a new world, and then the bytes `last` were written, this is a run
 run_of : (input output mid now : Option (List ℕ)) (IsLeft : ℕ → List (List ℕ) → Type 0) (last : List ℕ) (first end : Family OwnKey ℕ) → IsNew first
     → AnsweredFirst (lines_in input) IsLeft first end output mid → Appends mid now last → IsRun input output now IsLeft last
 run_of input output mid now IsLeft last first end is_new a line = record {
@@ -105,7 +105,7 @@ run_finished input output now after cut rest going first end is_new is a =
     (left_as (lines_in input) (λ count others. (after ≡ count) × IsLeftToRead cut rest going others) NoneLeft first end output now a
     (λ count others next. subst (λ b. IsLeftToRead cut rest b others) is next.1)) (Keeps-refl now)
 
--- the run goes on
+-- the run goes on after a round that did not end it
 pub run_on : (input output mid now : Option (List ℕ)) (after last : ℕ) (cut : List ℕ) (rest : Option (List ℕ)) (going : Bool) (first end same : Family OwnKey ℕ) → going ≡ true → last ≡ after → same ≡ end
     → AnsweredFirst (lines_in input) (λ count others. (after ≡ count) × IsLeftToRead cut rest going others) first end output mid → Keeps mid now
     → AnsweredFirst (lines_in input) (λ count others. (last ≡ count) × IsLeftToRead cut rest true others) first same output now
@@ -114,21 +114,21 @@ run_on input output mid now after last cut rest going first end same is last_is 
     (left_as (lines_in input) (λ count others. (after ≡ count) × IsLeftToRead cut rest going others) (λ count others. (last ≡ count) × IsLeftToRead cut rest true others) first end output mid a
     (λ count others next. (last_is ∙ next.0, subst (λ b. IsLeftToRead cut rest b others) is next.1))) kept same_is
 
--- it begins
+-- a run begins with no line read, and with no incomplete line
 pub run_begins : (input output : Option (List ℕ)) (read : ℕ) (cut : List ℕ) (first : Family OwnKey ℕ) → read ≡ 0 → cut ≡ []
     → AnsweredFirst (lines_in input) (λ count others. (read ≡ count) × IsLeftToRead cut input true others) first first output output
 run_begins input output read cut first zero none =
     none_first (lines_in input) (λ count others. (read ≡ count) × IsLeftToRead cut input true others) first output
     (λ others is. (zero, ap (λ (c : List ℕ). lines_of_both c input) none ∙ is))
 
--- there are more lines than a number counts
+-- the program gave up after as many reads as its counter can count, and what it answered is a run
 pub run_endless : (input output now : Option (List ℕ)) (after : ℕ) (cut : List ℕ) (rest : Option (List ℕ)) (first end : Family OwnKey ℕ) → IsNew first
     → AnsweredFirst (lines_in input) (λ count others. (after ≡ count) × IsLeftToRead cut rest true others) first end output now → IsRun input output now (λ count others. after ≡ count) []
 run_endless input output now after cut rest first end is_new a =
     run_so_far input output now now (λ count others. after ≡ count) first end is_new
     (left_as (lines_in input) (λ count others. (after ≡ count) × IsLeftToRead cut rest true others) (λ count others. after ≡ count) first end output now a (λ count others is. is.0)) (Keeps-refl now)
 
--- a run stays one while nothing more is written
+-- a run stays a run if nothing more is written
 kept_run : (input output mid now : Option (List ℕ)) (IsLeft : ℕ → List (List ℕ) → Type 0) (last : List ℕ) → IsRun input output mid IsLeft last → Keeps mid now → IsRun input output now IsLeft last
 kept_run input output mid now IsLeft last run kept = record {
   first = run.first;
@@ -143,7 +143,7 @@ kept_run input output mid now IsLeft last run kept = record {
   left = run.left;
 }
 
--- A RUN SO FAR: all that it wrote; what is cut short
+-- A RUN, HOWEVER IT ENDED: either all answers were written, or only a beginning of them
 any_left : (input output now : Option (List ℕ)) (IsLeft : ℕ → List (List ℕ) → Type 0) (last : List ℕ) → IsRun input output now IsLeft last → IsRun input output now AnyLeft last
 any_left input output now IsLeft last run = record {
   first = run.first;
@@ -185,7 +185,7 @@ short_so_far input output now first is_new s =
     at None left = tt
     at (Some ls) left = (left.0, left.1, tt)
 
--- A LOSS ENDS THE RUN
+-- A FAULT BY WHICH ANSWERS MAY BE LOST ends the run as `Ends` states
 lost_run : (input output now : Option (List ℕ)) (fault : Fault) (r : Result Ending Fault) → IsErr r × IsErrAnd r (λ passed. passed ≡ fault) → IsTrue (is_loss fault) → IsRunSoFar input output now → Ends r input output now
 lost_run input output now fault (Err passed) is loses s =
     subst (λ (f : Fault). cond (is_loss f) (IsRunSoFar input output now) (IsRun input output now (FaultLeft f) [])) (sym is.1)
@@ -196,7 +196,7 @@ pub lost_answers : (input output now : Option (List ℕ)) (fault : Fault) (r : R
     → IsNew first → AnsweredShort (lines_in input) first output now → Ends r input output now
 lost_answers input output now fault r first is loses is_new s = lost_run input output now fault r is loses (short_so_far input output now first is_new s)
 
--- before there is a world
+-- a run that fails before it makes a world has written nothing, which is the beginning of a run
 no_world : Family OwnKey ℕ
 no_world = record { adapter = record {}; objects = map.empty; fields = []; collections = [] }
 
@@ -204,7 +204,7 @@ pub no_run : (input output : Option (List ℕ)) → IsRunSoFar input output outp
 unfolding no_world
 no_run input output = short_so_far input output output no_world (refl, refl, refl) (short_none (lines_in input) no_world output)
 
--- A STOP ENDS THE RUN
+-- A STOP ENDS THE RUN as `Ends` states
 pub stopped_run : (input output mid now : Option (List ℕ)) (stop : Stop) (line : ℕ) (r : Result Ending Fault) (first end : Family OwnKey ℕ) → IsNew first
     → UnlessLoss stop (AnsweredShort (lines_in input) first output mid) (AnsweredFirst (lines_in input) (λ count others. StopLeft stop line count others) first end output mid) → EndsStopped stop line r mid now → Ends r input output now
 stopped_run input output mid now NoCommand line (Ok Finished) first end is_new a e = absurd (cc (e.0))
@@ -220,7 +220,7 @@ stopped_run input output mid now (AFault fault) line r first end is_new a e =
     [ true ↦ λ s. so_far_kept input output mid now (short_so_far input output mid first is_new s) e.1 | false ↦ λ p. run_so_far input output mid now (FaultLeft fault) first end is_new p e.1 ] in
     subst (λ (x : Result Ending Fault). Ends x input output now) (sym e.0) (run a)
 
--- a flush writes nothing more
+-- a flush of the writer writes no more bytes, so the end of the run stays as it was
 flushed_fault : (input output mid now : Option (List ℕ)) (fault : Fault) → Ends (Err fault) input output mid → Keeps mid now → Ends (Err fault) input output now
 flushed_fault input output mid now fault ends kept =
     let both : cond (is_loss fault) (IsRunSoFar input output mid) (IsRun input output mid (FaultLeft fault) []) → cond (is_loss fault) (IsRunSoFar input output now) (IsRun input output now (FaultLeft fault) []) =
@@ -242,7 +242,7 @@ flushed_run input output mid now ending (Err f) ends kept same fault =
       | inr lost ↦ subst (λ b. cond b (IsRunSoFar input output now) (IsRun input output now (FaultLeft f) [])) (sym lost) (so_far_kept input output mid now (so_far input output mid ending ends) kept)
     ]
 
--- THE STATUS of a run that came to its end
+-- THE STATUS OF A RUN says how the run ended: for example, a run with the status 0 came to the end of its input
 pub finished_run : (input output now : Option (List ℕ)) (r : Result Ending Fault) (status : ℕ) (P : Type 0)
     → (status ≡ 3) ⊎ ((r ≡ Ok Finished) × (status ≡ 0)) ⊎ ((r ≡ Ok NotUnderstood) × (status ≡ 2)) → Ends r input output now → (r ≡ Ok Finished → P) → status ≡ 0
     → IsRun input output now NoneLeft [] × P
@@ -255,13 +255,13 @@ finished_run input output now r status P how ends read zero =
       ]
     ]
 
--- nothing is left of a reader that keeps what it had, which was nothing
+-- a reader that had no bytes left, and was not changed, is at its end
 pub nothing_left : (old new : Option (List ℕ)) → Keeps old new → IfSome old (λ xs. xs ≡ []) → OnSome old (IsAtEnd new)
 nothing_left None new kept none = tt
 nothing_left (Some xs) (Some ys) kept none = kept ∙ none
 nothing_left (Some xs) None kept none = absurd kept
 
--- what is left of a reader stays known
+-- if the bytes of a reader were known at first, they are known before the last read. So a reader that is at its end after this read has no more input
 pub still_known : (first old new : Option (List ℕ)) → OnSome first (IsSome old) → OnSome old (IsAtEnd new) → OnSome first (IsAtEnd new)
 still_known None old new known end = tt
 still_known (Some xs) (Some ys) new known end = end
@@ -272,7 +272,7 @@ known_on None old new known goes_on = tt
 known_on (Some xs) (Some ys) new known goes_on = goes_on
 known_on (Some xs) None new known goes_on = absurd (cc (known))
 
--- nothing was left where nothing was shown
+-- if the reader returned no bytes, no bytes are left
 pub none_represented : {S E : Type 0} (old : Option (List ℕ)) (r : Result S E) (s : S) (P : S → Type 0) → r ≡ Ok s → P s → IfSome old (λ xs. IfOk r (λ t. P t → xs ≡ [])) → IfSome old (λ xs. xs ≡ [])
 none_represented None r s P is p h = tt
 none_represented {S} {E} (Some xs) r s P is p h = subst (λ (x : Result S E). IfOk x (λ t. P t → xs ≡ [])) is h p

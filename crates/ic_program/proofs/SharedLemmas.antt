@@ -1,4 +1,5 @@
--- What was written of workers: how many workers and places some words ask for, and what stays so while nothing more is written.
+-- What was written about workers: the numbers of workers and places that the arguments give, and that the result stays true if nothing more is
+-- written.
 use Rattle.std.proofs.Common.{◌≡◌, Option, List, ℕ, [], ◌∷◌, String, inl, inr, sym, subst, ◌∙◌}
 use Rattle.std.specs.Io.KnownBytes.{Appends, Keeps}
 use Rattle.std.proofs.KnownBytes.{Keeps-trans}
@@ -11,7 +12,7 @@ use Rattle.ic_program.specs.Printed.{workers_text}
 use Rattle.ic_program.specs.Shared.{HaveShared, HaveSharedSoFar}
 use Rattle.ic_program.proofs.CutLemmas.{cut_kept, cut_more}
 
--- words ask for so many alone
+-- the arguments give only one number of workers and one number of places
 same_asked : {Z : Type 0} (words : List (String Z)) (a b : Workers) → AskFor words a → AskFor words b → (a.workers ≡ b.workers) × (a.places ≡ b.places)
 same_asked [] a b p q = absurd p
 same_asked (name ∷ []) a b p q = absurd p

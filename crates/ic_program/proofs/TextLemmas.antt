@@ -1,4 +1,4 @@
--- Lines and words of texts.
+-- How the lines and words of a text are found byte by byte.
 use Rattle.std.proofs.Common.{◌≡◌, ◌≢◌, ℕ, ◌-◌, Bool, true, false, cond, List, [], ◌∷◌, ◌++◌, length, take, drop, filter, refl, sym, ap, ap₂, ◌∙◌, arith, nat_lt, ◌==◌, Option, Some, None, MatchOption, Bor}
 use Rattle.std.specs.List.{slice_split, onto_first}
 use Rattle.std.proofs.lemmas.List.{take_all, length-drop}
@@ -7,7 +7,7 @@ use Rattle.std.proofs.lemmas.List.Splits.{slice_split-cons_yes, slice_split-cons
 use Rattle.ic_program.specs.Grammar.{words_of}
 use Rattle.ic_program.specs.Text.{begins_with, ends_line, line_in, words_in, after_line, ends_word, word_in, after_spaces, before_words, ReadsWord}
 
--- what is not the end of a line is passed
+-- `line_in` and `word_in` are empty at the end of a line or word, and otherwise begin with the first byte
 pub line_end : (text : List ℕ) → ends_line text ≡ true → line_in text ≡ []
 line_end [] is = refl
 line_end (x ∷ xs) is = cond-true _ _ _ is
@@ -22,7 +22,7 @@ word_end (x ∷ xs) is = cond-true _ _ _ is
 pub word_more : (x : ℕ) (xs : List ℕ) → ends_word (x ∷ xs) ≡ false → word_in (x ∷ xs) ≡ x ∷ word_in xs
 word_more x xs not = cond-false _ _ _ not
 
--- the text after the first word, and the parts of the line that are there
+-- the text after the first word, and the parts between spaces of the line that begins there
 pub after_word : List ℕ → List ℕ
 after_word [] = []
 after_word (x ∷ xs) = cond (ends_word (x ∷ xs)) (x ∷ xs) (after_word xs)
@@ -52,7 +52,7 @@ pub after_more : (x : ℕ) (xs : List ℕ) → ends_word (x ∷ xs) ≡ false �
 unfolding after_word
 after_more x xs not = cond-false _ _ _ not
 
--- THE PARTS OF A LINE are its first word, which may be empty, and those after that
+-- THE PARTS OF A LINE between spaces are its first word, which may be empty, and then the parts of the text after this word
 parts_are : (text : List ℕ) → parts (line_in text) ≡ word_in text ∷ parts_left (after_word text)
 unfolding parts parts_left after_word
 parts_are [] = refl
@@ -76,7 +76,7 @@ parts_are (x ∷ xs) = at (ends_line (x ∷ xs)) refl (x == 32) refl (parts_are 
         ∙ ap (onto_first x) others
         ∙ sym (ap₂ (λ (w : List ℕ) (p : List (List ℕ)). w ∷ p) (word_more x xs w) (ap parts_left (after_more x xs w)))
 
--- THE WORDS OF A LINE are the first one, if it is not empty, and those after it
+-- THE WORDS OF A LINE are its first word, if this is not empty, and then the words of the text after it
 kept : List (List ℕ) → List (List ℕ)
 kept pieces = filter (λ word. nat_lt 0 (length word)) pieces
 
@@ -98,8 +98,7 @@ words_are text =
     ap kept (parts_are (after_word text) ∙ ap₂ (λ (w : List ℕ) (p : List (List ℕ)). w ∷ p) (word_end (after_word text) stops) (ap parts_left (after_end (after_word text) stops))) in
     ap kept (parts_are text) ∙ kept_first (word_in text) (parts_left (after_word text)) ∙ ap (before_words (word_in text)) (sym left)
 
--- spaces before are dropped
--- spaces before are dropped
+-- a text has the same words in its first line with or without spaces at its beginning
 pub words_space : (xs : List ℕ) → words_in (32 ∷ xs) ≡ words_in xs
 words_space xs = refl
 
@@ -118,7 +117,7 @@ pub no_space : (text : List ℕ) → begins_with 32 (after_spaces text) ≡ fals
 no_space [] = refl
 no_space (x ∷ xs) = cond_both (x == 32) (after_spaces xs) (x ∷ xs) (λ t. begins_with 32 t ≡ false) (λ _. no_space xs) (λ not. not)
 
--- a line that ends here has no words
+-- a text that begins with the end of a line has no words in its first line
 pub words_end : (text : List ℕ) → ends_line text ≡ true → words_in text ≡ []
 words_end text is = ap words_of (line_end text is)
 
@@ -138,7 +137,7 @@ words_none text not none = at (word_in text) refl
     at [] is = word_or_end text not is
     at (x ∷ xs) is = absurd (cc (none, words_are text, ap (λ w. before_words w (words_in (after_word text))) is))
 
--- the first word is as long as the text goes on without a space or an end
+-- the first word of a text is as many bytes from its beginning as the word is long
 pub take_word : (text : List ℕ) → take (length (word_in text)) text ≡ word_in text
 take_word [] = refl
 take_word (x ∷ xs) = cond_both (ends_word (x ∷ xs)) [] (x ∷ word_in xs) (λ w. take (length w) (x ∷ xs) ≡ w) (λ _. refl) (λ _. ap (λ w. x ∷ w) (take_word xs))
@@ -161,7 +160,7 @@ after_line_word (x ∷ xs) =
     cond_both (ends_word (x ∷ xs)) (x ∷ xs) (after_word xs) (λ t. after_line t ≡ after_line (x ∷ xs)) (λ _. refl)
     (λ not. let other : (x == 10) ≡ false = (or_parts _ _ (or_parts _ _ not).0).0 in after_line_word xs ∙ sym (cond-false _ _ _ other))
 
--- A WORD WAS READ after the spaces
+-- A WORD WAS READ after the spaces at the beginning of a text
 pub reads_word : (text start : List ℕ) (n : ℕ) → start ≡ after_spaces text → n ≡ length (word_in start) → ReadsWord text (take n start) (drop n start)
 reads_word text start n start_is n_is =
     let w : take n start ≡ word_in start = ap (λ k. take k start) n_is ∙ take_word start in
@@ -183,13 +182,13 @@ word_then_after (x ∷ xs) = at (ends_word (x ∷ xs)) (word_then_after xs)
     at true others = refl
     at false others = ap (λ ys. x ∷ ys) others
 
--- the end of a line, after the spaces
+-- the first line of a text has no words exactly if the line ends after the spaces at its beginning
 pub line_after : (text start : List ℕ) (rest : Option (Bor (List ℕ))) → start ≡ after_spaces text
     → MatchOption rest (ends_line start ≡ false) (λ r. (ends_line start ≡ true) × (r.now ≡ after_line start))
     → MatchOption rest (words_in text ≢ []) (λ r. (words_in text ≡ []) × (r.now ≡ after_line text))
 line_after text start None is no_end = λ none. absurd (cc (no_end, words_none start (ap (begins_with 32) is ∙ no_space text) (ap words_in is ∙ words_spaces text ∙ none)))
 line_after text start (Some r) is end = (sym (ap words_in is ∙ words_spaces text) ∙ words_end start end.0, end.1 ∙ ap after_line is ∙ after_line_spaces text)
 
--- what a slice from there on is
+-- the slice of a text from the index n on is the text without its first n bytes
 pub slice_from : (n : ℕ) (text : List ℕ) → take (length text - n) (drop n text) ≡ drop n text
 slice_from n text = take_all (length text - n) (drop n text) (omega (arith, length-drop n text))

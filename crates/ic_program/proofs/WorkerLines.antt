@@ -1,4 +1,4 @@
--- The lines of workers, one more at a time.
+-- The lines of workers, after one more worker was added.
 use Rattle.std.proofs.Common.{◌≡◌, ℕ, ◌+◌, ◌<◌, suc, List, [], ◌∷◌, ◌++◌, Vec, take, length, arith, sym, ap, ◌∙◌, append_assoc, append-nil, length-take-le}
 use Rattle.std.proofs.lemmas.List.{length-map}
 use Rattle.ic_unsafe_ref.specs.declared.place.Place.{Place}
@@ -6,7 +6,7 @@ use Rattle.ic_workers.specs.SharedOut.{places_in}
 use Rattle.ic_workers.proofs.TakenPlaces.{places_more}
 use Rattle.ic_program.specs.Printed.{worker_line, worker_lines}
 
--- the line of the last list comes last
+-- the line of one more list of places comes after the lines of the other lists
 lines_more : (n : ℕ) (ls : List (List Place)) (s : List Place) → worker_lines n (ls ++ s ∷ []) ≡ worker_lines n ls ++ worker_line (n + length ls) s
 lines_more n [] s =
     let same : n ≡ n + 0 = omega arith in

@@ -12,11 +12,11 @@ use Rattle.ic_rbtree.specs.declared.keys.key_adapter.Bound.TheVariants.{Included
 use Rattle.ic_world.specs.declared.call.Command.{Command}
 use Rattle.ic_world.specs.declared.call.Command.TheVariants as call
 use Rattle.ic_any_collection.specs.declared.gap.Gap.TheVariants.{Front, Back, Before, After}
-use Rattle.ic_world.specs.declared.calls.one_call.Call.{Call as OneCall}
-use Rattle.ic_world.specs.declared.calls.one_call.Call.TheVariants.{Put, Take, Swap, Move, Seek, Whole, Search, Insertion, Enter}
-use Rattle.ic_world.specs.declared.calls.one_call.Direction.TheVariants.{Next, Prev}
+use Rattle.ic_world.specs.declared.calls.collection_call.Call.{Call as CollectionCall}
+use Rattle.ic_world.specs.declared.calls.collection_call.Call.TheVariants.{Put, Take, Swap, Move, Seek, BulkEdit, Search, Insertion, Enter}
+use Rattle.ic_world.specs.declared.calls.collection_call.Neighbor.TheVariants.{Next, Prev}
 use Rattle.ic_world.specs.declared.calls.seek.Seek.TheVariants.{Null, On, With}
-use Rattle.ic_world.specs.declared.calls.whole.Whole.TheVariants.{Clear, Reverse}
+use Rattle.ic_world.specs.declared.calls.bulk_edit.BulkEdit.TheVariants.{Clear, Reverse}
 use Rattle.ic_world.specs.declared.calls.search.Search.TheVariants.{Find, LowerBound, UpperBound}
 use Rattle.ic_world.specs.declared.calls.insertion.Insertion.TheVariants.{Insert, CursorInsert}
 use Rattle.ic_program.specs.declared.line.Line.{Line}
@@ -26,20 +26,20 @@ use Rattle.ic_program.specs.declared.line.Line.TheVariants.{Empty, Call, NoComma
 abbrev pub words_of : List ℕ → List (List ℕ)
 words_of line = filter (λ word. nat_lt 0 (length word)) (slice_split (λ byte. byte == 32) line)
 
--- WHAT A WORD MEANS. A number: 1 to 20 decimal digits with a value below 2^64
+-- A WORD IS A NUMBER if it has 1 to 20 decimal digits and its value is below 2^64
 abbrev pub number_in : List ℕ → Option ℕ
 number_in word =
     if all_ascii_digits word && nat_lt 0 (length word) && nat_le (length word) 20 && nat_lt (digits_value 10 word) (2 ^ 64)
     then Some (digits_value 10 word) else None
 
--- the place of an object: a number below 2^32
+-- `place_in` reads the place of an object from a word, which has to be a number below 2^32
 abbrev pub nth_place : ℕ → Option Place
 nth_place index = if nat_lt index (2 ^ 32) then place_at (8 * (index + 1)) else None
 
 abbrev pub place_in : List ℕ → Option Place
 place_in word = option_and_then nth_place (number_in word)
 
--- the value of a name, in a list of names with their values
+-- the value that a list of names with their values has for a word, or none if no name is the word
 abbrev pub named : {A : Type 0} → List (List ℕ × A) → List ℕ → Option A
 named [] word = None
 named (entry ∷ entries) word = if bytes_eq word entry.0 then Some entry.1 else named entries word
@@ -55,11 +55,11 @@ bound_in word =
     else if starts_with nat_eq word (codes "excluded:") then option_map Excluded (number_in (drop 9 word))
     else named ((codes "unbounded", Unbounded) ∷ []) word
 
--- a neighbor: an object, or `none` beyond an end of the list
+-- the neighbor that a word names: the number of an object, or `none` if the list has no member on that side
 abbrev pub neighbor_in : List ℕ → Option (Option Place)
 neighbor_in word = if bytes_eq word (codes "none") then Some None else option_map Some (place_in word)
 
--- A CALL WITH ONE, TWO OR THREE ARGUMENTS: as many words, each of which means its argument
+-- A CALL WITH ONE, TWO OR THREE ARGUMENTS is read from exactly as many words. Each word is read by the function of its argument
 abbrev pub one : {A : Type 0} → (List ℕ → Option A) → (A → Command ℕ ℕ) → List (List ℕ) → Option (Command ℕ ℕ)
 one a call (u ∷ []) = option_map call (a u)
 one a call _ = None
@@ -73,17 +73,17 @@ abbrev pub three : {A B C : Type 0} → (List ℕ → Option A) → (List ℕ �
 three a b c call (u ∷ v ∷ w ∷ []) = option_and_then (λ x. option_and_then (λ y. option_map (call x y) (c w)) (b v)) (a u)
 three a b c call _ = None
 
--- A CALL OF ONE COLLECTION: the collection's number, followed by no, one or two arguments
-abbrev pub on : OneCall ℕ → ℕ → Command ℕ ℕ
+-- A CALL OF ONE COLLECTION is made from the number of the collection and no, one or two more arguments
+abbrev pub on : CollectionCall ℕ → ℕ → Command ℕ ℕ
 on made c = call.On c made
 
-abbrev pub on_with : {A : Type 0} → (A → OneCall ℕ) → ℕ → A → Command ℕ ℕ
+abbrev pub on_with : {A : Type 0} → (A → CollectionCall ℕ) → ℕ → A → Command ℕ ℕ
 on_with made c x = call.On c (made x)
 
-abbrev pub on_with_two : {A B : Type 0} → (A → B → OneCall ℕ) → ℕ → A → B → Command ℕ ℕ
+abbrev pub on_with_two : {A B : Type 0} → (A → B → CollectionCall ℕ) → ℕ → A → B → Command ℕ ℕ
 on_with_two made c x y = call.On c (made x y)
 
--- THE CALLS: the name of each, and its arguments
+-- THE CALLS: the name of each call, and the function that reads its arguments
 unfoldable pub calls : List (List ℕ × (List (List ℕ) → Option (Command ℕ ℕ)))
 calls =
     (codes "place", one number_in call.Place)
@@ -92,7 +92,7 @@ calls =
     ∷ (codes "field", one kind_in call.AddField)
     ∷ (codes "open", two number_in kind_in call.Open)
     ∷ (codes "dispose", one number_in call.Dispose)
-    ∷ (codes "clear", one number_in (on (Whole Clear)))
+    ∷ (codes "clear", one number_in (on (BulkEdit Clear)))
     ∷ (codes "fast_clear", one number_in call.FastClear)
     ∷ (codes "take", one number_in call.Take)
     ∷ (codes "show", one number_in call.Show)
@@ -118,7 +118,7 @@ calls =
     ∷ (codes "splice_before", two number_in number_in call.SpliceBefore)
     ∷ (codes "split_after", one number_in call.SplitAfter)
     ∷ (codes "split_before", one number_in call.SplitBefore)
-    ∷ (codes "reverse", one number_in (on (Whole Reverse)))
+    ∷ (codes "reverse", one number_in (on (BulkEdit Reverse)))
     ∷ (codes "find", two number_in number_in (on_with (λ key. Search (Find key))))
     ∷ (codes "lower_bound", two number_in bound_in (on_with (λ bound. Search (LowerBound bound))))
     ∷ (codes "upper_bound", two number_in bound_in (on_with (λ bound. Search (UpperBound bound))))
@@ -130,7 +130,7 @@ calls =
     ∷ (codes "force_unlink", two number_in place_in call.ForceUnlink)
     ∷ []
 
--- THE COMMAND THAT WORDS STAND FOR: they are the name of a call, and then its arguments
+-- THE COMMAND THAT WORDS STAND FOR: the first word is the name of a call, and the words after it are its arguments
 abbrev pub command_among : List (List ℕ × (List (List ℕ) → Option (Command ℕ ℕ))) → List (List ℕ) → Option (Command ℕ ℕ)
 command_among entries [] = None
 command_among entries (name ∷ words) = option_and_then (λ read. read words) (named entries name)
@@ -138,7 +138,7 @@ command_among entries (name ∷ words) = option_and_then (λ read. read words) (
 unfoldable pub command_in : List (List ℕ) → Option (Command ℕ ℕ)
 command_in words = command_among calls words
 
--- WHAT A LINE MEANS: nothing if it has no words, or else a command, or no command
+-- WHAT A LINE MEANS: it is `Empty` if it has no words, `Call` if its words are a command, and otherwise `NoCommand`
 abbrev pub said_by : List (List ℕ) → Option (Command ℕ ℕ) → Line
 said_by [] command = Empty
 said_by (name ∷ words) None = NoCommand

@@ -1,5 +1,5 @@
--- WHAT A RUN DID: which lines it read, which calls they are, and what it printed. `input` has the bytes that the reader can give, `output` those that
--- the writer had before the run, and `now` those that it has after it. Each is `None` if no contract can name the bytes.
+-- WHAT A RUN DID: which lines it read, which calls they are, and what it printed. `input` has the bytes that the reader can give. `output` has the
+-- bytes of the writer before the run, and `now` has its bytes after the run. Each is `None` if no contract can name the bytes.
 use Rattle.std.specs.Prelude.{◌≡◌, ◌⊎◌, ℕ, ◌+◌, ◌++◌, List, [], ◌∷◌, length, Option, Some, None, IfSome, ⊤}
 use Rattle.std.specs.FinMap as map
 use Rattle.std.specs.Ordering.{nat_cmp}
@@ -15,16 +15,16 @@ use Rattle.ic_program.specs.declared.line.Line.TheVariants.{NoCommand}
 use Rattle.ic_program.specs.Grammar.{said_in, commands_in}
 use Rattle.ic_program.specs.Printed.{lines_of, no_command_at}
 
--- a value is its own key
+-- the key of a value is the value itself
 abbrev pub own_key : OwnKey → ℕ → ℕ
 own_key adapter value = value
 
--- a family with no object, field or collection
+-- the family of a new world, which has no object, field or collection
 abbrev pub IsNew : Family OwnKey ℕ → Type 0
 IsNew w = (w.objects ≡ map.empty) × (w.fields ≡ []) × (w.collections ≡ [])
 
--- A RUN: the first lines of the input are commands, which are lawful calls of a new world, and the writer has the lines of their replies, and then
--- the last line. `IsLeft` states where the run ended, by the number of the answered lines and the other lines
+-- A RUN: the first lines of the input are commands, which were lawful calls of a new world. The writer has the lines of their replies, and then the
+-- bytes `last`. `IsLeft` states where the run ended, by the number of the answered lines and by the lines that remain
 pub record IsRun (input output now : Option (List ℕ)) (IsLeft : ℕ → List (List ℕ) → Type 0) (last : List ℕ) : Type 0 where
   pub first : Family OwnKey ℕ
   pub is_new : IsNew first
@@ -37,26 +37,27 @@ pub record IsRun (input output now : Option (List ℕ)) (IsLeft : ℕ → List (
   pub printed : Appends output now (lines_of replies ++ last)
   pub left : IfSome input (λ bytes. (others : List (List ℕ)) × (lines bytes ≡ answered ++ others) × IsLeft (length answered) others)
 
--- WHERE A RUN ENDED: at the end of the input
+-- THE RUN ENDED at the end of the input: no line remains
 abbrev pub NoneLeft : ℕ → List (List ℕ) → Type 0
 NoneLeft count others = others ≡ []
 
--- at the line with this number, counted from 1, which is UTF-8 but not a command
+-- THE RUN ENDED AT A LINE that is UTF-8 but not a command. The line has the number `number`, counted from 1
 abbrev pub NoCommandLeft : ℕ → ℕ → List (List ℕ) → Type 0
 NoCommandLeft number count [] = ⊥
 NoCommandLeft number count (line ∷ others) = (number ≡ count + 1) × (said_in line ≡ NoCommand) × IsUtf8 line
 
--- the run may have ended at any line
+-- THE RUN MAY HAVE ENDED at any line: nothing is stated
 abbrev pub AnyLeft : ℕ → List (List ℕ) → Type 0
 AnyLeft count others = ⊤
 
--- the first bytes begin with the second, if both are known
+-- the bytes `now` are a beginning of the bytes `whole`, if `whole` are known
 abbrev pub CutTo : Option (List ℕ) → Option (List ℕ) → Type 0
 CutTo None now = ⊤
 CutTo (Some whole) None = ⊥
 CutTo (Some whole) (Some now) = (rest : List ℕ) × (whole ≡ now ++ rest)
 
--- A RUN, HOWEVER IT ENDED: the writer has the beginning of what it would have after a run that ended at some line, or at a line that is not a command
+-- A RUN, HOWEVER IT ENDED: the writer has a beginning of the bytes that some run writes. That run may end at any line without a notice, or with the
+-- notice of a line that is not a command
 abbrev pub IsRunSoFar : Option (List ℕ) → Option (List ℕ) → Option (List ℕ) → Type 0
 IsRunSoFar input output now =
     (whole : Option (List ℕ)) × CutTo whole now

@@ -25,14 +25,14 @@ name_of StillLinked = codes "StillLinked"
 name_of TooManyObjects = codes "TooManyObjects"
 name_of OutOfMemory = codes "OutOfMemory"
 
--- the number of an object; the numbers of several objects, each after a space
+-- `number_at` is the number of an object in decimal digits. `items_of` is the word `items`, and then a space and the number of each object
 abbrev pub number_at : Place → List ℕ
 number_at place = decimal (index_of place)
 
 abbrev pub items_of : List Place → List ℕ
 items_of places = codes "items" ++ flat_map (λ place. codes " " ++ number_at place) places
 
--- THE LINE OF A REPLY, with its line feed
+-- THE LINE OF A REPLY is what the program prints for the reply, with a line feed at the end
 abbrev pub line_of : Reply → List ℕ
 line_of done = codes "ok\n"
 line_of nothing = codes "none\n"
@@ -54,19 +54,19 @@ line_of (refused refusal) = codes "refused " ++ decimal (number_of refusal) ++ c
 abbrev pub lines_of : List Reply → List ℕ
 lines_of replies = flat_map line_of replies
 
--- the notice of a line that is not a command
+-- the notice that the line with this number, counted from 1, is not a command
 abbrev pub no_command_at : ℕ → List ℕ
 no_command_at line = codes "line " ++ decimal line ++ codes ": no command\n"
 
--- THE LINE OF A WORKER: the places that it got. Workers are numbered from 1
+-- THE LINE OF A WORKER has the number of the worker, and the places that it got. Workers are numbered from 1
 abbrev pub worker_line : ℕ → List Place → List ℕ
 worker_line number places = codes "worker " ++ decimal number ++ codes " " ++ items_of places ++ codes "\n"
 
--- the lines of several workers, numbered from this one on
+-- the lines of several workers. The first worker has the number `number`, and each next worker has the next number
 abbrev pub worker_lines : ℕ → List (List Place) → List ℕ
 worker_lines number [] = []
 worker_lines number (places ∷ lists) = worker_line number places ++ worker_lines (number + 1) lists
 
--- the lines of all workers, and then how many of the first places are in more than one list
+-- the lines of all workers, and then a line that says how many of the first `places` places are in more than one list
 abbrev pub workers_text : ℕ → List (List Place) → List ℕ
 workers_text places lists = worker_lines 1 lists ++ (codes "doubles " ++ decimal (doubles_below places lists) ++ codes "\n")

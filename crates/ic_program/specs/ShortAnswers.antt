@@ -5,7 +5,7 @@ use Rattle.ic_program.specs.declared.short_answer.InWords.TheVariants.{Done, Not
 use Rattle.ic_program.specs.declared.short_answer.ShortAnswer.{ShortAnswer}
 use Rattle.ic_program.specs.declared.short_answer.ShortAnswer.TheVariants.{InWords as Worded, Object}
 
--- a reply that consists of fixed words
+-- the reply for an answer that is written in fixed words: `ok`, `none`, or a refusal
 abbrev pub reply_in_words : InWords → Reply
 reply_in_words Done = done
 reply_in_words Nothing = nothing

@@ -1,4 +1,5 @@
--- WHICH CALLS HAVE WHICH SLOT: the parser chooses a slot by the first letters of a line, and looks for the call there.
+-- WHICH CALLS HAVE WHICH SLOT. The parser computes the number of a slot from the first letters of a line, and first looks among the calls with this
+-- slot.
 use Rattle.std.specs.Prelude.{◌≡◌, ℕ, List, [], ◌∷◌, None, Bool, nat_eq, if◌then◌else◌}
 use Rattle.std.specs.List.{list_any}
 use Rattle.ic_program.specs.Grammar.{calls, command_among}
@@ -16,12 +17,12 @@ fast_slots = 13 ∷ 47 ∷ 6 ∷ 11 ∷ 39 ∷ 53 ∷ 49 ∷ 20 ∷ 45 ∷ 41 �
 unfoldable pub is_fast : ℕ → Bool
 is_fast slot = list_any (nat_eq slot) fast_slots
 
--- the entries that have that slot
+-- the entries whose slot is `slot`. `s ∷ ss` are the slots of the entries, in order
 abbrev pub with_slot : {A : Type 0} → ℕ → List ℕ → List A → List A
 with_slot slot [] entries = []
 with_slot slot (s ∷ ss) [] = []
 with_slot slot (s ∷ ss) (entry ∷ entries) = if nat_eq slot s then entry ∷ with_slot slot ss entries else with_slot slot ss entries
 
--- the words are not a call with this slot
+-- the words are none of the calls whose slot is `slot`
 unfoldable pub IsNoCallAt : ℕ → List (List ℕ) → Type 0
 IsNoCallAt slot words = command_among (with_slot slot slots calls) words ≡ None

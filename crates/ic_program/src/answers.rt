@@ -1,4 +1,4 @@
-//! The lines of answers.
+//! How the program prints the line of an answer.
 //!
 //! ```text
 //! push_answer(&mut lines, &Answer::Object(place))? // puts `object 3` and a line feed after the others
@@ -18,7 +18,7 @@ use std::alloc::{AllocError, Allocator};
 
 /// Appends the line of an answer: its text, and a line feed. No other function prints an answer.
 ///
-/// It uses no formatter, which would take as long as the call itself. If it is refused for memory, the lines are as they were. O(bytes).
+/// It uses no formatter, which would take as long as the call itself. If there is not enough memory, the lines stay as they were. O(bytes).
 #[inline]
 pub fn push_answer<M: Allocator, N: Allocator>(
     lines: &mut Vec<u8, M>,
@@ -35,7 +35,7 @@ pub fn push_answer<M: Allocator, N: Allocator>(
     pushed
 }
 
-// The same, but after a refusal a part of the line may have been appended.
+// Appends the line of an answer. If there is not enough memory, a part of the line may have been appended.
 #[inline]
 fn push_line<M: Allocator, N: Allocator>(
     lines: &mut Vec<u8, M>,
@@ -70,7 +70,7 @@ fn push_line<M: Allocator, N: Allocator>(
     }
 }
 
-/// Appends the line of an object.
+/// Appends the line of an answer that is an object.
 #[inline(always)]
 pub(crate) fn push_place<M: Allocator>(
     lines: &mut Vec<u8, M>,
@@ -85,7 +85,7 @@ pub(crate) fn push_place<M: Allocator>(
     push_numbered(lines, b"object ", object.index() as u64, b"\n")
 }
 
-/// Appends some words, a number, and some bytes after it.
+/// Appends some words, a number in decimal digits, and some bytes after the number.
 pub(crate) fn push_numbered<M: Allocator>(
     lines: &mut Vec<u8, M>,
     words: &[u8],
@@ -100,7 +100,7 @@ pub(crate) fn push_numbered<M: Allocator>(
     lines.extend_from_slice(after)
 }
 
-// Appends the line of some words, an object, and the number of compared keys.
+// Appends a line of some words, the number of an object, and the number of compared keys.
 fn push_object<M: Allocator>(
     lines: &mut Vec<u8, M>,
     words: &[u8],
@@ -115,7 +115,7 @@ fn push_object<M: Allocator>(
     push_numbered(lines, b"", looks, b"\n")
 }
 
-/// Appends the places of some objects, and some bytes after them.
+/// Appends the word `items`, the numbers of some objects, and some bytes after these numbers.
 pub(crate) fn push_items<M: Allocator>(
     lines: &mut Vec<u8, M>,
     places: &[Place],
@@ -147,8 +147,8 @@ fn push_range<M: Allocator>(
     push_numbered(lines, b"", second, b"\n")
 }
 
-// Appends the line of an object whose number has at most three digits, as most have. It copies a fixed number of bytes and cuts off those that do not
-// belong to the line.
+// Appends the line of an object whose number has at most three digits, as most objects have. It copies a fixed number of bytes, and then cuts off
+// those that do not belong to the line.
 #[inline(always)]
 fn push_short<M: Allocator>(lines: &mut Vec<u8, M>, number: u64) -> Result<(), AllocError>
     requires { number < 1000 }
@@ -159,7 +159,7 @@ fn push_short<M: Allocator>(lines: &mut Vec<u8, M>, number: u64) -> Result<(), A
     push_start(lines, &line, length)
 }
 
-/// Appends the first `length` of these bytes. It copies all of them and cuts off those that do not belong to the line.
+/// Appends the first `length` bytes of `bytes` to the lines. It copies all bytes of `bytes`, and then cuts off those that do not belong to the line.
 #[inline(always)]
 pub(crate) fn push_start<const N: usize, M: Allocator>(
     lines: &mut Vec<u8, M>,
@@ -176,7 +176,7 @@ pub(crate) fn push_start<const N: usize, M: Allocator>(
     Ok(())
 }
 
-// Returns that line followed by other bytes, and the length of the line.
+// Returns the line of the object with this number, followed by other bytes, and the length of the line.
 #[inline(always)]
 #[tactic(auto, using(crate::proofs::Decimals::one_digit, crate::proofs::Decimals::two_digits, crate::proofs::Decimals::three_digits))]
 fn short_line(number: u64) -> ([u8; 11], usize)
@@ -202,7 +202,7 @@ fn object_line(first: u8, second: u8, third: u8, fourth: u8) -> [u8; 11]
     ]
 }
 
-// Returns the last digit of a number.
+// Returns the last decimal digit of a number, as an ASCII character.
 #[inline(always)]
 fn digit(number: u64) -> u8
     ensures { result ≡ 48 + number % 10 }

@@ -1,4 +1,5 @@
-//! The arguments of calls: they read the first word of a text, and return its meaning with the text after it.
+//! The types of the arguments of calls. Each type reads an argument from the first word of a text, and returns the argument and the text after the
+//! word.
 //!
 //! ```text
 //! u64::read(b"12 3\n")      // Some((12, ` 3\n`))
@@ -18,16 +19,16 @@ use ic_unsafe_ref::Place;
 
 /// A type of arguments of calls, which a word can stand for.
 pub(crate) trait Argument: Copy {
-    // The meaning of a word, if it is an argument of this type.
+    // The argument that a word stands for, or `None` if the word is not an argument of this type.
     ghost says: { List ℕ → Option Self };
 
-    /// Returns the meaning of the first word of the line, and the text after it. The result is `None` if the word is not an argument of this type, or
-    /// the line has no word.
+    /// Returns the argument that the first word of the line stands for, and the text after the word. The result is `None` if the word is not an
+    /// argument of this type, or the line has no word.
     fn read<'l>(text: &'l [u8]) -> Option<(Self, &'l [u8])>
         ensures { ReadsFirst says text.now result };
 }
 
-/// A value or a key. Most numbers have a few digits, followed by one space or the line feed.
+/// A number that is a value or a key. Most numbers have a few digits, and are followed by one space or by a line feed.
 impl Argument for u64 {
     ghost says = { number_in };
 
@@ -41,8 +42,8 @@ impl Argument for u64 {
     }
 }
 
-// Returns the number that the first word of the line stands for, with any count of digits. It does not return the text after it as well, since both
-// would then be passed through memory.
+// Returns the number that the first word of the line stands for, with any count of digits. It does not return the text after the word as well,
+// because a result of both would be passed through memory.
 #[cold]
 #[inline(never)]
 fn any_number(text: &[u8]) -> Option<u64>
@@ -94,7 +95,7 @@ impl Argument for Bound<u64> {
     }
 }
 
-/// A neighbor: an object, or none beyond an end of the list.
+/// A neighbor: the place of an object, or none if the list has no member on that side.
 impl Argument for Option<Place> {
     ghost says = { neighbor_in };
 

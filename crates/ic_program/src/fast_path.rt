@@ -1,4 +1,4 @@
-//! The most frequent calls. The parser makes each of them as soon as it has found its name.
+//! The most frequent calls. The parser makes a frequent call as soon as it has found the name of the call.
 //!
 //! ```text
 //! answer_fast(&mut world, b"push_back 0 3\n..") // the answer, and the text after the line
@@ -18,11 +18,11 @@ ghost use Rattle.ic_program.specs.Text.{after_line, begins_with, words_in};
 use crate::line::{one, two};
 use crate::own_key::OwnKey;
 use crate::short_answer::{ShortAnswer, done, found, replaced};
-use ic_world::{Call, Command, Direction, Gap, Seek, World};
+use ic_world::{Call, Command, Gap, Neighbor, Seek, World};
 use std::alloc::Allocator;
 
-// A row of the table, for a text that begins with this name. `read` returns the command and the text after its line. `make` makes the call, and
-// returns its answer and the same text.
+// A row of the table of calls, for a text that begins with the name in the row. With `read` it returns the command and the text after the line. With
+// `make` it makes the call, and returns the answer and the text after the line.
 macro_rules! row {
     ((read $text:ident) $method:ident($first:ident) = $name:literal, $answer:ident, $command:expr) => {{
         let ($first, rest) = one($text, $name)?;
@@ -40,7 +40,7 @@ macro_rules! row {
         let ($first, $second, rest) = two($text, $name)?;
         Some(($answer($world.$method($first, $second)), rest))
     }};
-    // Two names that begin alike. If the text does not begin with the first, it is compared with the second.
+    // Two names that begin alike are in one row. If the text does not begin with the first name, it is compared with the second name.
     ((read $text:ident) $method:ident($first:ident, $second:ident) = $name:literal, $answer:ident, $command:expr; $($other:tt)*) => {
         match two($text, $name) {
             Some(($first, $second, rest)) => Some(($command, rest)),
@@ -55,7 +55,7 @@ macro_rules! row {
     };
 }
 
-// The slot of a row, for reading or for making its call.
+// The slot of a row. A row has one slot for reading a call, and another for making it.
 macro_rules! slot {
     ((read $text:ident) $slot:pat, $fast:pat) => {
         $slot
@@ -65,15 +65,15 @@ macro_rules! slot {
     };
 }
 
-// A call of one collection.
+// The command for a call of one collection.
 macro_rules! on {
     ($collection:ident, $call:ident($($given:tt)*)) => {
         Command::On($collection, Call::$call($($given)*))
     };
 }
 
-// THE TABLE. For each call it has the slot by `slot_of` and by `fast_slot_of`, the method of a world, the arguments, the name, the kind of answer,
-// and the command.
+// THE TABLE of the most frequent calls. Each row has the slot by `slot_of` and the slot by `fast_slot_of`, the method of a world, the arguments, the
+// name, the kind of answer, and the command.
 macro_rules! fast_calls {
     ($slot:expr, $way:tt) => {
         match $slot {
@@ -81,8 +81,8 @@ macro_rules! fast_calls {
             slot!($way 47, 6) => row!($way push_back(collection, object) = b"push_back ", done, on!(collection, Put(Gap::Back, object))),
             slot!($way 6, 15) => row!($way pop_front(collection) = b"pop_front ", found, on!(collection, Take(Gap::Front))),
             slot!($way 11, 14) => row!($way pop_back(collection) = b"pop_back ", found, on!(collection, Take(Gap::Back))),
-            slot!($way 39, 7) => row!($way move_next(collection) = b"move_next ", found, on!(collection, Move(Direction::Next))),
-            slot!($way 53, 1) => row!($way move_prev(collection) = b"move_prev ", found, on!(collection, Move(Direction::Prev))),
+            slot!($way 39, 7) => row!($way move_next(collection) = b"move_next ", found, on!(collection, Move(Neighbor::Next))),
+            slot!($way 53, 1) => row!($way move_prev(collection) = b"move_prev ", found, on!(collection, Move(Neighbor::Prev))),
             slot!($way 49, 9) => row!($way go_null(collection) = b"go_null ", done, on!(collection, Seek(Seek::Null))),
             slot!($way 20, 2) => row!($way current(collection) = b"current ", found, Command::Current(collection)),
             slot!($way 45, 13) => row!($way insert_after(collection, object) = b"insert_after ", done, on!(collection, Put(Gap::After, object))),
@@ -99,8 +99,8 @@ macro_rules! fast_calls {
 // The slot of a text that is shorter than any call.
 const NO_SLOT: u64 = 12;
 
-// Returns which of 16 slots the first eight bytes of a text have. Two names that begin alike share a slot, and `remove`, whose eighth byte is a
-// digit, has two. No proof depends on this: a call in another slot would still be found, only later.
+// Returns which of 16 slots the first eight bytes of a text have. Two names that begin alike share a slot. The name `remove` has two slots, because
+// the eighth byte of its line is a digit. No proof depends on the slots: a call in a wrong slot would still be found, but later.
 #[inline(always)]
 fn fast_slot_of(text: &[u8]) -> u64 {
     let Some(bytes) = text.first_chunk::<8>() else {
@@ -110,8 +110,8 @@ fn fast_slot_of(text: &[u8]) -> u64 {
 }
 
 /// Makes the call in the first line of a text, if it is in the table, and returns its answer with the text after the line. If it returns `None`, it
-/// has made no call, and the line may still be any call. By the first letters it compares the line with one call only. O(1), plus the cost of the
-/// call.
+/// has made no call, and the line may still be any call. It chooses a row by the first letters of the line, and compares the line with the names of
+/// this row only. O(1), plus the cost of the call.
 #[inline(always)]
 pub(crate) fn answer_fast<'l, M: Allocator + Copy>(
     world: &mut World<OwnKey, M>,
@@ -125,7 +125,7 @@ pub(crate) fn answer_fast<'l, M: Allocator + Copy>(
     fast_calls!(fast_slot_of(text), (make world text))
 }
 
-/// Reads the call in the first line of a text, if it is in the table and has this slot, and returns it with the text after the line.
+/// Reads the call in the first line of a text, if the call is in the table and has this slot. It returns the call and the text after the line.
 pub(crate) fn fast_call_at<'l>(slot: u64, text: &'l [u8]) -> Option<(Command<u64, u64>, &'l [u8])>
     ensures said { IfSome result (λ read. (command_in (words_in text.now) ≡ Some read.0) × (read.1.now ≡ after_line text.now)) }
     ensures none { IfNone result (begins_with 32 text.now ≡ false → IsTrue (is_fast slot) → IsNoCallAt slot (words_in text.now)) }

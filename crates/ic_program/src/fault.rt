@@ -1,4 +1,4 @@
-//! Why a run ends before its input does.
+//! Why a run ends before the end of its input.
 //!
 //! ```text
 //! Fault::NotText(7) // printed as `input is not UTF-8, line 7`
@@ -10,12 +10,12 @@ ghost use Rattle.ic_program.specs.HowFar.{is_loss};
 use std::fmt;
 use std::io::{self, ErrorKind};
 
-/// Why a run ends before its input does, with the status 3. Its text is a line without its line feed.
+/// Why a run ends before the end of its input, with the status 3. The text of a fault is a line without a line feed.
 #[derive(Clone, Copy, PartialEq, Eq)]
 pub enum Fault {
-    /// The line of this number, counted from 1, is not UTF-8.
+    /// The line with this number, counted from 1, is not UTF-8.
     NotText(u64),
-    /// After this many lines, reading failed.
+    /// Reading failed after this many lines.
     Reading(u64),
     /// An answer could not be written.
     Writing,
@@ -24,7 +24,7 @@ pub enum Fault {
 }
 
 impl Fault {
-    /// Returns the fault for an error of the writer: a fault of memory if the writer lacks memory, or else one of writing.
+    /// Returns the fault for an error of the writer: `Memory` if the writer lacks memory, and otherwise `Writing`.
     pub(crate) fn of_writer(error: &io::Error) -> Fault
         ensures { IsTrue (is_loss result) }
     {

@@ -15,7 +15,7 @@ use crate::argument::Argument;
 use crate::fast_path::fast_call_at;
 use crate::names::after_name;
 use crate::text::{after_line, after_space, without_spaces};
-use ic_world::{Call, Command, Direction, Insertion, Search, Seek, Whole};
+use ic_world::{BulkEdit, Call, Command, Insertion, Neighbor, Search, Seek};
 
 /// What a line stands for.
 #[derive(Clone, Copy)]
@@ -45,9 +45,9 @@ impl Line {
     }
 
     /// Parses the first line of a text, and returns what it stands for and the text after it. If the line is not a call, the returned text is the
-    /// whole one.
+    /// whole text.
     ///
-    /// [`answer_fast`](crate::fast_path::answer_fast) is tried before, and finds nearly all calls.
+    /// The program first tries [`answer_fast`](crate::fast_path::answer_fast), which finds nearly all calls.
     #[cold]
     #[inline(never)]
     pub(crate) fn first_of<'l>(text: &'l [u8]) -> (Line, &'l [u8])
@@ -73,22 +73,22 @@ impl Line {
 // The number of slots.
 const SLOTS: u64 = 64;
 
-/// Returns the slot of the first eight letters of a text, or of its first word and a space if that is shorter. Names that begin alike share a slot,
-/// and every other name has a slot of its own. No proof depends on this: if it were wrong, `first_of` would still find the call.
+/// Returns the slot of the first eight letters of a text, or of its first word and a space if the word is shorter. Names that begin alike share a
+/// slot, and every other name has a slot of its own. No proof depends on the slots: if a slot were wrong, `first_of` would still find the call.
 #[inline(always)]
 pub(crate) fn slot_of(text: &[u8]) -> u64 {
     let Some(bytes) = text.first_chunk::<8>() else {
         return SLOTS;
     };
     let bytes = u64::from_le_bytes(*bytes);
-    // Returns the top bits of the bytes that are not letters. The lowest set bit is right, but bits above it may be set wrongly.
+    // `ends` has the top bit of each byte that is not a letter. The lowest set bit is right, but bits above it may be set wrongly.
     let ends = bytes.wrapping_sub(0x2121_2121_2121_2121) & !bytes & 0x8080_8080_8080_8080;
     let letters = bytes & ends.wrapping_sub(1);
     letters.wrapping_mul(0x39e9_f5d9_8f2d_bcef) >> 58
 }
 
-// A row of the table: if the text begins with this name, the command with these arguments, and the text after the line. After `on` comes a call of
-// the collection that the first argument names.
+// A row of the table of calls. If the text begins with the name in the row, it returns the command with its arguments and the text after the line.
+// After `on` follows a call of the collection that the first argument names.
 macro_rules! call {
     ($text:ident, $name:literal($first:ident) => $($command:tt)*) => {{
         let ($first, rest) = one($text, $name)?;
@@ -121,7 +121,7 @@ fn call_at<'l>(slot: u64, text: &'l [u8]) -> Option<(Command<u64, u64>, &'l [u8]
         29 => call!(text, b"field "(kind) => AddField(kind)),
         54 => call!(text, b"open "(field, kind) => Open(field, kind)),
         15 => call!(text, b"dispose "(collection) => Dispose(collection)),
-        0 => call!(text, b"clear "(collection) on Whole(Whole::Clear)),
+        0 => call!(text, b"clear "(collection) on BulkEdit(BulkEdit::Clear)),
         36 => call!(text, b"fast_clear "(collection) => FastClear(collection)),
         24 => call!(text, b"take "(collection) => Take(collection)),
         44 => call!(text, b"show "(collection) => Show(collection)),
@@ -131,18 +131,18 @@ fn call_at<'l>(slot: u64, text: &'l [u8]) -> Option<(Command<u64, u64>, &'l [u8]
             Some((collection, object, neighbor, rest)) => Some((
                 Command::On(
                     collection,
-                    Call::Seek(Seek::With(Direction::Prev, object, neighbor)),
+                    Call::Seek(Seek::With(Neighbor::Prev, object, neighbor)),
                 ),
                 rest,
             )),
             None => call!(text, b"seek_with_next "(collection, object, neighbor)
-                on Seek(Seek::With(Direction::Next, object, neighbor))),
+                on Seek(Seek::With(Neighbor::Next, object, neighbor))),
         },
         26 => call!(text, b"splice_after "(collection, other) => SpliceAfter(collection, other)),
         22 => call!(text, b"splice_before "(collection, other) => SpliceBefore(collection, other)),
         63 => call!(text, b"split_after "(collection) => SplitAfter(collection)),
         50 => call!(text, b"split_before "(collection) => SplitBefore(collection)),
-        62 => call!(text, b"reverse "(collection) on Whole(Whole::Reverse)),
+        62 => call!(text, b"reverse "(collection) on BulkEdit(BulkEdit::Reverse)),
         35 => call!(text, b"find "(collection, key) on Search(Search::Find(key))),
         43 => call!(text, b"lower_bound "(collection, bound) on Search(Search::LowerBound(bound))),
         58 => call!(text, b"upper_bound "(collection, bound) on Search(Search::UpperBound(bound))),
@@ -157,7 +157,7 @@ fn call_at<'l>(slot: u64, text: &'l [u8]) -> Option<(Command<u64, u64>, &'l [u8]
     }
 }
 
-/// Returns the argument after this name, and the text after the line.
+/// If a text begins with this name, returns the argument after the name, and the text after the line.
 #[inline(always)]
 pub(crate) fn one<'l, const N: usize, A: Argument>(
     text: &'l [u8],
@@ -171,7 +171,7 @@ pub(crate) fn one<'l, const N: usize, A: Argument>(
     Some((first, after_line(rest)?))
 }
 
-/// Returns the two arguments after this name, and the text after the line.
+/// If a text begins with this name, returns the two arguments after the name, and the text after the line.
 #[inline(always)]
 pub(crate) fn two<'l, const N: usize, A: Argument, B: Argument>(
     text: &'l [u8],
@@ -187,7 +187,7 @@ pub(crate) fn two<'l, const N: usize, A: Argument, B: Argument>(
     Some((first, second, after_line(rest)?))
 }
 
-// Returns the three arguments after this name, and the text after the line.
+// If a text begins with this name, returns the three arguments after the name, and the text after the line.
 #[inline(always)]
 fn three<'l, const N: usize, A: Argument, B: Argument, C: Argument>(
     text: &'l [u8],

@@ -1,4 +1,4 @@
-//! Comparisons of the beginning of a text with a name.
+//! How the beginning of a text is compared with the name of a call.
 //!
 //! ```text
 //! after_name(b"push_back 0 3\n", b"push_back ") // Some(`0 3\n`), by two comparisons of eight bytes
@@ -8,7 +8,7 @@ ghost use Rattle.std.specs.Prelude.{◌≡◌, ◌↔◌, ◌+◌, ◌≤◌, Ma
 ghost use Rattle.std.specs.Int.{w32, w64, from_le_bytes};
 ghost use Rattle.ic_program.specs.Text.{IsName, IsNoName, ReadsName};
 
-/// Returns the text after this name, if it begins with the name. The name has 4 to 24 bytes, of which the last is a space.
+/// Returns the text after the name, if the text begins with the name. The name has 4 to 24 bytes, of which the last is a space.
 ///
 /// It compares eight bytes at once, or four for a short name, and may compare some bytes twice.
 #[inline(always)]
@@ -40,7 +40,7 @@ fn begins_with<const N: usize>(text: &[u8], name: &[u8; N]) -> bool
     eight_alike(text, name, 0) && eight_alike(text, name, N - 8)
 }
 
-// Returns whether the four bytes from this position on are the same.
+// Returns whether text and name have the same four bytes from the position `at` on.
 #[inline(always)]
 fn four_alike(text: &[u8], name: &[u8], at: usize) -> bool
     requires { (at + 4 ≤ length text.now) × (at + 4 ≤ length name.now) }
@@ -49,7 +49,7 @@ fn four_alike(text: &[u8], name: &[u8], at: usize) -> bool
     four(text, at) == four(name, at)
 }
 
-// Returns whether the eight bytes from this position on are the same.
+// Returns whether text and name have the same eight bytes from the position `at` on.
 #[inline(always)]
 fn eight_alike(text: &[u8], name: &[u8], at: usize) -> bool
     requires { (at + 8 ≤ length text.now) × (at + 8 ≤ length name.now) }
@@ -58,7 +58,7 @@ fn eight_alike(text: &[u8], name: &[u8], at: usize) -> bool
     eight(text, at) == eight(name, at)
 }
 
-// Returns four bytes as a number.
+// Returns the four bytes of a text from the position `at` on, as a number.
 #[inline(always)]
 fn four(text: &[u8], at: usize) -> u32
     requires { at + 4 ≤ length text.now }
@@ -70,7 +70,7 @@ fn four(text: &[u8], at: usize) -> u32
     }
 }
 
-// Returns eight bytes as a number.
+// Returns the eight bytes of a text from the position `at` on, as a number.
 #[inline(always)]
 fn eight(text: &[u8], at: usize) -> u64
     requires { at + 8 ≤ length text.now }

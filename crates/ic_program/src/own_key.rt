@@ -1,4 +1,4 @@
-//! The objects of the program: numbers, which are their own keys.
+//! The objects of the program are numbers, and each number is its own key.
 //!
 //! ```text
 //! World::new(alloc, OwnKey) // a world of numbers

@@ -1,4 +1,4 @@
-//! The program, over any reader and any writer.
+//! The whole program, for any reader and any writer.
 
 ghost use Rattle.std.specs.Prelude.{◌≡◌, ◌≢◌, ◌⊎◌, ◌<◌, ℕ, [], false, IsSome, IsTrue, OnSome, Ok, Err, IfOk, IfErr, OnOk, OnErr, codes, length};
 ghost use Rattle.std.specs.Io.KnownBytes.{Appends, Keeps, IsAtEnd, append_known};
@@ -21,23 +21,24 @@ use std::thread::Threads;
 /// The status after a fault of reading or writing, after input that is not UTF-8, or if memory runs out.
 pub const FAULT: u8 = 3;
 
-/// How a run without a fault ends, with its status.
+/// How a run without a fault ends. The number of each case is the status of the program.
 #[derive(Clone, Copy)]
 pub enum Ending {
-    /// At the end of the input.
+    /// The run ended at the end of the input.
     Finished = 0,
-    /// At a line that is not a command, or at arguments that the program does not know.
+    /// The run ended at a line that is not a command, or at arguments that the program does not know.
     NotUnderstood = 2,
 }
 
 /// Runs the program. `words` are its arguments, and `rt` is the argument of `main`.
 ///
 /// Without arguments it runs the calls that it reads from `reader`, as [`run_lines`] does. With the arguments `workers W N`, for W from 1 to 64 and N
-/// at most 1,000,000, it lets W threads share out the first N places. For each thread it writes which places it got, and then how many places more
-/// than one of them got. For any other arguments it writes `bad arguments`.
+/// at most 1,000,000, it lets W threads share out the first N places. It writes for each thread which places the thread got, and then how many places
+/// were given to more than one thread. For any other arguments it writes `bad arguments`.
 ///
-/// It returns the program's status: 0 at the end of the input, 2 at a line that is not a command and for bad arguments, and 3 after a fault of
-/// reading or writing, after input that is not UTF-8, or if memory outside the world runs out. A line on standard error says which fault it was.
+/// It returns the program's status: 0 at the end of the input, and 2 at a line that is not a command and for bad arguments. The status is 3 after a
+/// fault of reading or writing, after input that is not UTF-8, or if memory outside the world runs out. If there was a fault, a line on standard
+/// error says which one.
 pub fn run_program<
     S: Threads + Wait + Eprint + Sync,
     M: Allocator + Copy + Send + Sync,
@@ -73,15 +74,15 @@ pub fn run_program<
     status_of(rt, ended(ending, flushed))
 }
 
-/// Runs the calls that it reads from `reader`, one for each line, on a new world, and writes the answer to each on a line of its own.
+/// Runs the calls that it reads from `reader`, one for each line, on a new world, and writes the answer to each call on a line of its own.
 ///
-/// It ends:
+/// The run ends:
 ///
 /// - At the end of the input.
-/// - At a line that is no command, which is answered by its number. What was answered before is written, and nothing more is
-///   read.
-/// - By a fault of reading or writing, input that is not UTF-8, or want of memory outside the world. What was answered
-///   before is written, as far as the writer takes it.
+/// - At a line that is no command. A notice with the number of the line is written after the answers to the lines before it, and
+///   nothing more is read.
+/// - By a fault of reading or writing, by input that is not UTF-8, or if memory outside the world runs out. The answers to the
+///   lines before the fault are written, as far as the writer takes them.
 ///
 /// It writes and flushes all answers before the reader waits for more. It costs O(1) for each call, plus the cost of the call itself and of the bytes
 /// read and written.
@@ -98,7 +99,7 @@ pub fn run_lines<M: Allocator + Copy, R: BufRead, W: Write>(
     ended(ending, flushed)
 }
 
-// Returns how a run ended, after the writer was flushed.
+// Returns how a run ended, after the writer was flushed. If flushing failed, a run that had no fault ends with this fault.
 fn ended(ending: Result<Ending, Fault>, flushed: io::Result<()>) -> Result<Ending, Fault>
     ensures ending { IfOk result (λ end. ending ≡ Ok end) }
     ensures fault { (fault : Fault) → result ≡ Err fault → (ending ≡ Err fault) ⊎ IsTrue (is_loss fault) }
@@ -109,7 +110,7 @@ fn ended(ending: Result<Ending, Fault>, flushed: io::Result<()>) -> Result<Endin
     }
 }
 
-// Returns the status of a run that ended like this. For a fault it writes a line to standard error.
+// Returns the status of the program for the way in which a run ended. If the run ended by a fault, it writes a line to standard error.
 fn status_of<S: Eprint>(rt: &S, ending: Result<Ending, Fault>) -> u8
     ensures { (result ≡ FAULT) ⊎ ((ending ≡ Ok Ending.Finished) × (result ≡ 0)) ⊎ ((ending ≡ Ok Ending.NotUnderstood) × (result ≡ 2)) }
 {
@@ -122,7 +123,7 @@ fn status_of<S: Eprint>(rt: &S, ending: Result<Ending, Fault>) -> u8
     }
 }
 
-// The program has arguments that it does not know.
+// Writes that the program does not know its arguments.
 fn refuse_arguments<W: Write>(writer: &mut W) -> Result<Ending, Fault>
     ensures status { IfOk result (λ ending. ending ≡ Ending.NotUnderstood) }
     ensures text { OnOk result (Appends (W.contents writer.old) (W.contents writer.new) (codes "bad arguments\n")) }
@@ -134,8 +135,8 @@ fn refuse_arguments<W: Write>(writer: &mut W) -> Result<Ending, Fault>
     }
 }
 
-// Answers each line in turn, until the input ends or a line is no command. If a fault occurs, it has answered the lines before it. It writes the
-// answers before the reader waits for more.
+// Answers each line in turn, until the input ends or a line is no command. If a fault occurs, it has answered the lines before the fault. It writes
+// the answers before the reader waits for more bytes.
 fn answer_input<M: Allocator + Copy, R: BufRead, W: Write>(
     alloc: M,
     reader: &mut R,
@@ -157,7 +158,7 @@ fn answer_input<M: Allocator + Copy, R: BufRead, W: Write>(
             Err(stop) => return stopped(stop, session.lines, writer),
         }
     }
-    // There are more lines than the counter can count.
+    // There were more reads than the counter can count.
     Err(Fault::Reading(session.lines))
 }
 
@@ -172,7 +173,7 @@ fn flush<W: Write>(writer: &mut W) -> Result<(), Fault>
     }
 }
 
-// Answers the lines that end in the bytes that the reader has next, and returns whether there were any. At the end of the input, the bytes of an
+// Answers the lines that end in the bytes that the reader has next, and returns `false` at the end of the input. At the end, the bytes of an
 // incomplete line count as a line.
 fn answer_next<M: Allocator + Copy, R: BufRead, W: Write>(
     session: &mut Session<M>,
@@ -198,13 +199,13 @@ fn answer_next<M: Allocator + Copy, R: BufRead, W: Write>(
             reader.consume(taken);
             Ok(true)
         }
-        // The next read tries again.
+        // The read was interrupted, and the next read tries again.
         Err(error) if error.kind() == ErrorKind::Interrupted => Ok(true),
         Err(_) => Err(Stop::Fault(Fault::Reading(session.lines))),
     }
 }
 
-// Returns how a run ends that stopped at the line with this number.
+// Returns how a run ends that stopped at the line with this number. If the line is not a command, it first writes a notice.
 fn stopped<W: Write>(stop: Stop, line: u64, writer: &mut W) -> Result<Ending, Fault>
     ensures { EndsStopped stop line result (W.contents writer.old) (W.contents writer.new) }
 {

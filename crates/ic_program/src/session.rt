@@ -31,13 +31,13 @@ use std::alloc::{AllocError, Allocator};
 use std::io::Write;
 use std::str;
 
-// The number of bytes of answers that may wait to be written. The buffer has room for as many from the beginning.
+// The number of bytes of answers that may wait to be written. The buffer has room for this many bytes from the beginning.
 const ROOM: usize = 65536;
 
 /// Why a session stops answering lines.
 #[derive(Clone, Copy)]
 pub(crate) enum Stop {
-    /// The line is not a command.
+    /// The line is UTF-8, but it is not a command.
     NoCommand,
     /// The line could not be read or answered.
     Fault(Fault),
@@ -54,7 +54,7 @@ pub(crate) struct Session<M: Allocator + Copy> {
 }
 
 impl<M: Allocator + Copy> Session<M> {
-    /// Makes a new world, with no answers yet.
+    /// Makes a session with a new world and no answers.
     pub(crate) fn new(alloc: M) -> Result<Session<M>, AllocError>
         ensures { IfOk result (λ session. IsNew session.world × (session.answers.items ≡ []) × (session.lines ≡ 0)) }
     {
@@ -67,7 +67,7 @@ impl<M: Allocator + Copy> Session<M> {
         })
     }
 
-    /// Writes the answers, and clears the buffer.
+    /// Writes the answers that are not written yet, and clears the buffer.
     pub(crate) fn write<W: Write>(&mut self, writer: &mut W) -> Result<(), Fault>
         ensures written { OnOk result (Keeps (append_known (W.contents writer.old) self.old.answers.items) (W.contents writer.new)) }
         ensures cut { OnErr result (CutTo (append_known (W.contents writer.old) self.old.answers.items) (W.contents writer.new)) }
@@ -81,9 +81,9 @@ impl<M: Allocator + Copy> Session<M> {
         written
     }
 
-    /// Answers the lines of a text. Empty lines have no answer. If it stops at a line, it has answered the lines before it.
+    /// Answers the lines of a text. Empty lines have no answer. If it stops at a line, it has answered the lines before this line.
     ///
-    /// As soon as more than 64 KB of answers wait, it writes them.
+    /// As soon as more than 64 KB of answers wait to be written, it writes them.
     pub(crate) fn answer_lines<W: Write>(&mut self, text: &[u8], writer: &mut W) -> Result<(), Stop>
         ensures { HowFar result self.old.lines self.new.lines (λ _ others. others ≡ []) (Some (lines text.now)) self.old.world self.new.world
             (append_known (W.contents writer.old) self.old.answers.items) (append_known (W.contents writer.new) self.new.answers.items) }
@@ -97,7 +97,7 @@ impl<M: Allocator + Copy> Session<M> {
         Ok(())
     }
 
-    // Writes the answers, if too many wait.
+    // Writes the answers if more than `ROOM` bytes of answers wait to be written.
     #[inline(always)]
     fn make_room<W: Write>(&mut self, writer: &mut W) -> Result<(), Stop>
         ensures written { OnOk result (Keeps (append_known (W.contents writer.old) self.old.answers.items)
@@ -114,7 +114,7 @@ impl<M: Allocator + Copy> Session<M> {
         self.write_some(writer)
     }
 
-    // Writes the answers, since too many wait.
+    // Writes the answers, because more than `ROOM` bytes of answers wait to be written.
     #[cold]
     #[inline(never)]
     fn write_some<W: Write>(&mut self, writer: &mut W) -> Result<(), Stop>
@@ -134,7 +134,7 @@ impl<M: Allocator + Copy> Session<M> {
 
     // Answers the first line of a text, and returns how many bytes are before the next line.
     //
-    // No function that it calls on the fast path returns its result through memory, so that it need not clear memory for each line.
+    // No function that it calls on the fast path returns a result through memory. Because of this it need not clear memory for each line.
     #[inline(always)]
     fn answer_first(&mut self, text: &[u8]) -> Result<usize, Stop>
         requires { 0 < length text.now }
@@ -159,7 +159,8 @@ impl<M: Allocator + Copy> Session<M> {
         }
     }
 
-    // The same for a line with this number whose call is not on the fast path.
+    // Answers the first line of a text if its call is not on the fast path, and returns how many bytes are before the next line. `self.lines` already
+    // counts the line.
     #[cold]
     #[inline(never)]
     fn answer_other(&mut self, text: &[u8]) -> Result<usize, Stop>
@@ -197,7 +198,7 @@ impl<M: Allocator + Copy> Session<M> {
         )
     }
 
-    // Answers the incomplete line, if it ends in these bytes, and returns the bytes after it.
+    // Answers the incomplete line that `cut` has, if the line ends in `bytes`, and returns the bytes after the line.
     fn answer_cut<'b, W: Write>(
         &mut self,
         cut: &mut Vec<u8, M>,
@@ -223,7 +224,7 @@ impl<M: Allocator + Copy> Session<M> {
         Ok(&bytes[feed + 1..])
     }
 
-    /// Answers the lines that end in these bytes, as [`answer_lines`](Session::answer_lines), and keeps the bytes of an incomplete line in `cut`.
+    /// Answers the lines that end in `bytes`, as [`answer_lines`](Session::answer_lines) does, and keeps the bytes of an incomplete line in `cut`.
     pub(crate) fn answer_all<W: Write>(
         &mut self,
         cut: &mut Vec<u8, M>,
@@ -241,7 +242,7 @@ impl<M: Allocator + Copy> Session<M> {
     }
 }
 
-// Returns how many of the first bytes are complete lines.
+// Returns how many bytes at the beginning are complete lines.
 fn ended_bytes(bytes: &[u8]) -> usize
     ensures ended { HaveEnded (take result bytes.now) }
     ensures within { result ≤ length bytes.now }
@@ -253,7 +254,7 @@ fn ended_bytes(bytes: &[u8]) -> usize
     }
 }
 
-// Appends bytes to those of the incomplete line.
+// Appends bytes to the bytes of an incomplete line.
 #[inline]
 fn keep<M: Allocator>(cut: &mut Vec<u8, M>, bytes: &[u8]) -> Result<(), Stop>
     ensures kept { OnOk result (cut.new.items ≡ cut.old.items ++ bytes.now) }
@@ -265,7 +266,7 @@ fn keep<M: Allocator>(cut: &mut Vec<u8, M>, bytes: &[u8]) -> Result<(), Stop>
     }
 }
 
-// Appends the answer to the others.
+// Appends the line of an answer to the lines of the earlier answers.
 #[inline]
 fn push<M: Allocator>(answers: &mut Vec<u8, M>, answer: &Answer<M>) -> Result<(), Stop>
     ensures put { OnOk result (answers.new.items ≡ answers.old.items ++ line_of (reply_in answer.now)) }
@@ -278,7 +279,7 @@ fn push<M: Allocator>(answers: &mut Vec<u8, M>, answer: &Answer<M>) -> Result<()
     }
 }
 
-// Appends the line to the others.
+// Appends the line of a short answer to the lines of the earlier answers.
 #[inline(always)]
 fn push_short<M: Allocator>(answers: &mut Vec<u8, M>, answer: ShortAnswer) -> Result<(), Stop>
     ensures put { OnOk result (answers.new.items ≡ answers.old.items ++ line_of (reply_of_short answer)) }
@@ -291,8 +292,8 @@ fn push_short<M: Allocator>(answers: &mut Vec<u8, M>, answer: ShortAnswer) -> Re
     }
 }
 
-// Returns why the first line of a text, which has this number, is not a command. A command has only ASCII characters, so that this is the only place
-// where the line may not be UTF-8.
+// Returns why the first line of a text, which has this number, is not a command. A command has only ASCII characters. Because of this, only a line
+// that is not a command can be other than UTF-8.
 fn stop_at(text: &[u8], number: u64) -> Stop
     ensures { ((result ≡ Stop.NoCommand) × IsUtf8 (line_in text.now))
         ⊎ ((result ≡ Stop.Fault (Fault.NotText number)) × ¬ (IsUtf8 (line_in text.now))) }

@@ -1,4 +1,4 @@
-//! The answers of most calls, and their lines: fixed words, or an object.
+//! The answers of most calls, and their lines. A short answer is fixed words, or an object.
 //!
 //! ```text
 //! done(world.push_back(0, place)).push(&mut lines)? // puts `ok` and a line feed after the others
@@ -21,7 +21,7 @@ use std::alloc::{AllocError, Allocator};
 pub(crate) enum InWords {
     /// The call is done.
     Done,
-    /// There is no such object.
+    /// The call has no object to return.
     Nothing,
     /// The call was refused.
     Refused(Refusal),
@@ -30,14 +30,14 @@ pub(crate) enum InWords {
 /// The answer of a frequent call.
 #[derive(Clone, Copy)]
 pub(crate) enum ShortAnswer {
-    /// Fixed words.
+    /// The answer is fixed words.
     InWords(InWords),
-    /// An object.
+    /// The answer is the place of an object.
     Object(Place),
 }
 
 impl ShortAnswer {
-    /// Appends the line of the answer. If it is refused for memory, the lines are as they were. O(1).
+    /// Appends the line of the answer. If there is not enough memory, the lines stay as they were. O(1).
     #[inline(always)]
     pub(crate) fn push<M: Allocator>(self, lines: &mut Vec<u8, M>) -> Result<(), AllocError>
         ensures put { OnOk result (lines.new.items ≡ lines.old.items ++ line_of (reply_of_short self)) }
@@ -51,7 +51,7 @@ impl ShortAnswer {
         pushed
     }
 
-    // The same, but after a refusal a part of the line may have been appended.
+    // Appends the line of the answer. If there is not enough memory, a part of the line may have been appended.
     #[inline(always)]
     fn push_line<M: Allocator>(self, lines: &mut Vec<u8, M>) -> Result<(), AllocError>
         ensures put { OnOk result (lines.new.items ≡ lines.old.items ++ line_of (reply_of_short self)) }

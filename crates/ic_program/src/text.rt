@@ -9,7 +9,7 @@ ghost use Rattle.std.specs.Prelude.{◌≡◌, ◌≢◌, ◌≤◌, ℕ, true, 
 ghost use Rattle.std.specs.Bool.{OnTrue};
 ghost use Rattle.ic_program.specs.Text.{after_line as after_first_line, after_spaces, ends_word, ends_line as is_line_end, line_in, word_in, words_in, ReadsWord};
 
-/// Returns the text after its leading spaces. Mostly there are none.
+/// Returns the text without the spaces at its beginning. Most texts begin with none.
 #[inline(always)]
 pub(crate) fn without_spaces<'l>(text: &'l [u8]) -> &'l [u8]
     ensures { result.now ≡ after_spaces text.now }
@@ -20,7 +20,7 @@ pub(crate) fn without_spaces<'l>(text: &'l [u8]) -> &'l [u8]
     }
 }
 
-// The same for a text that begins with a space.
+// Returns a text that begins with a space without the spaces at its beginning.
 #[cold]
 #[inline(never)]
 fn without_more_spaces<'l>(text: &'l [u8]) -> &'l [u8]
@@ -33,7 +33,7 @@ fn without_more_spaces<'l>(text: &'l [u8]) -> &'l [u8]
     rest
 }
 
-/// Returns the text after its first byte, if that is a space.
+/// Returns the text after its first byte if this byte is a space, and otherwise the whole text.
 #[inline(always)]
 pub(crate) fn after_space<'l>(text: &'l [u8]) -> &'l [u8]
     ensures words { words_in result.now ≡ words_in text.now }
@@ -45,8 +45,8 @@ pub(crate) fn after_space<'l>(text: &'l [u8]) -> &'l [u8]
     }
 }
 
-// The same for a text that does not begin with a space. It is a function of its own, so that the processor predicts that there is a space, and does
-// not wait for the test.
+// Returns a text that does not begin with a space as it is. It is a function of its own, so that the processor predicts that a text begins with a
+// space, and does not wait for the test.
 #[cold]
 #[inline(never)]
 fn without_space<'l>(text: &'l [u8]) -> &'l [u8]
@@ -69,8 +69,8 @@ pub(crate) fn after_line<'l>(text: &'l [u8]) -> Option<&'l [u8]>
     }
 }
 
-// Returns how many bytes are left of such a line if it does not begin with `\n`. It returns a number instead of a text, since a number stays in a
-// register.
+// Returns how many bytes of a text are before its next line, if the first line has no words. `after_line` calls it if the text does not begin with
+// `\n`. It returns a number instead of a text, because a number stays in a register.
 #[cold]
 #[inline(never)]
 fn other_line(text: &[u8]) -> Option<usize>
@@ -83,7 +83,7 @@ fn other_line(text: &[u8]) -> Option<usize>
     }
 }
 
-// Returns the text after the end of a line, if it begins with one.
+// Returns the text after the end of a line, if the text begins with the end of a line.
 fn after_end<'l>(text: &'l [u8]) -> Option<&'l [u8]>
     ensures { MatchOption result (is_line_end text.now ≡ false) (λ rest. (is_line_end text.now ≡ true) × (rest.now ≡ after_first_line text.now)) }
 {
@@ -95,7 +95,8 @@ fn after_end<'l>(text: &'l [u8]) -> Option<&'l [u8]>
     }
 }
 
-/// Returns whether a word ends here with a space or `\n`. If not, it may still end with `\r\n` or at the end of the text.
+/// Returns whether the text begins with a space or `\n`, each of which ends a word. If not, a word may still end here with `\r\n`, or at the end of
+/// the text.
 #[inline(always)]
 pub(crate) fn word_ends(text: &[u8]) -> bool
     ensures { OnTrue result (ends_word text.now ≡ true) }
@@ -128,7 +129,7 @@ pub(crate) fn after_word<'l>(text: &'l [u8]) -> &'l [u8]
     rest
 }
 
-// Returns how many of the first bytes are a word: those before the next space and before the end of the line.
+// Returns how many bytes at the beginning of a text are its first word: the bytes before the next space and before the end of the line.
 fn word_length(text: &[u8]) -> usize
     ensures length { result ≡ length (word_in text.now) }
     ensures within { result ≤ length text.now }
@@ -150,7 +151,7 @@ pub(crate) fn first_line<'l>(text: &'l [u8]) -> &'l [u8]
     &text[..line_length(text)]
 }
 
-// Returns how many of the first bytes are a line: those before its end.
+// Returns how many bytes at the beginning of a text are its first line: the bytes before `\n` or `\r\n`, or all bytes.
 fn line_length(text: &[u8]) -> usize
     ensures length { result ≡ length (line_in text.now) }
     ensures within { result ≤ length text.now }

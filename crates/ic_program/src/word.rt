@@ -53,8 +53,8 @@ pub(crate) fn bound(word: &[u8]) -> Option<Bound<u64>>
     }
 }
 
-/// Returns the neighbor that a word stands for: the number of an object, or `none` beyond an end of the list. For any other word the outer result is
-/// `None`. O(bytes).
+/// Returns the neighbor that a word stands for: the number of an object, or `none` if the list has no member on that side. For any other word the
+/// outer result is `None`. O(bytes).
 pub(crate) fn neighbor(word: &[u8]) -> Option<Option<Place>>
     ensures { result ≡ neighbor_in word.now }
 {
@@ -113,7 +113,7 @@ pub(crate) fn leading_number(text: &[u8]) -> Option<(u64, usize)>
     Some((number, digits))
 }
 
-// Returns a number with one more digit, if it stays below 2^64.
+// Returns the number with one more decimal digit at its end, if the result is below 2^64.
 #[inline]
 fn with_digit(number: u64, digit: u8) -> Option<u64>
     ensures { MoreDigits number digit result }
@@ -124,8 +124,8 @@ fn with_digit(number: u64, digit: u8) -> Option<u64>
     number.checked_mul(10)?.checked_add((digit - b'0') as u64)
 }
 
-/// Returns the number in the first word of a line, and the text after it, if it has 1 to 4 digits and is not at the end of the text. `None` does not
-/// mean that the word is not a number.
+/// Returns the number in the first word of a line, and the text after the word. The word has to have 1 to 4 digits, and not to be at the end of the
+/// text. If it returns `None`, the word may still be a number.
 #[inline(always)]
 pub(crate) fn small_number<'l>(text: &'l [u8]) -> Option<(u64, &'l [u8])>
     ensures { IfSome result (λ read. Reads number_in text.now read.0 read.1.now) }
@@ -138,7 +138,7 @@ pub(crate) fn small_number<'l>(text: &'l [u8]) -> Option<(u64, &'l [u8])>
     Some((number, rest))
 }
 
-// Returns the value of the leading digits of a text, and their count, if there are 1 to 4. It has no loop.
+// Returns the value of the leading digits of a text, and their count, if there are 1 to 4 digits. It has no loop.
 #[inline(always)]
 fn few_digits(text: &[u8]) -> Option<(u64, usize)>
     ensures read { IfSome result (λ read. IsLeading text.now read.0 read.1) }

@@ -22,7 +22,7 @@ use std::io::Write;
 use std::sync::Wait;
 use std::thread::Threads;
 
-// The most workers and the most places that the program accepts.
+// The program accepts at most this many workers and this many places.
 const MOST_WORKERS: u64 = 64;
 
 const MOST_PLACES: u64 = 1_000_000;
@@ -36,7 +36,7 @@ pub struct Workers {
     pub places: usize,
 }
 
-/// Returns the numbers in the words `workers W N`. It returns `None` for other words, and if one of the two is not a number or out of its bounds.
+/// Returns the numbers in the words `workers W N`. It returns `None` for other words, and if W or N is not a number or is out of its bounds.
 pub fn workers_of(words: &[String]) -> Option<Workers>
     ensures asked { IfSome result (AskFor words.now) }
     ensures none { IfNone result ((asked : Workers) → AskFor words.now asked → ⊥) }
@@ -70,7 +70,7 @@ impl Gate for Open {
 }
 
 /// Lets the workers share out the places, each in a thread of its own. It writes which places each worker got, and how many places are in more than
-/// one list, which is 0 by the contract of `fan_out`. If memory runs out, it writes nothing.
+/// one list. By the contract of `fan_out` this number is 0. If memory runs out, it writes nothing.
 pub(crate) fn run_workers<S: Threads + Wait + Sync, M: Allocator + Copy + Send + Sync, W: Write>(
     rt: &S,
     alloc: M,
@@ -89,7 +89,7 @@ pub(crate) fn run_workers<S: Threads + Wait + Sync, M: Allocator + Copy + Send +
     write_whole(writer, &text)
 }
 
-// Writes a line for each list, and then how many of the first places are in more than one of them.
+// Returns the text of the result: a line for each list of places, and then how many of the first places are in more than one list.
 fn workers_text_of<M: Allocator + Copy>(
     alloc: M,
     places: usize,

@@ -1,4 +1,4 @@
--- What calls of a doubly linked list read of what is represented.
+-- These lemmas say what the calls of a doubly linked list read from the words, if the words represent a list.
 use Rattle.std.proofs.Common.{◌≡◌, Option, Some, None, List, [], ◌∷◌, ◌++◌, true, refl, sym, ◌∙◌, append_assoc, append-nil, subst}
 use Rattle.ic_link_ops.specs.Prelude.{Place, Cut, join, first, last, Table}
 use Rattle.ic_link_ops.specs.Chains.{Ends}
@@ -8,8 +8,8 @@ use Rattle.ic_link_ops.proofs.RepresentedLists.{before_gap, after_gap, represent
 use Rattle.ic_link_ops.proofs.DoublyLists.{between_linked}
 use Rattle.ic_raw.specs.declared.table.RawTable.{RawTable}
 use Rattle.ic_raw.specs.declared.gap.Gap.{Gap}
-use Rattle.ic_raw.specs.declared.gap.Side.{Side}
-use Rattle.ic_raw.specs.declared.gap.Side.TheVariants.{After, Before}
+use Rattle.ic_raw.specs.declared.gap.GapSide.{GapSide}
+use Rattle.ic_raw.specs.declared.gap.GapSide.TheVariants.{After, Before}
 use Rattle.ic_raw.specs.declared.words.RawEnds.{RawEnds}
 use Rattle.ic_raw.specs.LinkWords.{LinkWords, lent_table, neighbors, table_of}
 use Rattle.ic_raw.specs.Gaps.{IsBeside, IsNoneOrLinked, gap_of, outermost}
@@ -18,16 +18,16 @@ use Rattle.ic_raw.specs.Doubly.{Represents, RepresentsList, Split, SplitsBeside,
 use Rattle.ic_raw.proofs.Lists.{before_stands, after_stands, kept}
 use Rattle.ic_raw.proofs.LinkViews.{splits_back}
 
--- a gap beside none is the outermost one of all
-pub outermost_is : (side : Side) (cut : Cut) → IsBeside side cut None → gap_of (outermost side (join cut)) ≡ gap_of cut
+-- if a call names no member, the gap on this side is the outermost gap of the list
+pub outermost_is : (side : GapSide) (cut : Cut) → IsBeside side cut None → gap_of (outermost side (join cut)) ≡ gap_of cut
 outermost_is After cut e = λ k. record { before = e k; after = first_of_back cut.front cut.back e k }
 outermost_is Before cut e = λ k. record { before = last_of_front cut.front cut.back e k; after = e k }
 
--- the gap after a member
+-- `after` is the gap after the member p
 abbrev pub after : Place → (front back : List Place) → Cut
 after p front back = record { front = front ++ p ∷ []; back = back }
 
--- a sequence that has a member has the same first one with more after, and the same last one with one more before or between
+-- if members are added after a sequence that is not empty, its first member stays. If a member is inserted before its last one, the last member stays
 pub first_kept : (s t : List Place) {q : Place} → Some q ≡ last s → first (s ++ t) ≡ first s
 first_kept [] t {q} e = absurd (none_not q (sym e))
 first_kept (x ∷ s) t e = refl
@@ -36,18 +36,18 @@ pub last_kept : (front : List Place) (p : Place) (back : List Place) {q : Place}
 last_kept front p [] {q} e = absurd (none_not q (sym e))
 last_kept front p (x ∷ s) e = last_or-append None front (p ∷ x ∷ s) ∙ sym (last_or-append None front (x ∷ s))
 
--- a cut before none is at the end
+-- a cut that is before no member is at the end of the sequence
 pub at_end : (cut : Cut) → IsBeside Before cut None → cut ≡ record { front = cut.front; back = [] }
 at_end cut e = let empty : cut.back ≡ [] = nothing_first cut.back e in λ k. record { front = cut.front; back = empty k }
 
--- `words`: what the words of a place say, which have 8 bytes or 4
+-- `words` says how the words of a place are read, which have 8 bytes or 4 bytes each
 module _ {W : Type 0} (words : LinkWords W) where
-  -- what stands between two others is linked
+  -- a place that is between two others in a list is linked
   pub law : (e : W) (b a : Option Place) → IsBetween (neighbors words) e b a → words.is_linked e ≡ true
   law = between_linked {n = neighbors words} {linked = words.is_linked} (λ e. refl)
 
   module _ {t : Table W} {list : Ends} (front back : List Place) (shown : Represents words t list (front ++ back)) where
-    -- the places beside a gap lead to each other
+    -- the links lead from the place before a gap to the place after it
     pub next_represented : (at : Option Place) → at ≡ last front → next_from words t list at ≡ first back
     next_represented None e = shown.head ∙ first_of_back front back e
     next_represented (Some q) e = (before_gap front back shown e).next
@@ -56,25 +56,25 @@ module _ {W : Type 0} (words : LinkWords W) where
     prev_represented None e = shown.tail ∙ last_of_front front back e
     prev_represented (Some q) e = (after_gap front back shown e).prev
 
-  -- what a call is told stands
-  pub beside_stands : (side : Side) {t : Table W} {list : Ends} (cut : Cut) {at : Option Place} → Represents words t list (join cut) → IsBeside side cut at → IsNoneOrLinked words.is_linked t at
+  -- if the cut is beside `at`, then `at` is none or a linked place
+  pub beside_stands : (side : GapSide) {t : Table W} {list : Ends} (cut : Cut) {at : Option Place} → Represents words t list (join cut) → IsBeside side cut at → IsNoneOrLinked words.is_linked t at
   beside_stands After cut shown e = before_stands law cut.front cut.back shown e
   beside_stands Before cut shown e = after_stands law cut.front cut.back shown e
 
-  -- a gap that the words of a view tell of
-  pub told_back : (side : Side) {es : List W} (t : RawTable W) (list : Ends) (at : Option Place) → raw_entries t ≡ es → TellsGap words side (lent_table words t) list at
+  -- if the words of a view confirm a gap, the words that the caller lent confirm the gap
+  pub told_back : (side : GapSide) {es : List W} (t : RawTable W) (list : Ends) (at : Option Place) → raw_entries t ≡ es → TellsGap words side (lent_table words t) list at
       → TellsGap words side (table_of words es) list at
   told_back After t list at e links_back =
       let back : TellsGap words After (table_of words (raw_entries t)) list at = links_back in subst (λ es. TellsGap words After (table_of words es) list at) e back
   told_back Before t list at e links_back =
       let back : TellsGap words Before (table_of words (raw_entries t)) list at = links_back in subst (λ es. TellsGap words Before (table_of words es) list at) e back
 
-  pub told_viewed : (side : Side) (t : RawTable W) {es : List W} {list edited : Ends} {at named : Option Place} → raw_entries t ≡ es → edited ≡ list → at ≡ named
+  pub told_viewed : (side : GapSide) (t : RawTable W) {es : List W} {list edited : Ends} {at named : Option Place} → raw_entries t ≡ es → edited ≡ list → at ≡ named
       → TellsGap words side (lent_table words t) edited at → TellsGap words side (table_of words es) list named
   told_viewed side t {list} {named} view read same links_back = told_back side t list named view (rw (← read, ← same) links_back)
 
-  -- a gap that was found by a view, and the places on both sides of one, are those that its words tell of
-  pub gap_viewed : (side : Side) (t : RawTable W) {es : List W} {list edited : Ends} {at named : Option Place} {found : Gap} → raw_entries t ≡ es → edited ≡ list
+  -- a gap that a call found in a view of the table is the gap that the words of the table name. This also holds for the two neighbors of a member
+  pub gap_viewed : (side : GapSide) (t : RawTable W) {es : List W} {list edited : Ends} {at named : Option Place} {found : Gap} → raw_entries t ≡ es → edited ≡ list
       → at ≡ named → found ≡ gap_from words side (lent_table words t) edited at → gap_from words side (table_of words es) list named ≡ found
   gap_viewed After t view read same is = sym (is ∙ (λ k. gap_from words After (table_of words (view k)) (read k) (same k)))
   gap_viewed Before t view read same is = sym (is ∙ (λ k. gap_from words Before (table_of words (view k)) (read k) (same k)))
@@ -83,14 +83,14 @@ module _ {W : Type 0} (words : LinkWords W) where
       → at ≡ named → found ≡ around words (lent_table words t) edited at → around words (table_of words es) list named ≡ found
   around_viewed t view read same is = sym (is ∙ (λ k. around words (table_of words (view k)) (read k) (same k)))
 
-  -- A CUT OF A VIEW is one of its words, once both lists are kept
-  pub split_back : (side : Side) (a b : RawTable W) {es fs : List W} (list list' rest : RawEnds) {keeps handed : Ends} (cut : Cut)
+  -- A CUT OF THE LIST IN A VIEW is a cut of the list in the words that the caller lent, once both lists are written back
+  pub split_back : (side : GapSide) (a b : RawTable W) {es fs : List W} (list list' rest : RawEnds) {keeps handed : Ends} (cut : Cut)
       → raw_entries a ≡ es → fs ≡ raw_entries b → ends_of list' ≡ keeps → ends_of rest ≡ handed
       → (RepresentsList words es list (join cut) → SplitsBeside words side (lent_table words a) (lent_table words b) keeps handed cut) → Split words es fs list list' 0 side rest cut
   split_back After a b list list' rest cut e f k l does = λ shown. record { accepted = refl; done = splits_back words kept a b e f k l (does shown) }
   split_back Before a b list list' rest cut e f k l does = λ shown. record { accepted = refl; done = splits_back words kept a b e f k l (does shown) }
 
-  -- THE WORDS TELL OF A GAP where what stands on one side of a place leads back to it
+  -- THE WORDS CONFIRM A GAP on a side of the place `at`, if the neighbor on this side is none or linked, and leads back to `at`
   pub told_after : (t : Table W) (list : Ends) (at next : Option Place) → next_from words t list at ≡ next → IsNoneOrLinked words.is_linked t next → prev_from words t list next ≡ at
       → TellsGap words After t list at
   told_after t list at next e stands back = (rw e stands, rw e back)
@@ -102,7 +102,8 @@ module _ {W : Type 0} (words : LinkWords W) where
   pub represented_after : {t : Table W} {list : Ends} (front : List Place) (p : Place) (back : List Place) → Represents words t list (front ++ p ∷ back) → Represents words t list (join (after p front back))
   represented_after front p back shown = rw append_assoc shown
 
-  -- `at` stands between the two sides of a cut, which lead to it: a member between its neighbors, and none between the last member and the first
+  -- `at` is between the two sides of a cut, and the links of both sides lead to `at`. It is a member between its neighbors, or none between the last
+  -- and the first member
   pub record IsAround (t : Table W) (list : Ends) (at : Option Place) (cut : Cut) : Type 0 where
     pub stands : IsNoneOrLinked words.is_linked t at
     pub prev : prev_from words t list at ≡ last cut.front

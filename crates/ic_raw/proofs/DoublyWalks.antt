@@ -1,4 +1,4 @@
--- Doubly linked lists that are walked: the places that lead from the first member on, each back to the one before it.
+-- These lemmas follow a walk along a doubly linked list, which begins at the first member. Each place on the walk names the place before it.
 use Rattle.std.proofs.Common.{◌≡◌, ◌≤◌, Option, Some, None, List, [], ◌∷◌, ◌++◌, length, true, false, refl, sym, ap, ◌∙◌, arith}
 use Rattle.ic_link_ops.specs.Prelude.{Place, index_of, first_or, first, last, IsAbsent, IsDistinct, Table, IsCovered}
 use Rattle.ic_link_ops.specs.Chains.{Ends, IsChain}
@@ -13,18 +13,19 @@ use Rattle.ic_raw.specs.LinkWords.{LinkWords, lent_table, neighbors}
 use Rattle.ic_raw.specs.Tables.{raw_entries}
 use Rattle.ic_raw.specs.Doubly.{Represents}
 
--- what has no first member has none
+-- a sequence without a first member is empty
 pub nothing_first : (s : List Place) → first s ≡ None → s ≡ []
 nothing_first [] e = refl
 nothing_first (x ∷ s) e = absurd (none_not x (sym e))
 
--- `words`: what the words of a place say, which have 8 bytes or 4
+-- `words` says how the words of a place are read, which have 8 bytes or 4 bytes each
 module _ {W : Type 0} (words : LinkWords W) where
-  -- what is linked is covered
+  -- a linked place belongs to the table
   pub covered : words.is_linked words.unlinked ≡ false → (t : RawTable W) (q : Place) → words.is_linked ((lent_table words t).entry q) ≡ true → IsCovered (lent_table words t) q
   covered starts t q on = linked_in_range words.is_linked words.unlinked starts (nameable words.width (raw_entries t)) (index_of q) on
 
-  -- A CHAIN THAT ENDS COMES TO NO PLACE TWICE: from there it would go on the same way, and end as soon
+  -- A CHAIN THAT ENDS COMES TO NO PLACE TWICE. If it came to a place twice, it would go on in the same way after both visits, and would end after
+  -- equally many places
   module _ (t : Place → W) where
     not_ahead : (b b' : Option Place) (x : Place) (w rest : List Place) → IsChain (IsBetween (neighbors words)) t b (x ∷ w) None → IsChain (IsBetween (neighbors words)) t b' rest None
         → length rest ≤ length w → IsAbsent x rest
@@ -41,7 +42,7 @@ module _ {W : Type 0} (words : LinkWords W) where
     ended_distinct b [] c = tt
     ended_distinct b (x ∷ w) c = (not_ahead b (Some x) x w w c c.1 (omega arith), ended_distinct (Some x) w c.1)
 
-  -- THE PLACES FROM THE FIRST MEMBER ON LEAD TO `at`, before which `prev` stands: those that were walked
+  -- THE LINKS LEAD FROM THE FIRST MEMBER TO `at`: the walk has passed the places `walked`, of which `prev` is the last
   pub record LeadsTo (t : Table W) (list : Ends) (prev : Option Place) (at : Place) : Type 0 where
     pub walked : List Place
     pub chain : IsChain (IsBetween (neighbors words)) t.entry None walked (Some at)
@@ -50,7 +51,7 @@ module _ {W : Type 0} (words : LinkWords W) where
 
   module _ {t : Table W} {list : Ends} {prev : Option Place} {at : Place} (leads : LeadsTo t list prev at) (linked : words.is_linked (t.entry at) ≡ true)
       (follows : (neighbors words (t.entry at)).prev ≡ prev) where
-    -- what is walked, with `at` itself, before what stands after
+    -- the places that the walk has passed and the place `at` are a chain, which leads to the place after `at`
     chain_on : (next : Option Place) → (neighbors words (t.entry at)).next ≡ next → IsChain (IsBetween (neighbors words)) t.entry None (leads.walked ++ at ∷ []) next
     chain_on next after =
         chain_glue (IsBetween (neighbors words)) t.entry None leads.walked (at ∷ []) next leads.chain
@@ -59,7 +60,7 @@ module _ {W : Type 0} (words : LinkWords W) where
     starts_on : (next : Option Place) → list.head ≡ first_or (leads.walked ++ at ∷ []) next
     starts_on next = leads.starts ∙ sym (first_or-append leads.walked (at ∷ []) next)
 
-    -- they lead on to what stands after it,
+    -- if the links lead to `at`, they lead on to the place after `at`
     pub leads_on : {next : Place} → (neighbors words (t.entry at)).next ≡ Some next → LeadsTo t list (Some at) next
     leads_on {next} after = record {
       walked = leads.walked ++ at ∷ [];
@@ -68,7 +69,7 @@ module _ {W : Type 0} (words : LinkWords W) where
       ends = sym (last_of_push leads.walked at);
     }
 
-    -- and where nothing does, and it is the last member of the list, they are all of it
+    -- if no place is after `at`, and `at` is the last place of the list, the words represent the places of the walk as the list
     pub ends_there : (neighbors words (t.entry at)).next ≡ None → list.tail ≡ Some at → (s : List Place) × Represents words t list s
     ends_there after tail =
         let chain = chain_on None after in (

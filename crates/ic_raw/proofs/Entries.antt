@@ -1,4 +1,4 @@
--- The words of a table as they are written.
+-- These lemmas say how the entries of a table are read after words are written.
 use Rattle.std.proofs.Common.{◌≡◌, ℕ, List, Bool, true, false, Option, slice_set, slice_index_or, ◌+◌, ◌%◌, ◌<◌, length, nat_eq, eqb-true, eq-eqb, sym, ap, ◌∙◌, arith}
 use Rattle.std.proofs.lemmas.List.{length-set}
 use Rattle.ic_link_ops.specs.Prelude.{Place, index_of, word_of, place_at, ChangesOnly, IsNameable}
@@ -20,21 +20,22 @@ changes_only d {identity} es p e i at_p = record {
   others = others_same d es p e i at_p;
 }
 
--- the number that a word keeps is that of a place or 0, and so it is read as the number of the place that it names
+-- the number in any word is 0 or the number of a place, so that it can be read as the number of the place that the word names
 pub number_fits : (v : ℕ) → IsWord (number_in v)
 number_fits v = (omega arith, omega arith)
 
 pub number_read : (v : ℕ) → word_of (place_in v) ≡ number_in v
 number_read v = word_at (number_in v) (number_fits v)
 
--- and a place is kept as it is
+-- the word that a call writes for a place names this place
 pub place_kept : (p : Option Place) → place_in (word_of p) ≡ p
 place_kept p =
     let fits = word_fits p in
     let same : number_in (word_of p) ≡ word_of p = omega (arith, fits.0, fits.1) in
     ap place_at same ∙ place_at_word p
 
--- the same of words of 4 bytes, where there is room for the place
+-- the number in any word of 4 bytes is 0 or the number of a place. If a place has a small enough number, the word that a call writes for the place
+-- names it
 pub narrow_number_fits : (v : ℕ) → IsWord (narrow_number_in v)
 narrow_number_fits v = (omega arith, omega arith)
 
@@ -48,7 +49,7 @@ narrow_place_kept p room =
     let same : narrow_number_in (word_of p) ≡ word_of p = omega (arith, fits.0, fits.1, small) in
     ap place_at same ∙ place_at_word p
 
--- a word as a call writes it names its place: that of a place alone, and that of what is after a linked one
+-- a word as a call writes it names its place. The word has the mark of a linked place if it is written as the word for the next place
 pub named : (v : ℕ) (place : Option Place) → v ≡ word_of place → place_in v ≡ place
 named v place e = ap place_in e ∙ place_kept place
 
@@ -72,7 +73,7 @@ narrow_named_marked v next small e =
     let marked : v % 2 ≡ 1 = omega (arith, e, fits.0, fits.1) in
     (eq-eqb (v % 2) 1 marked, ap place_at number ∙ place_at_word next)
 
--- ONE COMPARISON TELLS that a word is marked, and which place it names: n is the number that it keeps
+-- ONE COMPARISON SHOWS that a word has the mark of a linked place, and which place it names: n is the number in the word
 pub is_led : (v n : ℕ) (next : Option Place) → IsWord n → n + v % 2 ≡ word_of next + 1 → (nat_eq (v % 2) 1 ≡ true) × (place_at n ≡ next)
 is_led v n next even same =
     let fits = word_fits next in
@@ -86,7 +87,7 @@ leads v n next even marked is =
     let number : n ≡ word_of next = sym (ap word_of is ∙ word_at n even) in
     omega (arith, one, number)
 
--- two places with the same word are one
+-- if two places have the same word, they are equal
 pub one_word : (a b : Option Place) {v w : ℕ} → v ≡ word_of a → w ≡ word_of b → v ≡ w → a ≡ b
 one_word a b e f k = sym (place_at_word a) ∙ ap place_at (sym e ∙ k ∙ f) ∙ place_at_word b
 
@@ -94,7 +95,7 @@ pub same_word : (a b : Option Place) {v w : ℕ} → v ≡ word_of a → w ≡ w
 same_word a b {v} {w} e f k = one_word a b e f (eqb-true v w k)
 
 module _ {E : Type 0} (is_linked : E → Bool) (d : E) (starts : is_linked d ≡ false) where
-  -- A WRITE AT A LINKED PLACE CHANGES WHAT THE ENTRY SAYS as it changes what was read there
+  -- A WRITE AT A LINKED PLACE changes what the place's entry says in the way in which the new words differ from the words that were read
   pub says_written : {R : Type 0} (says : E → R) (change : R → R) (es : List E) (p : Place) (old new beyond : E) (i : ℕ) → i ≡ index_of p
       → is_linked (entry_at d es p) ≡ true → old ≡ slice_index_or es i beyond → says new ≡ change (says old)
       → says (entry_at d (slice_set es i new) p) ≡ change (says (entry_at d es p))
@@ -102,7 +103,7 @@ module _ {E : Type 0} (is_linked : E → Bool) (d : E) (starts : is_linked d ≡
       let covered = linked_in_range is_linked d starts es (index_of p) linked in
       ap says (entry_same d es p new i at_p covered) ∙ written ∙ ap (λ e. change (says e)) (sym (entry_read d es p old beyond i at_p covered read))
 
--- THE SAME OF THE PLACES FOR WHICH WORDS HAVE ROOM
+-- THE LEMMAS FOR WORDS OF ONE WIDTH are about a table that has only the places that words of this width can name
 module _ {E : Type 0} (w : Width) (d : E) where
   -- a write at p changes only the entry of p
   pub changes_seen : {identity : List ℕ} (es : List E) (p : Place) (e : E) (i : ℕ) → i ≡ index_of p → index_of p < length (nameable w es)
@@ -113,16 +114,16 @@ module _ {E : Type 0} (w : Width) (d : E) where
   }
 
   module _ (is_linked : E → Bool) (starts : is_linked d ≡ false) where
-    -- a linked place is one of them
+    -- a linked place is one of the places that the words can name
     pub seen_covered : (es : List E) (p : Place) → is_linked (entry_at d (nameable w es) p) ≡ true → index_of p < length (nameable w es)
     seen_covered es p = linked_in_range is_linked d starts (nameable w es) (index_of p)
 
-    -- what was read at a linked place is the entry of one
+    -- the words that are read at the index of a linked place are those of a linked place
     pub seen_linked : (es : List E) (p : Place) (old beyond : E) (i : ℕ) → i ≡ index_of p → is_linked (entry_at d (nameable w es) p) ≡ true → old ≡ slice_index_or es i beyond
         → is_linked old ≡ true
     seen_linked es p old beyond i at_p linked read = ap is_linked (sym (entry_seen w d es p old beyond i at_p (seen_covered es p linked) read)) ∙ linked
 
-    -- a write at a linked place changes what the entry says as it changes what was read there
+    -- a write at a linked place changes what the place's entry says in the way in which the new words differ from the words that were read
     pub seen_written : {R : Type 0} (says : E → R) (change : R → R) (es : List E) (p : Place) (old new beyond : E) (i : ℕ) → i ≡ index_of p
         → is_linked (entry_at d (nameable w es) p) ≡ true → old ≡ slice_index_or es i beyond → says new ≡ change (says old)
         → says (entry_at d (nameable w (slice_set es i new)) p) ≡ change (says (entry_at d (nameable w es) p))

@@ -1,4 +1,4 @@
--- Why a call is refused, as it tests one place after another.
+-- These lemmas say why a call is refused. A call tests one place after the other.
 use Rattle.std.proofs.Common.{◌≡◌, ◌≢◌, ℕ, zero, suc, Bool, cond, nat_lt, List, [], ◌∷◌, Option, Some, None, refl, sym, ap, subst, ◌∙◌}
 use Rattle.ic_link_ops.specs.Prelude.{Place, index_of, Table}
 use Rattle.ic_link_ops.specs.PlainTables.{table_of}
@@ -10,21 +10,22 @@ use Rattle.ic_raw.specs.Tables.{nameable_table, member_fault, place_fault}
 use Rattle.ic_raw.specs.Words.{place_of}
 use Rattle.ic_raw.proofs.Numbers.{none_named}
 
--- by the first fault,
+-- if the first fault in the list is not `OK`, a refused call returns it
 pub by_first : {n m : ℕ} (faults : List ℕ) → n ≡ m → n ≢ 0 → n ≡ refusal (m ∷ faults)
 by_first {n = zero} faults e fault = absurd (fault refl)
 by_first {n = suc n} {m} faults e fault = ap (λ k. refusal (k ∷ faults)) e
 
--- and where there is none by the others
+-- if the first fault in the list is `OK`, a refused call returns the status that the rest of the list gives
 pub by_others : {n m : ℕ} (faults : List ℕ) → n ≡ m → n ≡ 0 → refusal faults ≡ refusal (m ∷ faults)
 by_others {n} {m} faults e none = ap (λ k. refusal (k ∷ faults)) (sym none ∙ e)
 
--- what stands has no fault
+-- there is no fault if the caller names no member, or names a linked place as a member
 pub faultless : {W : Type 0} (is_linked : W → Bool) (t : Table W) (at : Option Place) → IsNoneOrLinked is_linked t at → member_fault is_linked t at ≡ 0
 faultless is_linked t None stands = refl
 faultless is_linked t (Some p) stands = ap (λ b. cond b 0 (cond (nat_lt (index_of p) t.extent.places) 3 1)) (stands p refl)
 
--- at an end a place has no fault but its own: that of the view is that of the words that were lent
+-- if a place is to be inserted at an end of a list, a refusal depends only on the fault of this place. Its fault in a view is its fault in the words
+-- that the caller lent
 module _ {W : Type 0} (is_linked : W → Bool) (width : Width) (unlinked : W) (t : RawTable W) where
   pub place_fault_back : (place : Option Place) → place_fault is_linked (nameable_table width unlinked t) place ≡ place_fault is_linked (table_of unlinked (nameable width t.entries.now)) place
   place_fault_back None = refl

@@ -1,4 +1,4 @@
--- A check of a hash table: the walk along one chain, and the chains that are checked.
+-- These lemmas follow the check of a hash table: the walk along one chain, and the chains that are already checked.
 use Rattle.std.proofs.Common.{◌≡◌, ◌≢◌, ◌<◌, ◌≤◌, ◌+◌, ℕ, zero, suc, inl, inr, Bool, true, Option, Some, None, List, [], ◌∷◌, ◌++◌, drop, length, length-append, refl, sym, ap, ◌∙◌, subst, arith}
 use Rattle.std.specs.List.{AllByRecursion}
 use Rattle.std.proofs.lemmas.Bool.Decides.{eqb_tells}
@@ -22,7 +22,7 @@ use Rattle.ic_raw.specs.Words.{is_linked_one, no_word}
 use Rattle.ic_raw.proofs.HashWalks.{Comes, comes_parts}
 use Rattle.ic_raw.proofs.Singly.{ended_distinct}
 
--- THE PLACES FROM `front` ON LEAD TO `current`, past so many linked ones, which are own ones
+-- THE LINKS LEAD FROM `front` TO `current`: the walk has passed `count` linked places, and `Own` holds of each of them
 pub record WalksOwn (Own : Place → Type 0) (t : Table RawOne) (front current : Option Place) (count : ℕ) : Type 0 where
   pub walked : List Place
   pub chain : IsChain (IsFollowed successor) t.entry None walked current
@@ -44,7 +44,7 @@ module _ {Own : Place → Type 0} {t : Table RawOne} where
     many = omega (arith, length-append k.walked (p ∷ []), k.many, counts);
   }
 
-  -- where they end they are a list
+  -- if the walk comes to an end, the places that it has passed are a list, and `Own` holds of each member
   pub own_ended : {front : Option Place} {count : ℕ} → WalksOwn Own t front None count
       → (s : List Place) × Represents t (list_from front) s × AllByRecursion Own s × (length s ≡ count)
   own_ended k = (
@@ -54,27 +54,28 @@ module _ {Own : Place → Type 0} {t : Table RawOne} where
     k.many,
   )
 
--- a member to which a walk has come is an own one, where all are
+-- if `Own` holds of all members of a list, it holds of the member to which a walk has come
 pub own_there : (Own : Place → Type 0) {is : Place → Bool} {t : Table RawOne} {s : List Place} {before : Option Place} {p : Place} {left : ℕ}
     → Comes is t s before (Some p) left → AllByRecursion Own s → Own p
 own_there Own {p = p} k all = (all_back Own k.passed.walk.done (p ∷ drop 1 k.passed.walk.rest) (subst (AllByRecursion Own) (comes_parts k) all)).0
 
--- the number of steps that are left, in other words
+-- the number of steps that are left can be replaced by an equal number
 pub same_left : {is : Place → Bool} {t : Table RawOne} {s : List Place} {before current : Option Place} {left left' : ℕ}
     → Comes is t s before current left → left' ≡ left → Comes is t s before current left'
 same_left k same = record { passed = k.passed; few = omega (arith, k.few, same) }
 
 module _ (words : List RawOne) (hashes : List ℕ) (buckets : List RawFront) where
-  -- the chain in a bucket, as a walk comes by it
+  -- `chain_in i` is the list of the places to which the links lead from the first place of the bucket i
   abbrev pub chain_in : ℕ → List Place
   chain_in i = members_from successor (table_of words) (front_of (bucket_at buckets i))
 
-  -- THE FIRST CHAINS ARE CHECKED, so many of them, and have so many members
+  -- THE FIRST i CHAINS ARE CHECKED: each is the chain in its bucket, the hashes of its members lead to this bucket, and together the chains have
+  -- `count` members
   pub record ChecksOwn (i count : ℕ) : Type 0 where
     pub each : (j : ℕ) → j < i → IsOwnChain words hashes buckets j (chain_in j)
     pub counted : count ≡ length (members_of chain_in i)
 
--- places with one number are none of those with others
+-- two lists of places share no member if all places of one have the number i, and no place of the second has it
 apart_by : (number : Place → ℕ) (i : ℕ) (s r : List Place) → AllByRecursion (λ p. number p ≡ i) s → AllByRecursion (λ p. number p ≢ i) r → IsDisjoint s r
 apart_by number i [] r here there = tt
 apart_by number i (x ∷ s) r here there = (absent r there, apart_by number i s r here.1 there) where
@@ -82,7 +83,7 @@ apart_by number i (x ∷ s) r here there = (absent r there, apart_by number i s 
   absent [] there = tt
   absent (y ∷ r) there = ((λ same. there.0 (sym (ap number same) ∙ here.0)), absent r there.1)
 
--- the hashes of the members of the first chains lead to their buckets,
+-- the hashes of the members of the first i chains lead to the first i buckets
 lead_below : (hashes : List ℕ) (buckets : List RawFront) (chains : ℕ → List Place) (i : ℕ)
     → ((j : ℕ) → j < i → AllByRecursion (BelongsIn hashes buckets j) (chains j)) → AllByRecursion (λ p. slot_of buckets (key_of hashes p) < i) (members_of chains i)
 lead_below hashes buckets chains zero each = tt
@@ -91,7 +92,7 @@ lead_below hashes buckets chains (suc i) each =
     (all_map (λ p low. omega (arith, low)) (members_of chains i) (lead_below hashes buckets chains i (λ j fits. each j (omega (arith, fits)))))
     (all_map (λ p at. omega (arith, at)) (chains i) (each i (omega arith)))
 
--- so none of them is met twice
+-- no place is in two of the first i chains, and none is in one chain twice
 all_distinct : (hashes : List ℕ) (buckets : List RawFront) (chains : ℕ → List Place) (i : ℕ) → ((j : ℕ) → j < i → IsDistinct (chains j))
     → ((j : ℕ) → j < i → AllByRecursion (BelongsIn hashes buckets j) (chains j)) → IsDistinct (members_of chains i)
 all_distinct hashes buckets chains zero each own = tt
@@ -112,7 +113,7 @@ module _ {words : List RawOne} {hashes : List ℕ} {buckets : List RawFront} whe
   checks_none = record { each = λ j fits. absurd (omega (arith, fits)); counted = refl }
 
   module _ {i count : ℕ} (k : ChecksOwn words hashes buckets i count) where
-    -- ONE CHAIN MORE
+    -- ONE MORE CHAIN IS CHECKED: if the chain in the bucket i has n members, and their hashes lead to this bucket, then i + 1 chains are checked
     one_more : {n more : ℕ} → IsRepresented (IsOwnChain words hashes buckets i) n → more ≡ count + n → ChecksOwn words hashes buckets (suc i) more
     one_more {n} {more} (s, own, many) counts =
         let here = chain_is i s own in record {
@@ -130,7 +131,7 @@ module _ {words : List RawOne} {hashes : List ℕ} {buckets : List RawFront} whe
         → ChecksOwn words hashes buckets next more
     checks_more {more = more} shown counts is_next = subst (λ (j : ℕ). ChecksOwn words hashes buckets j more) is_next (one_more shown counts)
 
-    -- few members are in all of them
+    -- the checked chains and the next chain together have at most 8,589,934,591 members
     pub few_checked : {n : ℕ} → IsRepresented (IsOwnChain words hashes buckets i) n → count + n ≤ 8589934591
     few_checked {n} shown =
         let more : ChecksOwn words hashes buckets (suc i) (count + n) = one_more shown refl in
@@ -138,7 +139,7 @@ module _ {words : List RawOne} {hashes : List ℕ} {buckets : List RawFront} whe
         (all_distinct hashes buckets (chain_in words hashes buckets) (suc i) (λ j fits. (more.each j fits).shown.distinct) (λ j fits. (more.each j fits).own)) in
         omega (arith, few, more.counted)
 
-    -- ALL OF THEM ARE CHECKED
+    -- ALL CHAINS ARE CHECKED: if i is the number of buckets, the words represent a hash table with `count` members
     pub checks_all : i ≡ length buckets → IsRepresented (HoldsByHash words hashes buckets) count
     checks_all over =
         let each : (j : ℕ) → j < length buckets → IsOwnChain words hashes buckets j (chain_in words hashes buckets j) = λ j fits. k.each j (omega (arith, fits, over)) in (
@@ -157,6 +158,6 @@ module _ {words : List RawOne} {hashes : List ℕ} {buckets : List RawFront} whe
           sym (k.counted ∙ ap (λ (n : ℕ). length (members_of (chain_in words hashes buckets) n)) over),
         )
 
-    -- none is held where the next chain is none, or has a member that belongs elsewhere
+    -- the words represent no hash table if the next chain has no end, or has a member whose hash leads to another bucket
     pub not_held : i < length buckets → RepresentsNone (IsOwnChain words hashes buckets i) → RepresentsNone (HoldsByHash words hashes buckets)
     not_held within never s held = never (held.chains i) (record { shown = held.holds.shown i within; own = held.own i within })

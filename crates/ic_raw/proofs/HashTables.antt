@@ -1,4 +1,4 @@
--- The chains of a hash table, after an edit of one of them.
+-- These lemmas say what the chains of a hash table are after an edit of one chain.
 use Rattle.std.proofs.Common.{◌≡◌, ◌≢◌, ◌<◌, ◌%◌, ℕ, inl, inr, None, List, ◌∷◌, ◌++◌, length, slice_index_or, slice_set, sym, ap, subst, ◌∙◌}
 use Rattle.std.proofs.lemmas.List.{length-set, get_or-set_same, get_or-set_other, get_or_default}
 use Rattle.std.proofs.lemmas.Bool.Decides.{eqb_tells}
@@ -12,7 +12,7 @@ use Rattle.ic_raw.specs.Hash.{slot_of, bucket_at, chain_of, HoldsChains, Changes
 use Rattle.ic_raw.specs.Singly.{RepresentsList, FreeIn, table_of, word_of_front}
 use Rattle.ic_raw.proofs.Singly.{law}
 
--- ONE BUCKET IS READ AND WRITTEN: that of the hash
+-- ONE BUCKET IS READ AND WRITTEN, to which the hash leads
 module _ (buckets : List RawFront) (hash i : ℕ) (at : i ≡ slot_of buckets hash) where
   pub chain_read : (w : RawFront) → i < length buckets → chain_of buckets hash ≡ slice_index_or buckets i w
   chain_read w fits = ap (bucket_at buckets) (sym at) ∙ get_or_default buckets i (word_of_front None) w fits
@@ -30,7 +30,8 @@ module _ (buckets : List RawFront) (hash i : ℕ) (at : i ≡ slot_of buckets ha
 
 module _ {old new : List RawOne} {buckets buckets' : List RawFront} {chains : ℕ → List Place} (holds : HoldsChains old buckets chains) (hash : ℕ)
     (within : slot_of buckets hash < length buckets) (changes : ChangesOnlyChain buckets buckets' hash) where
-  -- ONE CHAIN IS ANOTHER, and nothing but entries of `touched` has changed: no other chain has a member of either
+  -- ONE CHAIN IS REPLACED by the chain `after`, and only entries of the places `touched` have changed. The table then holds the new chains, if no
+  -- other chain has a member of `after` or `touched`
   pub holds_again : (after touched : List Place) → RepresentsList new (chain_of buckets' hash) after → ChangesOnlyIn (table_of old) (table_of new) touched
       → ((i : ℕ) → i < length buckets → i ≢ slot_of buckets hash → IsDisjoint (chains i) touched × IsDisjoint (chains i) after)
       → HoldsChains new buckets' (with_at chains (slot_of buckets hash) after)
@@ -54,7 +55,7 @@ module _ {old new : List RawOne} {buckets buckets' : List RawFront} {chains : �
     ];
   }
 
-  -- INSERT: a place that is free is in no chain
+  -- INSERT: after a free place is inserted at the front of one chain, the table holds the new chains, because a free place is in no chain
   pub holds_inserted : (p : Place) → FreeIn old p → RepresentsList new (chain_of buckets' hash) (p ∷ chains (slot_of buckets hash))
       → ChangesOnlyIn (table_of old) (table_of new) (p ∷ chains (slot_of buckets hash))
       → HoldsChains new buckets' (with_at chains (slot_of buckets hash) (p ∷ chains (slot_of buckets hash)))
@@ -62,7 +63,7 @@ module _ {old new : List RawOne} {buckets buckets' : List RawFront} {chains : �
       let away = disjoint_cons p (chains i) (chains (slot_of buckets hash)) (free_absent law (holds.shown i fits) free.unlinked) (holds.apart i (slot_of buckets hash) fits within other) in
       (away, away))
 
-  -- REMOVE
+  -- REMOVE: after a member is removed from its chain, the table holds the remaining chains
   pub holds_removed : (front back : List Place) (p : Place) → chains (slot_of buckets hash) ≡ front ++ p ∷ back → RepresentsList new (chain_of buckets' hash) (front ++ back)
       → ChangesOnlyIn (table_of old) (table_of new) (front ++ p ∷ back) → HoldsChains new buckets' (with_at chains (slot_of buckets hash) (front ++ back))
   holds_removed front back p is shows frame = holds_again (front ++ back) (front ++ p ∷ back) shows frame (λ i fits other.

@@ -1,4 +1,4 @@
--- A walk along a chain of a hash table, with a bound on its steps.
+-- These lemmas follow a walk along a chain of a hash table, with a bound on its steps.
 use Rattle.std.proofs.Common.{◌≡◌, ◌≢◌, ◌≤◌, ◌-◌, ℕ, inl, inr, Bool, true, false, Option, Some, None, List, [], ◌∷◌, ◌++◌, drop, length, length-append, append_assoc, refl, sym, ap, ◌∙◌, subst, arith}
 use Rattle.std.specs.List.{AllByRecursion}
 use Rattle.std.proofs.lemmas.Bool.Decides.{eqb_tells}
@@ -23,12 +23,12 @@ use Rattle.ic_raw.specs.Tables.{raw_entries}
 use Rattle.ic_raw.specs.Words.{is_linked_one, no_word, HasNumber}
 use Rattle.ic_raw.proofs.Singly.{after_any, ended_distinct, leads_on, ends_there}
 
--- THE WALK HAS COME to `current`, past members of s that fail a test, of which `before` is the last. No more members are left than steps
+-- THE WALK HAS COME to `current`, past members of s that fail the test `is`, of which `before` is the last. At most `left` members of s remain
 pub record Comes (is : Place → Bool) (t : Table RawOne) (s : List Place) (before current : Option Place) (left : ℕ) : Type 0 where
   pub passed : HasPassed (IsFollowed successor) is t s before current
   pub few : length passed.walk.rest ≤ left
 
--- another key than that which is searched
+-- if the key of a place is not the searched key, the test for this key fails at the place
 pub other_key : (keys : List ℕ) (key : ℕ) (p : Place) → key_of keys p ≢ key → has_key keys key p ≡ false
 other_key keys key p other = elim (eqb_tells (key_of keys p) key) [ inl e ↦ absurd (other e.1) | inr n ↦ n.0 ]
 
@@ -46,37 +46,37 @@ module _ {is : Place → Bool} {t : Table RawOne} {s : List Place} where
       }
 
   module _ {before : Option Place} {p : Place} {left : ℕ} (k : Comes is t s before (Some p) left) where
-    -- a member is linked,
+    -- the member to which a walk has come is linked
     pub comes_linked : is_linked_one (t.entry p) ≡ true
     comes_linked = (next_between k.passed.walk).linked
 
-    -- and before it stand those that fail
+    -- the sequence s consists of the members that have failed the test, the member to which the walk has come, and the members after it
     pub comes_parts : s ≡ k.passed.walk.done ++ p ∷ drop 1 k.passed.walk.rest
     comes_parts = k.passed.walk.parts ∙ ap (λ (l : List Place). k.passed.walk.done ++ l) (first_is k.passed.walk.rest k.passed.walk.at)
 
-    -- ONE MEMBER ON, which fails
+    -- THE WALK GOES ON BY ONE MEMBER, which fails the test
     pub comes_on : {next : Option Place} → IsDistinct s → is p ≡ false → next ≡ (successor_at successor t p).next → Comes is t s (Some p) next (left - 1)
     comes_on d fails after =
         let more = passed_more d k.passed fails (after ∙ (next_between k.passed.walk).next) in
         record { passed = more.0; few = omega (arith, k.few, ap length {y = p ∷ more.0.walk.rest} more.1) }
 
-    -- THE FIRST MEMBER THAT PASSES
+    -- THE WALK HAS FOUND the first member of s that passes the test
     pub comes_found : is p ≡ true → Finds is s (Some p)
     comes_found passes = (k.passed.walk.done, drop 1 k.passed.walk.rest, comes_parts, k.passed.passed, passes)
 
-  -- it is over where no step is left, and then all fail
+  -- if no step is left, the walk has come to the end of the list, and all members of the list have failed the test
   pub comes_over : {before current : Option Place} {left : ℕ} → Comes is t s before current left → left ≤ 0 → current ≡ None
   comes_over k over = k.passed.walk.at ∙ none_left k.passed.walk.rest (omega (arith, k.few, over))
 
   pub comes_to_none : {before current : Option Place} {left : ℕ} → Comes is t s before current left → current ≡ None → Finds is s None
   comes_to_none k over = subst (AllByRecursion (λ p. is p ≡ false)) (releases_all k.passed.walk over) k.passed.passed
 
--- A PLACE IS WALKED TO: it is a member,
+-- A WALK SEARCHES A PLACE: if it comes to the place, the place is a member of the list
 module _ {t : Table RawOne} (member : Place) where
   pub met : {s : List Place} {before : Option Place} {p : Place} {left : ℕ} → Comes (is_place member) t s before (Some p) left → p ≡ member → IsMember member s
   met k same = subst (IsMember member) (sym (comes_parts k ∙ ap (λ (q : Place). k.passed.walk.done ++ q ∷ drop 1 k.passed.walk.rest) same)) (split_member k.passed.walk.done member (drop 1 k.passed.walk.rest))
 
-  -- after the last of those before it,
+  -- if a walk comes to the searched member, `before` is the last of the members before it
   pub met_after : (ahead back : List Place) {before : Option Place} {p : Place} {left : ℕ} → IsDistinct (ahead ++ member ∷ back)
       → Comes (is_place member) t (ahead ++ member ∷ back) before (Some p) left → p ≡ member → before ≡ last ahead
   met_after ahead back d k same =
@@ -89,11 +89,11 @@ module _ {t : Table RawOne} (member : Place) where
       (subst IsDistinct (sym one) d) (one ∙ whole ∙ sym other) (last_of_push ahead member ∙ sym (last_of_push done member))).0 in
       k.passed.keeps ∙ ap last (sym (but_last_of_push done member) ∙ ap but_last (sym fronts) ∙ but_last_of_push ahead member)
 
-  -- and no walk to it comes to an end
+  -- a walk to a member of the list does not come to the end of the list
   pub not_missed : (ahead back : List Place) {before current : Option Place} {left : ℕ} → Comes (is_place member) t (ahead ++ member ∷ back) before current left → current ≡ None → ⊥
   not_missed ahead back k over = split_member ahead member back (place_absent member (ahead ++ member ∷ back) (comes_to_none k over))
 
--- BEHIND A MEMBER stands a list of its own: no entry says what stands before its place
+-- THE MEMBERS AFTER A MEMBER are a list of their own, because no entry names the place before its place
 pub represented_after : {t : Table RawOne} {list : Front} (front : List Place) (p : Place) (back : List Place) → Represents t list (front ++ p ∷ back)
     → Represents t (list_from (successor_at successor t p).next) back
 represented_after {t} front p back shown =
@@ -105,14 +105,14 @@ represented_after {t} front p back shown =
       tail = refl;
     }
 
--- and where the places after a linked one are a list, they are one with it at the front
+-- if the places after a linked place are a list, the linked place and these places are a list
 pub represented_from : {t : Table RawOne} (p : Place) (s : List Place) → is_linked_one (t.entry p) ≡ true → Represents t (list_from (successor_at successor t p).next) s
     → Represents t (list_from (Some p)) (p ∷ s)
 represented_from {t} p s linked shown =
     let chain : IsChain (IsFollowed successor) t.entry None (p ∷ s) None = (record { linked = linked; next = shown.head }, after_any t.entry None (Some p) s None shown.chain) in
     record { distinct = ended_distinct t.entry None (p ∷ s) chain; chain = chain; head = refl; tail = refl }
 
--- THE PLACES FROM `front` ON LEAD TO `current`, and where that is none they are a list
+-- THE LINKS LEAD FROM `front` TO `current`. If `current` is none, the places from `front` on are a list
 abbrev pub WalksTo : Table RawOne → Option Place → Option Place → Type 0
 WalksTo t front None = (s : List Place) × Represents t (list_from front) s
 WalksTo t front (Some at) = LeadsFrom t front at
@@ -126,7 +126,7 @@ pub walks_on : {t : Table RawOne} {front : Option Place} {at : Place} (next : Op
 walks_on None walks linked is = let whole = ends_there walks.leads linked is in rw walks.is (whole.0, whole.1)
 walks_on (Some next) walks linked is = record { begin = walks.begin; is = walks.is; leads = leads_on walks.leads linked is }
 
--- what is named in the view is named among the words
+-- if a number names a member with the searched key in a view, it does so in the words that the caller lent
 pub names_back : {words : List RawOne} {front front' : Option Place} (t : RawTable RawOne) (keys : List ℕ) (key number : ℕ) → raw_entries t ≡ words → front ≡ front'
     → (q : Place) × IsLinked is_linked_one (lent_table t) q × (has_key keys key q ≡ true) × HasNumber q number × LeadsFrom (lent_table t) front q
     → NamesKey words front' keys key number

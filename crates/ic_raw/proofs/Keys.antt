@@ -1,4 +1,4 @@
--- Members that searches find.
+-- These lemmas say which members a search by a key finds.
 use Rattle.std.proofs.Common.{◌≡◌, ◌≢◌, ℕ, ◌+◌, ◌<◌, ◌≤◌, Bool, true, false, not, cond, Option, Some, None, List, [], ◌∷◌, ◌++◌, length, refl, sym, ap, ◌∙◌, subst, arith}
 use Rattle.std.proofs.lemmas.Bool.{ltb-true, lt-ltb, le-ltb}
 use Rattle.std.specs.Ordering.{is_eq, is_lt, is_ge}
@@ -23,7 +23,7 @@ use Rattle.ic_rbtree.specs.declared.keys.descent.Descent.{Descent}
 use Rattle.ic_rbtree.proofs.Gaps.{gap_join, gap_border}
 use Rattle.ic_rbtree.proofs.Sending.{Sent, not_ge, sent_first, sent_on, sent_ends}
 use Rattle.ic_raw.specs.declared.words.RawThree.{RawThree}
-use Rattle.ic_raw.specs.declared.search.Way.{Way}
+use Rattle.ic_raw.specs.declared.search.InsertPos.{InsertPos}
 use Rattle.ic_raw.specs.declared.search.Target.{Target}
 use Rattle.ic_raw.specs.declared.search.Target.TheVariants.{Equal, AtLeast, AtMost}
 use Rattle.ic_raw.specs.Gaps.{IsNoneOrLinked}
@@ -36,12 +36,13 @@ use Rattle.ic_raw.specs.Tree.{Represents, IsInsertPos, lent_table, table_of}
 use Rattle.ic_raw.specs.Words.{is_linked_three, no_tree_words}
 use Rattle.ic_raw.proofs.Trees.{beside_stands, child_in, hole_told, seen_represents}
 
--- each place of the table has a key
+-- if there are at least as many keys as places, each place of the table has a key
 pub keyed : (t : Table RawThree) (keys : List ℕ) → t.extent.places ≤ length keys → (p : Place) → has_place t p ≡ true → is_placed (at_indexes keys) p ≡ true
 keyed t keys enough p has = let covered = ltb-true (index_of p) t.extent.places has in placed_in_range keys p (omega (arith, covered, enough))
 
--- ON THE WAY: the search has come to `here`, past so many members, as a descent with the same ends has
-pub record Comes (t : Table RawThree) (root : Option Place) (at : Place → Ordering) (equals : Side) (tree : Tree) (here : Option Place) (way : Way) (looks : ℕ) : Type 0 where
+-- ON THE WAY: the search has come to `here`, past `looks` members. A descent of `ic_rbtree` with the parent, side and neighbors of this way has come
+-- to `here`
+pub record Comes (t : Table RawThree) (root : Option Place) (at : Place → Ordering) (equals : Side) (tree : Tree) (here : Option Place) (way : InsertPos) (looks : ℕ) : Type 0 where
   pub descent : Descent
   pub sent : Sent seen_node (seen t) root at equals tree here descent 0 looks
   pub parent : way.parent ≡ descent.parent
@@ -50,48 +51,48 @@ pub record Comes (t : Table RawThree) (root : Option Place) (at : Place → Orde
   pub back : way.back ≡ descent.back
 
 module _ (t : Table RawThree) {root : Option Place} {at : Place → Ordering} {equals : Side} where
-  pub comes_first : {s : List Place} {way : Way} {here : Option Place} → way ≡ at_root → here ≡ root → (h : trees.Represents seen_node (seen t) root s) → Comes t root at equals h.tree here way 0
+  pub comes_first : {s : List Place} {way : InsertPos} {here : Option Place} → way ≡ at_root → here ≡ root → (h : trees.Represents seen_node (seen t) root s) → Comes t root at equals h.tree here way 0
   comes_first is top h = record {
     descent = descents.at_root;
     sent = subst (λ o. Sent seen_node (seen t) root at equals h.tree o descents.at_root 0 0) (sym top) (sent_first seen_node refl 0 h);
-    parent = ap (λ (w : Way). w.parent) is;
-    side = ap (λ (w : Way). w.side) is;
-    front = ap (λ (w : Way). w.front) is;
-    back = ap (λ (w : Way). w.back) is;
+    parent = ap (λ (w : InsertPos). w.parent) is;
+    side = ap (λ (w : InsertPos). w.side) is;
+    front = ap (λ (w : InsertPos). w.front) is;
+    back = ap (λ (w : InsertPos). w.back) is;
   }
 
-  module _ {tree : Tree} {way : Way} {p : Place} {looks : ℕ} (x : Comes t root at equals tree (Some p) way looks) where
-    -- past one more member
-    pub comes_on : {next : Option Place} {way' : Way} {more : ℕ} {order : Ordering} (left : Bool) → way' ≡ past way p left → order ≡ at p → left ≡ goes_left equals order
+  module _ {tree : Tree} {way : InsertPos} {p : Place} {looks : ℕ} (x : Comes t root at equals tree (Some p) way looks) where
+    -- the search goes on past one more member, to the child on the side that the comparison gives
+    pub comes_on : {next : Option Place} {way' : InsertPos} {more : ℕ} {order : Ordering} (left : Bool) → way' ≡ past way p left → order ≡ at p → left ≡ goes_left equals order
         → next ≡ child_on (side_of left) (seen_node ((seen t).entry p)) → more ≡ looks + 1 → Comes t root at equals tree next way' more
     comes_on {next} {way'} {more} {order} left is there goes below counted = by left is (sent_on seen_node x.sent refl left refl there goes refl below counted) where
       by : (left : Bool) → way' ≡ past way p left → Sent seen_node (seen t) root at equals tree next (passed x.descent p left (is_eq order)) 0 more → Comes t root at equals tree next way' more
-      by true e sent = record { descent = passed x.descent p true (is_eq order); sent = sent; parent = ap (λ (w : Way). w.parent) e; side = ap (λ (w : Way). w.side) e; front = ap (λ (w : Way). w.front) e ∙ x.front; back = ap (λ (w : Way). w.back) e }
-      by false e sent = record { descent = passed x.descent p false (is_eq order); sent = sent; parent = ap (λ (w : Way). w.parent) e; side = ap (λ (w : Way). w.side) e; front = ap (λ (w : Way). w.front) e; back = ap (λ (w : Way). w.back) e ∙ x.back }
+      by true e sent = record { descent = passed x.descent p true (is_eq order); sent = sent; parent = ap (λ (w : InsertPos). w.parent) e; side = ap (λ (w : InsertPos). w.side) e; front = ap (λ (w : InsertPos). w.front) e ∙ x.front; back = ap (λ (w : InsertPos). w.back) e }
+      by false e sent = record { descent = passed x.descent p false (is_eq order); sent = sent; parent = ap (λ (w : InsertPos). w.parent) e; side = ap (λ (w : InsertPos). w.side) e; front = ap (λ (w : InsertPos). w.front) e; back = ap (λ (w : InsertPos). w.back) e ∙ x.back }
 
-  -- at the end
-  pub comes_to_end : {tree : Tree} {here : Option Place} {way : Way} {looks : ℕ} → Comes t root at equals tree here way looks → here ≡ None → EndsIn t (gap_in (λ p. goes_left equals (at p)) tree) way
+  -- if the search comes to no place, its way ends in the gap that the comparisons give
+  pub comes_to_end : {tree : Tree} {here : Option Place} {way : InsertPos} {looks : ℕ} → Comes t root at equals tree here way looks → here ≡ None → EndsIn t (gap_in (λ p. goes_left equals (at p)) tree) way
   comes_to_end {tree} x none =
       let ends = sent_ends seen_node x.sent none in
       record {
-        hole = rw (x.parent, x.side) ends.hole;
+        hole = rw (x.parent, x.side) ends.insert_pos;
         front_is = x.front ∙ ends.front_is;
         back_is = x.back ∙ ends.back_is;
       }
 
--- so the way that is handed out ends, on a known side of equal keys
-pub ends_at : {t : Table RawThree} (tree : Tree) (at : Place → Ordering) {equals side : Side} {way : Way} {result : Option Way}
-    → (w : Way) × (result ≡ Some w) × EndsIn t (gap_in (λ p. goes_left equals (at p)) tree) w → result ≡ Some way → equals ≡ side
+-- the way that a search returns ends in the gap that the comparisons give, where `side` is the side to which it goes at equal keys
+pub ends_at : {t : Table RawThree} (tree : Tree) (at : Place → Ordering) {equals side : Side} {way : InsertPos} {result : Option InsertPos}
+    → (w : InsertPos) × (result ≡ Some w) × EndsIn t (gap_in (λ p. goes_left equals (at p)) tree) w → result ≡ Some way → equals ≡ side
     → EndsIn t (gap_in (λ p. goes_left side (at p)) tree) way
 ends_at {t} tree at {side = side} ends is same =
-    subst (λ (w : Way). EndsIn t (gap_in (λ p. goes_left side (at p)) tree) w) (some_same (sym ends.1 ∙ is))
+    subst (λ (w : InsertPos). EndsIn t (gap_in (λ p. goes_left side (at p)) tree) w) (some_same (sym ends.1 ∙ is))
     (subst (λ (s : Side). EndsIn t (gap_in (λ p. goes_left s (at p)) tree) ends.0) same ends.2)
 
 pub is_some : {W : Type 0} {way : W} {result : Option W} → result ≡ Some way → result ≢ None
 is_some {way = way} is none = none_not way (sym none ∙ is)
 
--- THE FOUND MEMBER is the one after the gap, if its key is equal
-pub finds : {t : Table RawThree} {root : Option Place} {at : Place → Ordering} {s : List Place} (h : trees.Represents seen_node (seen t) root s) {way : Way} → EndsIn t (gap_in (at_most_at at) h.tree) way
+-- THE FOUND MEMBER is the member after the gap, if its key is equal to the searched key
+pub finds : {t : Table RawThree} {root : Option Place} {at : Place → Ordering} {s : List Place} (h : trees.Represents seen_node (seen t) root s) {way : InsertPos} → EndsIn t (gap_in (at_most_at at) h.tree) way
     → {result : Option Place} → result ≡ if_passes (equal_at at) way.back → Finds at s result
 finds {at = at} h ends is = record {
   gap = gap_in (at_most_at at) h.tree;
@@ -100,19 +101,19 @@ finds {at = at} h ends is = record {
   answer = is ∙ ap (if_passes (equal_at at)) ends.back_is;
 }
 
--- all that a way keeps is in a set, and so it is past one more place of it
-pub past_within : (S : Place → Bool) (way : Way) (p : Place) (left : Bool) → S p ≡ true → AreIn S (way.parent ∷ way.front ∷ way.back ∷ [])
+-- if a set has the places of a way and one more place p, it has the places of the way that has passed p
+pub past_within : (S : Place → Bool) (way : InsertPos) (p : Place) (left : Bool) → S p ≡ true → AreIn S (way.parent ∷ way.front ∷ way.back ∷ [])
     → AreIn S ((past way p left).parent ∷ (past way p left).front ∷ (past way p left).back ∷ [])
 past_within S way p true here ends = (here, (ends.1.0, (here, tt)))
 past_within S way p false here ends = (here, (here, (ends.1.1.0, tt)))
 
--- A WAY GOES ON DOWN, by one place more
+-- A WAY GOES ON DOWN past one more place p, to the child of p on the side that `left` gives
 pub down_on : (t : Table Seen) (left : Place → Bool) (from : Option Place) (w : List Place) (p : Place) (next : Option Place) → LeadsDown t left from w (Some p)
     → child_on (side_of (left p)) (seen_node (t.entry p)) ≡ next → LeadsDown t left from (w ++ p ∷ []) next
 down_on t left from [] p next way is = (way, is)
 down_on t left from (x ∷ w) p next way is = (way.0, down_on t left (child_on (side_of (left x)) (seen_node (t.entry x))) w p next way.1 is)
 
--- and so it does past a place at which a search has looked
+-- a way down from the root goes on past a place at which the search has compared the keys
 pub down_past : (t : Table Seen) (at : Place → Ordering) (equals : Side) {root : Option Place} {p : Place} {left : Bool} {order : Ordering} {next : Option Place}
     → (w : List Place) × LeadsDown t (λ q. goes_left equals (at q)) root w (Some p) → left ≡ goes_left equals order → order ≡ at p
     → next ≡ child_on (side_of left) (seen_node (t.entry p)) → (w : List Place) × LeadsDown t (λ q. goes_left equals (at q)) root w next
@@ -121,42 +122,42 @@ down_past t at equals {root} {p} {next = next} way goes is below = (
   down_on t (λ q. goes_left equals (at q)) root way.0 p next way.1 (ap (λ b. child_on (side_of b) (seen_node (t.entry p))) (sym (goes ∙ ap (goes_left equals) is)) ∙ sym below),
 )
 
--- A WAY FROM THE ROOT has turned nowhere yet, and then past one more member to the side that the test says
-pub turned_nowhere : (left : Place → Bool) {way : Way} → way ≡ at_root → HasTurned left way
+-- A WAY FROM THE ROOT agrees with the comparisons at its start, and after each member that it passes on the side that the comparison gives
+pub turned_nowhere : (left : Place → Bool) {way : InsertPos} → way ≡ at_root → HasTurned left way
 turned_nowhere left is = record {
-  front = λ q e. absurd (none_not q (sym (ap (λ (w : Way). w.front) is) ∙ e));
-  back = λ q e. absurd (none_not q (sym (ap (λ (w : Way). w.back) is) ∙ e));
+  front = λ q e. absurd (none_not q (sym (ap (λ (w : InsertPos). w.front) is) ∙ e));
+  back = λ q e. absurd (none_not q (sym (ap (λ (w : InsertPos). w.back) is) ∙ e));
 }
 
-pub turned_on : (left : Place → Bool) (way : Way) (p : Place) (to_left : Bool) → to_left ≡ left p → HasTurned left way → HasTurned left (past way p to_left)
+pub turned_on : (left : Place → Bool) (way : InsertPos) (p : Place) (to_left : Bool) → to_left ≡ left p → HasTurned left way → HasTurned left (past way p to_left)
 turned_on left way p true same was = record { front = was.front; back = λ q e. subst (λ r. left r ≡ true) (some_same e) (sym same) }
 turned_on left way p false same was = record { front = λ q e. subst (λ r. left r ≡ false) (some_same e) (sym same); back = was.back }
 
--- A SEARCH IS AT A PLACE of the table, past so many members, on the way down from the root
-pub record IsAt (t : Table RawThree) (root : Option Place) (at : Place → Ordering) (equals : Side) (way : Way) (p : Place) (looks : ℕ) : Type 0 where
+-- A SEARCH IS AT A PLACE of the table, past `looks` members, on the way down from the root
+pub record IsAt (t : Table RawThree) (root : Option Place) (at : Place → Ordering) (equals : Side) (way : InsertPos) (p : Place) (looks : ℕ) : Type 0 where
   pub each : (s : List Place) (h : trees.Represents seen_node (seen t) root s) → Comes t root at equals h.tree (Some p) way looks
   pub down : (w : List Place) × LeadsDown (seen t) (λ q. goes_left equals (at q)) root w (Some p)
   pub turned : HasTurned (λ q. goes_left equals (at q)) way
   pub here : has_place t p ≡ true
   pub inside : (S : Place → Bool) → IsClosed seen_node (seen t) root S → (S p ≡ true) × AreIn S (way.parent ∷ way.front ∷ way.back ∷ [])
 
--- THE WAY IS AT ITS END, with all that a search tells of it
-pub record IsDown (t : Table RawThree) (root : Option Place) (at : Place → Ordering) (equals : Side) (way : Way) : Type 0 where
+-- THE WAY IS AT ITS END: the record has all facts that a search shows of its way
+pub record IsDown (t : Table RawThree) (root : Option Place) (at : Place → Ordering) (equals : Side) (way : InsertPos) : Type 0 where
   pub ends : (s : List Place) (h : trees.Represents seen_node (seen t) root s) → EndsIn t (gap_in (λ q. goes_left equals (at q)) h.tree) way
   pub down : EndsBelow (seen t) (λ q. goes_left equals (at q)) root
   pub turned : HasTurned (λ q. goes_left equals (at q)) way
   pub within : (S : Place → Bool) → IsClosed seen_node (seen t) root S → AreIn S (way.parent ∷ way.front ∷ way.back ∷ [])
 
-module _ {t : Table RawThree} {root : Option Place} {at : Place → Ordering} {equals : Side} {way way' : Way} {p : Place} {looks : ℕ} (x : IsAt t root at equals way p looks)
+module _ {t : Table RawThree} {root : Option Place} {at : Place → Ordering} {equals : Side} {way way' : InsertPos} {p : Place} {looks : ℕ} (x : IsAt t root at equals way p looks)
     (is : way' ≡ past way p (goes_left equals (at p))) where
-  -- what the search keeps on the way, past one more place
+  -- what holds of the way of a search also holds after the way has passed one more place
   turns : HasTurned (λ q. goes_left equals (at q)) way'
   turns = rw is (turned_on (λ q. goes_left equals (at q)) way p (goes_left equals (at p)) refl x.turned)
 
   keeps : (S : Place → Bool) → IsClosed seen_node (seen t) root S → AreIn S (way'.parent ∷ way'.front ∷ way'.back ∷ [])
   keeps S h = let was = x.inside S h in rw is (past_within S way p (goes_left equals (at p)) was.0 was.1)
 
-  -- it looks at the place, and goes on
+  -- the search compares the key of the place, and goes on to the child on the side that the comparison gives
   pub at_next : {next : Place} → child_on (side_of (goes_left equals (at p))) (seen_node ((seen t).entry p)) ≡ Some next → IsAt t root at equals way' next (looks + 1)
   at_next {next} below = record {
     each = λ s h. comes_on t (x.each s h) (goes_left equals (at p)) is refl refl (sym below) refl;
@@ -166,7 +167,7 @@ module _ {t : Table RawThree} {root : Option Place} {at : Place → Ordering} {e
     inside = λ S h. (in_there S (sets.child_in seen_node h (side_of (goes_left equals (at p))) p (x.inside S h).0 (none_not p)) below, keeps S h);
   }
 
-  -- or comes to the end
+  -- the search comes to its end, if the place has no child on the side that the comparison gives
   pub at_end : child_on (side_of (goes_left equals (at p))) (seen_node ((seen t).entry p)) ≡ None → IsDown t root at equals way'
   at_end below = record {
     ends = λ s h. comes_to_end t (comes_on t (x.each s h) (goes_left equals (at p)) is refl refl (sym below) refl) refl;
@@ -175,33 +176,33 @@ module _ {t : Table RawThree} {root : Option Place} {at : Place → Ordering} {e
     within = keeps;
   }
 
--- a key that is not less is at least as great
+-- a key that is not less than a second key is equal to it or greater
 pub at_least : (order : Ordering) → is_lt order ≡ false → is_ge order ≡ true
 at_least order e = pick (is_ge order) (sym (not_ge order) ∙ e) where
   pick : (b : Bool) → not b ≡ false → b ≡ true
   pick true e = refl
   pick false e = cc
 
--- what is searched in the view is so among the words
+-- if a number names a member that meets the target in a view, it does so in the words that the caller lent
 pub target_back : {es : List RawThree} (t : RawTable RawThree) (target : Target) (keys : List ℕ) (key number : ℕ) → raw_entries t ≡ es
     → NamesTarget target keys key (lent_table t) number → NamesTarget target keys key (table_of es) number
 target_back t target keys key number e names = (names.0, ap (λ es. is_linked_three (entry_at no_tree_words es names.0)) (sym e) ∙ names.1, names.2, names.3)
 
--- what ends in the view ends among the words
+-- if a search comes to an end in a view, it comes to an end in the words that the caller lent
 pub ends_back : {es : List RawThree} (t : RawTable RawThree) (target : Target) (keys : List ℕ) (key : ℕ) {root : Option Place} → raw_entries t ≡ es
     → SearchEnds target keys key (lent_table t) root → SearchEnds target keys key (table_of es) root
 ends_back t target keys key {root} e ends =
     let back : SearchEnds target keys key (table_of (raw_entries t)) root = ends in
     subst (λ es. SearchEnds target keys key (table_of es) root) e back
 
--- there are too few keys, or enough
+-- if there are fewer keys than places, the fault of the keys is 1. If there are enough keys, their fault is 0
 pub lacking : (keys : List ℕ) (places : ℕ) → length keys < places → 1 ≡ keys_fault keys places
 lacking keys places few = ap (λ b. cond b 1 0) (sym (lt-ltb (length keys) places few))
 
 pub enough : (keys : List ℕ) (places : ℕ) → places ≤ length keys → 0 ≡ keys_fault keys places
 enough keys places all = ap (λ b. cond b 1 0) (sym (le-ltb (length keys) places all))
 
--- a place that passes is the one that is tested
+-- if a place passes the test of an option, it is the place in the option
 passes : (test : Place → Bool) (o : Option Place) (q : Place) → if_passes test o ≡ Some q → o ≡ Some q
 passes test None q e = e
 passes test (Some p) q e = pick (test p) e where
@@ -209,7 +210,7 @@ passes test (Some p) q e = pick (test p) e where
   pick true e = e
   pick false e = cc
 
--- a member that is searched is linked
+-- the member that a target means is linked, or there is none
 pub target_stands : {t : Table RawThree} {root : Option Place} {s : List Place} (target : Target) (at : Place → Ordering) → Represents t root s → {position : Option Place} → IsTarget target at s position
     → IsNoneOrLinked is_linked_three t position
 target_stands {t} {root} Equal at shown f =
@@ -217,7 +218,7 @@ target_stands {t} {root} Equal at shown f =
 target_stands {t} {root} AtLeast at shown b = beside_stands Left b.gap (subst (Represents t root) (sym b.same) shown) b.before
 target_stands {t} {root} AtMost at shown b = beside_stands Right b.gap (subst (Represents t root) (sym b.same) shown) b.after
 
--- A PLACE FITS into a gap where a search past equal keys ends
+-- A PLACE FITS into a gap of the tree: the members before the gap have a key that is not greater, and the members after it have a greater key
 pub record Fits (t : Table RawThree) (root : Option Place) (at : Place → Ordering) (s : List Place) (side : Side) (parent : Option Place) : Type 0 where
   pub gap : Cut
   pub same : join gap ≡ s
@@ -225,7 +226,7 @@ pub record Fits (t : Table RawThree) (root : Option Place) (at : Place → Order
   pub shown : Represents t root (join gap)
   pub hole : IsInsertPos side t parent gap
 
-pub fits : (t : Table RawThree) → ((q : Place) → is_linked_three (t.entry q) ≡ true → IsCovered t q) → {root parent : Option Place} {at : Place → Ordering} {s : List Place} (way : Way)
+pub fits : (t : Table RawThree) → ((q : Place) → is_linked_three (t.entry q) ≡ true → IsCovered t q) → {root parent : Option Place} {at : Place → Ordering} {s : List Place} (way : InsertPos)
     → Represents t root s → parent ≡ way.parent → ((s : List Place) (h : trees.Represents seen_node (seen t) root s) → EndsIn t (gap_in (less_at at) h.tree) way) → Fits t root at s way.side parent
 fits t law {root} {parent} {at} {s} way shown is ends =
     let h = seen_represents t law shown in

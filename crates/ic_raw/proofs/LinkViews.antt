@@ -1,4 +1,4 @@
--- What holds of a view of doubly linked places holds of the words that were lent, whatever their width.
+-- If a statement holds of a view of doubly linked places, it holds of the words that the caller lent, which have 8 bytes or 4 bytes each.
 use Rattle.std.proofs.Common.{◌≡◌, false, List, [], Option, ap}
 use Rattle.ic_link_ops.specs.Prelude.{Place, Cut, Table, index_of, IsLinked, IsNameable, ChangesOnlyIn, IsUnlinked, LinkStep}
 use Rattle.ic_link_ops.specs.declared.link.Words as of_words
@@ -17,7 +17,7 @@ use Rattle.ic_raw.specs.Tables.{raw_entries, IsFree}
 use Rattle.ic_raw.specs.Touches.{Touches}
 use Rattle.ic_raw.proofs.Views as views
 
--- the members of `PrevPlace` and of the traits above it, as a proof has them
+-- `link_words` is the record of the ghost members of `PrevPlace` and of the traits above it
 abbrev pub link_words : {W : Type 0} → of_words.Ghosts W → of_next.Ghosts W → of_prev.Ghosts W → LinkWords W
 link_words words next prev = record {
   unlinked = words.unlinked;
@@ -29,7 +29,7 @@ link_words words next prev = record {
 }
 
 module _ {W : Type 0} (words : LinkWords W) where
-  -- THE WORDS HAVE ROOM FOR THE NAME OF A LINKED PLACE
+  -- THE WORDS CAN NAME EACH LINKED PLACE
   pub linked_has_room : words.is_linked words.unlinked ≡ false → (t : RawTable W) (p : Place) → IsLinked words.is_linked (lent_table words t) p → HasRoom words.width p
   linked_has_room starts t p linked =
       nameable_has_room words.width (raw_entries t) p (linked_in_range words.is_linked words.unlinked starts (nameable words.width (raw_entries t)) (index_of p) linked)
@@ -38,23 +38,23 @@ module _ {W : Type 0} (words : LinkWords W) where
       → ChangesOnlyIn (table_of words (raw_entries a)) (table_of words (raw_entries b)) s
   frame_back a b f = record { extent = ap (λ e. record { places = e.places; identity = [] }) f.extent; others = f.others }
 
-  -- what is free among the words is free in the view
+  -- if a place is free in the words that the caller lent, it is free in their view
   pub free_viewed : {es : List W} (t : RawTable W) {p : Place} → raw_entries t ≡ es → FreeIn words es p → IsFree words.is_linked (lent_table words t) p
   free_viewed t {p} e free =
       let same : FreeIn words (raw_entries t) p = rw e free in record { covered = same.covered; unlinked = same.unlinked }
 
-  -- and the other way round
+  -- if a place is free in a view, it is free in the words that the caller lent
   pub free_back : {es : List W} (t : RawTable W) {p : Place} → raw_entries t ≡ es → IsFree words.is_linked (lent_table words t) p → FreeIn words es p
   free_back t {p} e free =
       let back : FreeIn words (raw_entries t) p = record { covered = free.covered; unlinked = free.unlinked } in rw (← e) back
 
-  -- what is unlinked in the view is unlinked among the words
+  -- if a place is unlinked in a view, it is unlinked in the words that the caller lent
   pub unlinked_back : (b : RawTable W) {fs : List W} (p : Place) → fs ≡ raw_entries b → IsUnlinked words.is_linked (lent_table words b) p
       → IsUnlinked words.is_linked (table_of words fs) p
   unlinked_back b p f off =
       let back : IsUnlinked words.is_linked (table_of words (raw_entries b)) p = off in rw f back
 
-  -- what a view touches is touched among the words
+  -- what an edit touches in a view is what it touches in the words that the caller lent
   pub touched_back : (a b : RawTable W) {es fs : List W} {steps : List LinkStep} {places places' : List (Option Place)} → raw_entries a ≡ es → fs ≡ raw_entries b
       → places' ≡ places → Touches words.is_linked (lent_table words a) (lent_table words b) steps places
       → Touches words.is_linked (table_of words es) (table_of words fs) steps places'
@@ -63,16 +63,16 @@ module _ {W : Type 0} (words : LinkWords W) where
       record { steps_are = trace_within words.is_linked _ _ steps _ _ touched.steps_are; others = touched.others } in
       rw (← e, f, same) back
 
-  -- and so for each end that is none or a linked place
+  -- the words can name an end that is none or a linked place
   pub end_has_room : words.is_linked words.unlinked ≡ false → (t : RawTable W) (at : Option Place) → IsNoneOrLinked words.is_linked (lent_table words t) at
       → IsNameable (HasRoom words.width) at
   end_has_room starts t at stands = end_named (HasRoom words.width) at (λ q e. linked_has_room starts t q (stands q e))
 
-  -- THE PLACES FOR WHICH THE WORDS HAVE ROOM, as a view of their own: what is proved of views of any words holds of it
+  -- A VIEW OF THE PLACES THAT THE WORDS CAN NAME is a view of its own, so that all lemmas about views hold of it
   abbrev pub nameable_view : RawTable W → RawTable W
   nameable_view t = record { entries = record { ref_ptr = t.entries.ref_ptr; ghost_name = t.entries.ghost_name; now = nameable words.width (raw_entries t) } }
 
-  -- `kept`: a sequence stays where no entry changes
+  -- `kept` says that a table still represents a sequence if none of its entries changes
   module _ {H : Type 0} {Represents : Table W → H → List Place → Type 0}
       (kept : (t u : Table W) (h : H) (s : List Place) → Represents t h s → ((q : Place) → u.entry q ≡ t.entry q) → Represents u h s) where
     pub viewed : {es : List W} (t : RawTable W) {h : H} {s : List Place} → raw_entries t ≡ es → Represents (table_of words es) h s → Represents (lent_table words t) h s

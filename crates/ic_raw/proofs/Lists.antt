@@ -1,4 +1,4 @@
--- What calls of a list of whatever kind read of what is represented, and what the calls give that edit it.
+-- These lemmas hold for every kind of lists. They say what a call reads from the words, and what an edit of the list results in.
 use Rattle.std.proofs.Common.{◌≡◌, ◌≢◌, Bool, true, Option, Some, List, [], ◌∷◌, ◌++◌, sym, ◌∙◌}
 use Rattle.ic_link_ops.specs.Prelude.{Place, Cut, join, first, last, IsAbsent, IsDisjoint, IsAfter, IsBefore, Table, ChangesOnly}
 use Rattle.ic_link_ops.specs.Chains.{ListHead, RepresentsChain}
@@ -9,19 +9,19 @@ use Rattle.ic_raw.specs.Gaps.{IsNoneOrLinked}
 use Rattle.ic_raw.specs.Gaps as gaps
 use Rattle.ic_raw.specs.Tables.{IsFree}
 
--- lists that share no member begin with different ones
+-- two lists that share no member begin with different members
 pub begin_apart : (s t : List Place) {p : Place} → IsDisjoint t s → first t ≡ Some p → first s ≡ Some p → ⊥
 begin_apart s [] {p} d a b = none_not p a
 begin_apart [] (x ∷ t) {p} d a b = none_not p b
 begin_apart (y ∷ s) (x ∷ t) d a b = d.0.0 (some_same a ∙ sym (some_same b))
 
 module _ {E W : Type 0} {between : E → Option Place → Option Place → Type 0} {keep : Option Place → W} where
-  -- a sequence stays where no entry changes
+  -- a table still represents a sequence if no entry changes
   pub kept : (t u : Table E) (list : ListHead W) (s : List Place) → RepresentsChain between keep t list s → ((q : Place) → u.entry q ≡ t.entry q) → RepresentsChain between keep u list s
   kept t u list s shown same = represents_kept shown (λ q member. same q)
 
-  -- `Names`: entries of the kind say what stands before their places
-  -- REMOVE: the neighbors of p are turned to each other, and then p is released
+  -- If `Names` holds, the entry of a place also names the place before it. REMOVE: a member p is removed if its two neighbors are linked to each
+  -- other and p is then unlinked
   pub removed : {Names : Type 0} {old mid new : Table E} {list list' : ListHead W} (front : List Place) (p : Place) (back : List Place) {before following : Option Place}
       → before ≡ last front → following ≡ first back → RepresentsChain between keep old list (front ++ p ∷ back)
       → ((front back : List Place) → RepresentsChain between keep old list (front ++ p ∷ back) → before ≡ last front → following ≡ first back
@@ -37,7 +37,7 @@ module _ {E W : Type 0} {between : E → Option Place → Option Place → Type 
     };
   }
 
-  -- MOVE: the neighbors of p are turned to each other, and then p is put where the others are cut
+  -- MOVE: a member p is moved if its two neighbors are linked to each other, and p is then put at the position at which the other members are cut
   pub moved : {Names : Type 0} {old mid new : Table E} {list off_list list' : ListHead W} (front : List Place) (p : Place) (back : List Place) (cut : Cut) {b a before following : Option Place}
       → b ≡ last front → a ≡ first back → IsAfter cut before → IsBefore cut following → join cut ≡ front ++ back → RepresentsChain between keep old list (front ++ p ∷ back)
       → ((front back : List Place) → RepresentsChain between keep old list (front ++ p ∷ back) → b ≡ last front → a ≡ first back → RepresentsChain between keep mid off_list (front ++ back))
@@ -57,17 +57,17 @@ module _ {E W : Type 0} {between : E → Option Place → Option Place → Type 
     };
   }
 
-  -- `law`: what stands between two others is linked
+  -- `law` says that a place between two others in a list is linked
   module _ {linked : E → Bool} (law : (e : E) (b a : Option Place) → between e b a → linked e ≡ true) where
     module _ {t : Table E} {list : ListHead W} (front back : List Place) (shown : RepresentsChain between keep t list (front ++ back)) where
-      -- the places beside a gap stand
+      -- a place beside a gap is none or linked
       pub before_stands : {at : Option Place} → at ≡ last front → IsNoneOrLinked linked t at
       before_stands e q k = gap_linked law front back shown (sym k ∙ e)
 
       pub after_stands : {at : Option Place} → at ≡ first back → IsNoneOrLinked linked t at
       after_stands e q k = gap_after_linked law front back shown (sym k ∙ e)
 
-    -- INSERT: p, which is free, is acquired, and then put into the gap
+    -- INSERT: a free place p is inserted if it is marked as linked and then linked between the two places beside the gap
     pub inserted : {Names : Type 0} {old mid new : Table E} {list list' : ListHead W} (cut : Cut) {p : Place} {before following : Option Place}
         → IsAfter cut before → IsBefore cut following → RepresentsChain between keep old list (join cut) → IsFree linked old p → ChangesOnly old mid p
         → ((front back : List Place) → RepresentsChain between keep mid list (front ++ back) → before ≡ last front → following ≡ first back → IsAbsent p (front ++ back)
@@ -84,7 +84,8 @@ module _ {E W : Type 0} {between : E → Option Place → Option Place → Type 
           };
         }
 
-    -- REPLACE: p, which is free, is acquired, and put where the member `out` is, which is then released
+    -- REPLACE: a free place p replaces the member `out` if p is marked as linked, p is linked between the neighbors of `out`, and `out` is then
+    -- unlinked
     pub replaced : {Names : Type 0} {old mid late new : Table E} {list list' : ListHead W} (front : List Place) (out : Place) (back : List Place) {p : Place} {before following : Option Place}
         → before ≡ last front → following ≡ first back → RepresentsChain between keep old list (front ++ out ∷ back) → IsFree linked old p → ChangesOnly old mid p
         → ((front back : List Place) → RepresentsChain between keep mid list (front ++ out ∷ back) → before ≡ last front → following ≡ first back → IsAbsent p (front ++ out ∷ back)

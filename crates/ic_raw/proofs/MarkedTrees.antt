@@ -1,4 +1,4 @@
--- What a tree's words say as they are, as they are written.
+-- These lemmas say how the node of a place changes when a call writes to the words of the place. The words are read as they are.
 use Rattle.std.proofs.Common.{◌≡◌, ◌+◌, ◌*◌, ◌/◌, ◌%◌, ℕ, cond, nat_eq, Option, ap, ◌∙◌, arith}
 use Rattle.ic_link_ops.specs.Prelude.{Place, word_of}
 use Rattle.ic_link_ops.specs.declared.color.Color.{Color}

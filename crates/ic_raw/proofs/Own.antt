@@ -1,4 +1,4 @@
--- What an edit says of a list's own ends.
+-- These lemmas say how an edit changes the ends of a list.
 use Rattle.std.proofs.Common.{◌≡◌, ◌≢◌, ◌↔◌, Option, Some, None, List, refl, sym, ap, subst, ◌∙◌}
 use Rattle.ic_link_ops.specs.Prelude.{Place, Table}
 use Rattle.ic_link_ops.specs.Chains.{Ends, TurnsEnds, end_of}
@@ -12,15 +12,15 @@ use Rattle.ic_raw.specs.Gaps.{PutIn, TakenOut, gap_between}
 use Rattle.ic_raw.specs.Singly.{LosesFront, front_of, lent_table, list_of, next_from, table_of}
 use Rattle.ic_raw.specs.Tables.{raw_entries}
 
--- a gap by its two sides
+-- two gaps are equal if their sides are equal
 pub sides_are : {a b c d : Option Place} → a ≡ c → b ≡ d → gap_between a b ≡ gap_between c d
 sides_are e f = λ k. record { before = e k; after = f k }
 
--- an end on the side of a member stays
+-- if a member is on this side of a gap, the end of the list on this side stays
 pub end_stays : {at end : Option Place} (fresh : Option Place) {q : Place} → at ≡ Some q → end_of at fresh end ≡ end
 end_stays {end} fresh is = ap (λ a. end_of a fresh end) is
 
--- of a list that keeps both ends, at a gap that was found
+-- these lemmas are about a list that has both ends, and about a gap that is equal to the gap that the call found
 module _ {old new : Ends} {found gap : Gap} (same : found ≡ gap) where
   pub put_in : {place : Option Place} {p : Place} → place ≡ Some p → TurnsEnds (λ last. last) old new found.before found.after (Some p) (Some p) → PutIn gap place old new
   put_in is turns = rw (← same, is) (record { head = turns.head; tail = turns.tail _ refl })
@@ -28,7 +28,7 @@ module _ {old new : Ends} {found gap : Gap} (same : found ≡ gap) where
   pub taken_out : TurnsEnds (λ last. last) old new found.before found.after found.after found.before → TakenOut gap old new
   taken_out turns = rw (← same) (record { head = turns.head; tail = turns.tail _ refl })
 
--- nothing stands before the first member of a chain alone: so a walk along it knows whether it has left the front
+-- only the first member of a chain has no place before it. A walk along the chain therefore knows whether it has passed the first member
 pub record IsPast (front current before : Option Place) (member : Place) : Type 0 where
   pub first : before ≡ None → current ≡ front
   pub apart : (q : Place) → before ≡ Some q → front ≢ Some member
@@ -47,16 +47,16 @@ module _ {front current : Option Place} {place member : Place} (is : current ≡
   is_first None past same = ((λ none. sym (past.first refl) ∙ is ∙ ap (λ p. Some p) same), (λ e. refl))
   is_first (Some r) past same = ((λ some. absurd (none_not r (sym some))), (λ e. absurd (past.apart r refl e)))
 
--- the front of a list that a member left, by what stood before it
+-- the first place of the list after a member left it is known from the place before the member
 pub loses_front : {t : Table RawOne} {member : Place} {old new : Front} (b : Option Place) → (b ≡ None) ↔ (old.head ≡ Some member)
     → new.head ≡ end_of b (next_from t old (Some member)) old.head → LosesFront t (Some member) old new
 loses_front None first is = record { first = λ e. is; other = λ away. absurd (away (first.0 refl)) }
 loses_front (Some q) first is = record { first = λ e. absurd (none_not q (sym (first.1 e))); other = λ away. is }
 
--- what the words say of a singly linked list's own front, by what a view of them says
+-- these lemmas say which first place the words of a singly linked list name, if the first place of the list in a view is known
 module _ (t : RawTable RawOne) (list list' : RawFront) {es : List RawOne} {edited new : Front} (view : raw_entries t ≡ es) (read : edited ≡ list_of list)
     (written : front_of list' ≡ new.head) where
-  -- that stays, or is what stood after the member that left
+  -- after a member is removed, the first place stays, or it is the place that was after the removed member
   pub front_left : {before at : Option Place} {member : Place} → before ≡ at → next_from (table_of es) (list_of list) at ≡ Some member
       → new.head ≡ end_of before (next_from (lent_table t) edited (Some member)) edited.head
       → front_of list' ≡ end_of at (next_from (table_of es) (list_of list) (next_from (table_of es) (list_of list) at)) (front_of list)
@@ -66,12 +66,12 @@ module _ (t : RawTable RawOne) (list list' : RawFront) {es : List RawOne} {edite
       let after = seen ∙ ap (λ at. next_from (table_of es) (list_of list) at) (sym there) in
       written ∙ own ∙ (λ k. end_of (named k) (after k) (read k).head)
 
-  -- or is the place that was put in
+  -- after a place is inserted, the first place stays, or it is the inserted place
   pub front_put : {before at place named : Option Place} → before ≡ at → named ≡ place → new.head ≡ end_of before named edited.head
       → front_of list' ≡ end_of at place (front_of list)
   front_put after is own = written ∙ own ∙ (λ k. end_of (after k) (is k) (read k).head)
 
-  -- or what stood after the member that left, if that was the first
+  -- if the removed member was the first, the first place is then the place that was after it. Otherwise the first place stays
   pub front_lost : {member : Place} {first : Option Place} (before : Option Place) → first ≡ edited.head → (before ≡ None) ↔ (first ≡ Some member)
       → new.head ≡ end_of before (next_from (lent_table t) edited (Some member)) edited.head → LosesFront (table_of es) (Some member) (list_of list) (list_of list')
   front_lost {member} before is tells own =

@@ -1,4 +1,4 @@
--- Runs of places: their numbers, their faults, and how they are put in.
+-- These lemmas are about runs of places: the numbers of the places, their faults, and how a run is inserted.
 use Rattle.std.proofs.Common.{◌≡◌, ◌≢◌, ℕ, zero, suc, ◌+◌, ◌-◌, ◌*◌, ◌%◌, ◌<◌, Bool, true, false, cond, nat_lt, Option, Some, None, List, [], ◌∷◌, ◌++◌, length, map, refl, sym, ap, ◌∙◌, subst, inl, inr, arith, append_assoc, append-nil}
 use Rattle.std.proofs.lemmas.Bool.{lt-ltb, ltb-true}
 use Rattle.std.proofs.lemmas.Bool.Decides.{eqb_tells}
@@ -23,21 +23,21 @@ use Rattle.ic_raw.proofs.Faults.{place_fault_back}
 use Rattle.ic_raw.proofs.Numbers.{none_named}
 use Rattle.ic_raw.proofs.Touches.{touched_back}
 
--- THE NUMBERS: that of a place is not the last one, so there is a next,
+-- THE NUMBERS: a number that names a place is not the last number, so that there is a next number
 pub number_small : (i : ℕ) (p : Place) → place_of i ≡ Some p → i < 4294967296 → i + 1 < 4294967296
 number_small i p is fits = elim (eqb_tells i 4294967295) [
   | inl h ↦ absurd (none_not p (sym none_named ∙ sym (ap place_of h.1) ∙ is))
   | inr h ↦ omega (arith, h.1, fits)
 ]
 
--- and it is the place's index
+-- a number that names a place is the index of the place
 number_index : (i : ℕ) (p : Place) → place_of i ≡ Some p → i < 4294967296 → i ≡ index_of p
 number_index i p is fits =
     let small = number_small i p is fits in
     let same : 8 * (i + 1) ≡ 8 * ((i + 1) % 4294967296) = omega (arith, small) in
     index_at i p (ap place_at same ∙ is)
 
--- so no place stands twice in a run,
+-- no place is in a run twice, because the numbers of a run differ
 pub run_absent : (i j : ℕ) (p : Place) (run : List Place) → place_of i ≡ Some p → i < j → j < 4294967296 → IsRun j run → IsAbsent p run
 run_absent i j p [] is less fits r = tt
 run_absent i j p (q ∷ run) is less fits r =
@@ -47,7 +47,7 @@ run_absent i j p (q ∷ run) is less fits r =
       run_absent i (j + 1) p run is (omega (arith, less)) (number_small j q r.0 fits) r.1,
     )
 
--- and two runs from one number with as many places are one
+-- two runs from one number are equal if they have equally many places
 pub one_run : (first : ℕ) (a b : List Place) → IsRun first a → IsRun first b → length a ≡ length b → a ≡ b
 one_run first [] [] n m e = refl
 one_run first [] (q ∷ b) n m e = absurd (omega (arith, e))
@@ -57,7 +57,7 @@ one_run first (p ∷ a) (q ∷ b) n m e =
     let rest : a ≡ b = one_run (first + 1) a b n.1 m.1 (omega (arith, e)) in
     λ k. same k ∷ rest k
 
--- its first place has the number that is told, and its last one the last of so many from there on
+-- the first place of a run has the number `first`, and the last place is the last of `count` places from this number on
 run_begins : (run : List Place) (first count : ℕ) (end : Option Place) → IsRun first run → length run ≡ count → count ≢ 0 → first_or run end ≡ place_of first
 run_begins [] first count end n c some = absurd (some (sym c))
 run_begins (p ∷ run) first count end n c some = sym n.0
@@ -71,18 +71,18 @@ run_ends (p ∷ q ∷ run) first count end n c some =
     let same : first + 1 + (count - 1 - 1) ≡ first + (count - 1) = omega (arith, c) in
     run_ends (q ∷ run) (first + 1) (count - 1) (Some p) n.1 (omega (arith, c)) (λ none. absurd (omega (arith, c, none))) ∙ ap place_of same
 
--- a place that differs from each of these is none of them
+-- a place that differs from each place of a run is not in the run
 absent_run : (q : Place) (run : List Place) → IsNoneOf (map Some run) q → IsAbsent q run
 absent_run q [] out = tt
 absent_run q (x ∷ run) out = ((λ e. out.0 (ap Some (sym e))), absent_run q run out.1)
 
--- THE FAULTS: the first one is why a call is refused,
+-- THE FAULTS: if there is a fault, a refused call returns the first fault of the list
 pub refused_by : (faults : List ℕ) → first_fault faults ≢ 0 → first_fault faults ≡ refusal faults
 refused_by [] fault = absurd (fault refl)
 refused_by (zero ∷ faults) fault = refused_by faults fault
 refused_by (suc m ∷ faults) fault = refl
 
--- and where there is none the words do not fit together
+-- if there is no fault, a refused call returns `BROKEN`, because the words do not fit together
 pub none_refused : (faults : List ℕ) → first_fault faults ≡ 0 → 5 ≡ refusal faults
 none_refused [] none = refl
 none_refused (zero ∷ faults) none = none_refused faults none
@@ -92,13 +92,13 @@ pub first_is : (n : ℕ) (faults : List ℕ) → n ≢ 0 → n ≡ first_fault (
 first_is zero faults fault = absurd (fault refl)
 first_is (suc n) faults fault = refl
 
--- the faults that are left begin with that of the next number
+-- the faults of the places that are left begin with the fault of the next place
 pub faults_left : (fault : Option Place → ℕ) (number left : ℕ) → 0 < left → run_faults fault number left ≡ fault (place_of number) ∷ run_faults fault (number + 1) (left - 1)
 faults_left fault number zero some = absurd (omega (arith, some))
 faults_left fault number (suc left) some = let e : suc left - 1 ≡ left = omega arith in rw e refl
 
 module _ {W : Type 0} (linked : W → Bool) (t : Table W) where
-  -- a place with no fault is free
+  -- a place without a fault is free
   pub free_of : (o : Option Place) → place_fault linked t o ≡ 0 → (p : Place) × (o ≡ Some p) × IsFree linked t p
   free_of None none = cc
   free_of (Some p) none = pick (nat_lt (index_of p) t.extent.places) refl (linked (t.entry p)) refl none where
@@ -108,14 +108,14 @@ module _ {W : Type 0} (linked : W → Bool) (t : Table W) where
     pick true h true k none = cc
     pick false h c k none = cc
 
-  -- and the other way round
+  -- a free place has no fault
   no_fault : (p : Place) → IsFree linked t p → place_fault linked t (Some p) ≡ 0
   no_fault p free =
       let inside : place_fault linked t (Some p) ≡ cond (linked (t.entry p)) 2 0 = ap (λ b. cond b (cond (linked (t.entry p)) 2 0) 1) (lt-ltb (index_of p) t.extent.places free.covered) in
       let off : cond (linked (t.entry p)) 2 0 ≡ 0 = ap (λ c. cond c 2 0) free.unlinked in
       inside ∙ off
 
-  -- so is a run
+  -- a run without a fault is free
   pub free_run : (first count : ℕ) → first_fault (run_faults (place_fault linked t) first count) ≡ 0 → IsFreeRun linked t first count
   free_run first zero none = record { run = []; numbered = tt; counted = refl; free = tt }
   free_run first (suc count) none = more (place_fault linked t (place_of first)) refl none (λ h. free_run (first + 1) count h) where
@@ -138,7 +138,7 @@ module _ {W : Type 0} (linked : W → Bool) (t : Table W) where
   pub run_faultless : (first count : ℕ) → IsFreeRun linked t first count → first_fault (run_faults (place_fault linked t) first count) ≡ 0
   run_faultless first count r = no_faults r.run first count r.numbered r.counted r.free
 
-  -- THE RUN THAT IS LEFT: its next place, and those after it
+  -- THE RUN THAT IS LEFT consists of its next place, whose number is `number`, and of the run after this place
   pub record Begins (number left : ℕ) (run : List Place) : Type 0 where
     pub next : Place
     pub rest : List Place
@@ -161,7 +161,7 @@ module _ {W : Type 0} (linked : W → Bool) (t : Table W) where
     pick [] c = refl
     pick (p ∷ run) c = absurd (omega (arith, c, none))
 
--- what is free stays so where another place alone is linked or unlinked
+-- free places stay free if only the mark of another place changes
 pub free_beside : {W : Type 0} (linked : W → Bool) (t u : Table W) (p : Place) (run : List Place) → u.extent ≡ t.extent → ((q : Place) → q ≢ p → linked (u.entry q) ≡ linked (t.entry q))
     → IsAbsent p run → AreFree linked t run → AreFree linked u run
 free_beside linked t u p [] same others out f = tt
@@ -170,14 +170,14 @@ free_beside linked t u p (q ∷ run) same others out f = (
   free_beside linked t u p run same others out.1 f.1,
 )
 
--- THE NEXT PLACE OF A RUN that is free: a table that links it if it is free has linked it,
+-- THE NEXT PLACE OF A FREE RUN is not refused by a function that links each free place
 pub not_refused : {W : Type 0} {linked : W → Bool} {t : Table W} {number left : ℕ} {asked taken : Option Place} → IsFreeRun linked t number left → 0 < left
     → asked ≡ place_of number → ((p : Place) → asked ≡ Some p → IsFree linked t p → taken ≡ Some p) → taken ≢ None
 not_refused {linked = linked} {t} {number} {left} r some is accepted none =
     let b = begins linked t number left r some in
     none_not b.next (sym none ∙ accepted b.next (is ∙ b.named) b.free)
 
--- and the run after it stays free
+-- the run after the next place stays free if only the next place is linked
 pub run_after : {W : Type 0} {linked : W → Bool} {t u : Table W} {number left : ℕ} (p : Place) → place_of number ≡ Some p → number + 1 < 4294967296 → u.extent ≡ t.extent
     → ((q : Place) → q ≢ p → linked (u.entry q) ≡ linked (t.entry q)) → (r : IsFreeRun linked t number left) → 0 < left
     → (rest : IsFreeRun linked u (number + 1) (left - 1)) × (r.run ≡ p ∷ rest.run)
@@ -190,7 +190,7 @@ run_after {linked = linked} {t} {u} {number} {left} p named small same others r 
     )
 
 module _ {E W : Type 0} (between : E → Option Place → Option Place → Type 0) (keep : Option Place → W) where
-  -- OF A RUN the places `done` are in, after what is before the gap, and the rest is not
+  -- THE PLACES `done` OF A RUN are in the list, after the members before the gap, and the places `rest` are not in the list yet
   pub record Fills (old now : Table E) (list : ListHead W) (gap : Cut) (before : Option Place) (run rest : List Place) : Type 0 where
     pub done : List Place
     pub parts : run ≡ done ++ rest
@@ -198,7 +198,7 @@ module _ {E W : Type 0} (between : E → Option Place → Option Place → Type 
     pub after : before ≡ last (gap.front ++ done)
     pub frame : ChangesOnlyIn old now ((gap.front ++ done) ++ gap.back)
 
-  -- at first none is
+  -- before the first step, no place of the run is in the list
   pub fills_none : {t : Table E} {list : ListHead W} (gap : Cut) {before : Option Place} {run rest : List Place} → run ≡ rest → RepresentsChain between keep t list (join gap)
       → before ≡ last gap.front → Fills t t list gap before run rest
   fills_none {t} {list} gap all shown after = record {
@@ -209,7 +209,7 @@ module _ {E W : Type 0} (between : E → Option Place → Option Place → Type 
     frame = record { extent = refl; others = λ q out. refl };
   }
 
-  -- one more
+  -- one more place of the run is inserted into the list
   pub fills_more : {old now new : Table E} {list list' : ListHead W} (gap : Cut) {before : Option Place} {run : List Place} (p : Place) {rest : List Place}
       → (k : Fills old now list gap before run (p ∷ rest)) → Inserts (RepresentsChain between keep) now new list' (record { front = gap.front ++ k.done; back = gap.back }) p
       → Fills old new list' gap (Some p) run rest
@@ -234,7 +234,7 @@ module _ {E W : Type 0} (between : E → Option Place → Option Place → Type 
         };
       }
 
-  -- and at last all are
+  -- if no place of the run is left, the whole run is in the list
   pub fills_all : {old now : Table E} {list : ListHead W} (gap : Cut) {before : Option Place} {run rest : List Place} → Fills old now list gap before run rest → rest ≡ []
       → Splices (RepresentsChain between keep) old now list gap run
   fills_all {old} {now} {list} gap {run = run} {rest} k none =
@@ -246,7 +246,7 @@ module _ {E W : Type 0} (between : E → Option Place → Option Place → Type 
         frame = subst (λ s. ChangesOnlyIn old now s) same k.frame;
       }
 
--- an end stays where it is told again, and where something stands beside it
+-- an end of a list stays if it is replaced by itself
 end_again : (at end : Option Place) → end_of at end end ≡ end
 end_again None end = refl
 end_again (Some x) end = refl
@@ -255,20 +255,22 @@ end_after : (x : Place) (s : List Place) (fresh end : Option Place) → end_of (
 end_after x [] fresh end = refl
 end_after x (y ∷ s) fresh end = end_after y s fresh end
 
--- ONE MORE PLACE after those that went in: the list begins with the first of them where nothing stands before,
+-- ONE MORE PLACE is inserted after the places of the run that are in the list: if no member is before the gap, the list begins with the first place
+-- of the run
 head_on : (done : List Place) (p : Place) (at was : Option Place) {before head head' : Option Place} → before ≡ last_or at done → head ≡ end_of at (first_or done was) was
     → head' ≡ end_of before (Some p) head → head' ≡ end_of at (first_or (done ++ p ∷ []) was) was
 head_on [] p at was after is turns = turns ∙ (λ k. end_of (after k) (Some p) ((is ∙ end_again at was) k))
 head_on (x ∷ s) p at was {head = head} after is turns = turns ∙ ap (λ b. end_of b (Some p) head) after ∙ end_after x s (Some p) head ∙ is
 
--- and ends with the last where nothing stands after
+-- if no member is after the gap, the list ends with the last inserted place of the run
 tail_on : (done : List Place) (p : Place) (after end : Option Place) → end_of after (Some p) (end_of after (last_or end done) end) ≡ end_of after (last_or end (done ++ p ∷ [])) end
 tail_on done p None end = sym (last_or-append end done (p ∷ []))
 tail_on done p (Some x) end = refl
 
--- `Names`: entries of the kind say what stands before their places
+-- If `Names` holds, the entry of a place also names the place before it
 module _ {E W : Type 0} (linked : E → Bool) (keep : Option Place → W) (Names : Type 0) where
-  -- OF A RUN the places `done` are linked between the sides of the gap, and the rest is not, whatever the entries say
+  -- THE PLACES `done` OF A RUN are linked between the two sides of the gap, and the places `rest` are not linked yet. This holds whatever the entries
+  -- say
   pub record LinksRun (old now : Table E) (list list' : ListHead W) (gap : Gap) (before : Option Place) (run rest : List Place) : Type 0 where
     pub done : List Place
     pub parts : run ≡ done ++ rest
@@ -278,7 +280,7 @@ module _ {E W : Type 0} (linked : E → Bool) (keep : Option Place → W) (Names
     pub head : list'.head ≡ end_of gap.before (first_or done list.head) list.head
     pub tail : (end : Option Place) → list.tail ≡ keep end → list'.tail ≡ keep (end_of gap.after (last_or end done) end)
 
-  -- at first none is
+  -- before the first step, no place of the run is linked
   pub links_none : {t : Table E} {list : ListHead W} (gap : Gap) {run : List Place} → LinksRun t t list list gap gap.before run run
   links_none {list} gap = record {
     done = [];
@@ -290,7 +292,7 @@ module _ {E W : Type 0} (linked : E → Bool) (keep : Option Place → W) (Names
     tail = λ end is. is ∙ ap keep (sym (end_again gap.after end));
   }
 
-  -- one more
+  -- one more place of the run is linked
   pub links_more : {old now new : Table E} {list was list' : ListHead W} {gap : Gap} {before : Option Place} {run : List Place} (p : Place) {rest : List Place}
       → LinksRun old now list was gap before run (p ∷ rest) → LinksAlso linked now new p
       → ((q : Place) → before ≢ Some q → q ≢ p → (Names → gap.after ≢ Some q) → new.entry q ≡ now.entry q)
@@ -308,7 +310,8 @@ module _ {E W : Type 0} (linked : E → Bool) (keep : Option Place → W) (Names
     tail = λ end is. turns.tail _ (k.tail end is) ∙ ap keep (tail_on k.done p gap.after end);
   }
 
-  -- and at last all are: nothing else is touched where entries after the gap stay, or there are none,
+  -- if no place of the run is left, all its places are linked. The edit touches no other place if entries after the gap stay, or if there are no
+  -- members after the gap
   module _ {old now : Table E} {list list' : ListHead W} {gap : Gap} {before : Option Place} {run rest : List Place} (k : LinksRun old now list list' gap before run rest)
       (none : rest ≡ []) where
     all_done : k.done ≡ run
@@ -320,7 +323,8 @@ module _ {E W : Type 0} (linked : E → Bool) (keep : Option Place → W) (Names
       others = λ q out. k.others q (subst (IsAbsent q) (sym all_done) (absent_run q run out.1)) out.0 (λ names e. none_not q (sym (outermost names) ∙ e));
     }
 
-    -- and the list's own words are turned to the first and the last of them
+    -- the list's own words name the first place of the run if no member is before the gap, and the last place of the run if no member is after the
+    -- gap
     pub turns_run : (first count : ℕ) → IsRun first run → length run ≡ count → count ≢ 0 → TurnsEnds keep list list' gap.before gap.after (place_of first) (last_of_run first count)
     turns_run first count numbered counted some = record {
       head = k.head ∙ ap (λ o. end_of gap.before o list.head) (ap (λ (s : List Place). first_or s list.head) all_done ∙ run_begins run first count list.head numbered counted some);
@@ -328,7 +332,7 @@ module _ {E W : Type 0} (linked : E → Bool) (keep : Option Place → W) (Names
           k.tail end is ∙ ap (λ o. keep (end_of gap.after o end)) (ap (λ (s : List Place). last_or end s) all_done ∙ run_ends run first count end numbered counted some);
     }
 
--- a run of no place is free, and where none goes in nothing is changed
+-- a run without places is free, and an edit that inserts no place changes nothing
 pub free_none : {W : Type 0} {linked : W → Bool} {t : Table W} {first count : ℕ} → count ≡ 0 → IsFreeRun linked t first count
 free_none none = record { run = []; numbered = tt; counted = sym none; free = tt }
 
@@ -345,12 +349,12 @@ touches_no_run {linked = linked} {t} {first} {count} none free = record {
   others = λ q out. refl;
 }
 
--- the ends of a list that keeps both, at a gap that was found, as its words say them
+-- the ends of the list in its words are those of the list in the view, at the gap that the call found
 pub turns_back : {was old new written : Ends} {found gap : Gap} {begins ends : Option Place} → found ≡ gap → was ≡ old → written ≡ new
     → TurnsEnds (λ last. last) was new found.before found.after begins ends → Turns gap begins ends old written
 turns_back same read write turns = rw (← same, ← read, write) (record { head = turns.head; tail = turns.tail _ refl })
 
--- WHAT HOLDS OF A VIEW holds of the words that were lent, and the other way round
+-- WHAT HOLDS OF A VIEW holds of the words that the caller lent, and the other way round
 module _ {W : Type 0} (linked : W → Bool) (unlinked : W) where
   pub are_viewed : (t : RawTable W) (run : List Place) → AreFree linked (table_of unlinked (raw_entries t)) run → AreFree linked (raw_table unlinked t) run
   are_viewed t [] f = tt
@@ -378,7 +382,8 @@ module _ {W : Type 0} (linked : W → Bool) (unlinked : W) where
     free = subst (λ fs. AreFree linked (table_of unlinked fs) r.run) e (are_back t r.run r.free);
   }
 
-  -- what a fill of a view touches is touched among the words, after the end of the gap that was found
+  -- what a fill touches in a view is what it touches in the words that the caller lent. The run is inserted after the end of the gap that the call
+  -- found
   pub run_touched : {Names : Type 0} (a b : RawTable W) {es fs : List W} {found : Option Gap} {end : Option Place} {first count : ℕ} → raw_entries a ≡ es → fs ≡ raw_entries b
       → ((g : Gap) → found ≡ Some g → (Names → g.after ≡ None) → (free : IsFreeRun linked (raw_table unlinked a) first count)
       → TouchesRun linked (raw_table unlinked a) (raw_table unlinked b) free.run g.before)

@@ -1,4 +1,4 @@
--- What is seen of a caller's words, as they are written.
+-- These lemmas say how an edit of a tree reads a caller's words after a call has written to them.
 use Rattle.std.proofs.Common.{◌≡◌, ℕ, ◌+◌, ◌*◌, ◌/◌, ◌%◌, ◌<◌, ◌≤◌, List, length, Bool, true, false, cond, nat_eq, nat_lt, Option, Some, None, slice_set, slice_index_or, refl, sym, ap, ◌∙◌, subst, inl, inr, arith, ne_eqb}
 use Rattle.std.proofs.lemmas.Bool.{ltb-true, lt-ltb, le-ltb}
 use Rattle.std.proofs.lemmas.List.{length-set}
@@ -16,18 +16,18 @@ use Rattle.ic_raw.specs.Words.{number_in, place_in, is_marked, is_linked_three, 
 use Rattle.ic_raw.proofs.Entries.{changes_only, number_read, place_kept}
 use Rattle.ic_raw.specs.Seen.{named_within, seen_node, seen, NamesWithin, KeepsMarks}
 
--- a change of a place's words changes what is seen there alone
+-- if only the words of one place change, only the node at this place changes, as an edit reads the words
 pub seen_changes : (t u : Table RawThree) (p : Place) → ChangesOnly t u p → ChangesOnly (seen t) (seen u) p
 seen_changes t u p only = record {
   extent = only.extent;
   others = λ q apart k. record { words = only.others q apart k; place = q; places = (only.extent k).places };
 }
 
--- what these words say at a place
+-- `says w p places` is the node that the words w describe at the place p
 abbrev pub says : RawThree → Place → ℕ → Node
 says w p places = seen_node (record { words = w; place = p; places = places })
 
--- words that are written at a place say there what they say
+-- after words are written at a place, the node at the place is the node that the written words describe
 pub says_written : (es : List RawThree) (p : Place) (new beyond : RawThree) (i : ℕ) (change : Node → Node) → i ≡ index_of p → nat_lt (index_of p) (length es) ≡ true
     → says new p (length es) ≡ change (says (slice_index_or es i beyond) p (length es))
     → says (entry_at no_tree_words (slice_set es i new) p) p (length (slice_set es i new)) ≡ change (says (entry_at no_tree_words es p) p (length es))
@@ -36,7 +36,7 @@ says_written es p new beyond i change at_p has written =
     (λ k. says (entry_same no_tree_words es p new i at_p covered k) p (length-set es i new k)) ∙ written
     ∙ ap (λ w. change (says w p (length es))) (sym (entry_read no_tree_words es p (slice_index_or es i beyond) beyond i at_p covered refl))
 
--- a name stays beside either mark, and a mark beside either name
+-- a word that has a place and a mark names this place whatever the mark is, and has this mark whatever the place is
 pub place_beside : (o : Option Place) (n v : ℕ) → n ≡ word_of o → place_in (n + v % 2) ≡ o
 place_beside o n v is =
     let fits = word_fits o in
@@ -49,7 +49,7 @@ mark_beside o n v is =
     let same : (n + v % 2) % 2 ≡ v % 2 = omega (arith, is, even) in
     ap (λ m. nat_eq m 1) same
 
--- a color is kept as a digit
+-- a color is stored as the digit 0 or 1, and it is read from the digit as it was stored
 pub one_digit : (c : Color) → one_if_black c < 2
 one_digit Red = omega arith
 one_digit Black = omega arith
@@ -58,16 +58,16 @@ pub color_kept : (c : Color) → cond (nat_eq (one_if_black c) 1) Black Red ≡ 
 color_kept Red = refl
 color_kept Black = refl
 
--- a place of the table is read as it is named
+-- an edit reads a place of the table as the words name it
 pub named_itself : (places : ℕ) (o : Option Place) → ((q : Place) → o ≡ Some q → nat_lt (index_of q) places ≡ true) → named_within places o ≡ o
 named_itself places None h = refl
 named_itself places (Some q) h = ap (λ b. cond b (Some q) None) (h q refl)
 
--- a number counts from 1
+-- the number in a word is 8 times the index of the place plus 8, because numbers count from 1
 index_in : (v : ℕ) (q : Place) → place_in v ≡ Some q → number_in v ≡ 8 * (index_of q + 1)
 index_in v q is = sym (number_read v) ∙ ap word_of is
 
--- A PLACE IS ONE OF THE TABLE if its number is at most 8 times as many as there are places
+-- A PLACE BELONGS TO THE TABLE if its number is at most 8 times the number of places
 pub number_within : (places v : ℕ) → number_in v ≤ 8 * places → place_in v ≡ named_within places (place_in v)
 number_within places v within = sym (named_itself places (place_in v) (λ q is. lt-ltb (index_of q) places (omega (arith, within, index_in v q is))))
 
@@ -77,7 +77,7 @@ number_beyond places v beyond = by (place_in v) refl where
   by None e = refl
   by (Some q) e = ap (λ b. cond b (Some q) None) (sym (le-ltb (index_of q) places (omega (arith, beyond, index_in v q e))))
 
--- words tell whether an end is a place
+-- an option is a given place exactly if their words are equal
 same_words : (end : Option Place) (p : Place) → nat_eq (word_of end) (word_of (Some p)) ≡ is_end end p
 same_words None p = ne_eqb 0 (8 * (index_of p + 1)) (λ e. absurd (omega (arith, e)))
 same_words (Some q) p =
@@ -85,26 +85,26 @@ same_words (Some q) p =
     ap (λ (m : ℕ). nat_eq m (8 * (index_of p + 1))) (sym (word_is q)) ∙ ap (λ (m : ℕ). nat_eq q.word m) (sym (word_is p)) in
     words ∙ word_tells q p
 
--- an end that is none of the table's places is no place that the table has
+-- an end that does not belong to the table can be replaced by none, because neither is a place p of the table
 end_within : (places : ℕ) (q p : Place) (b : Bool) → nat_lt (index_of q) places ≡ b → nat_lt (index_of p) places ≡ true → is_end (Some q) p ≡ is_end (cond b (Some q) None) p
 end_within places q p true e has = refl
 end_within places q p false e has =
     ne_eqb (index_of q) (index_of p) (λ same. let other : nat_lt (index_of p) places ≡ false = subst (λ (i : ℕ). nat_lt i places ≡ false) same e in cc)
 
--- A WORD NAMES A PLACE that the table has if their numbers are the same
+-- A WORD NAMES A PLACE of the table exactly if the number in the word is the number of the place
 pub number_names : (places v : ℕ) (p : Place) → nat_lt (index_of p) places ≡ true → nat_eq (number_in v) (word_of (Some p)) ≡ is_end (named_within places (place_in v)) p
 number_names places v p has = ap (λ (m : ℕ). nat_eq m (word_of (Some p))) (sym (number_read v)) ∙ same_words (place_in v) p ∙ by (place_in v) where
   by : (o : Option Place) → is_end o p ≡ is_end (named_within places o) p
   by None = refl
   by (Some q) = end_within places q p (nat_lt (index_of q) places) refl has
 
--- the words of a place that names no other
+-- the words of a place that is linked and names no other place name only places of the table
 pub bare_within : (places : ℕ) → NamesWithin places (record { left = 1; right = 0; parent = 0 })
 bare_within places = record { left = none 1 (place_at_word None); right = none 0 (place_at_word None); parent = none 0 (place_at_word None) } where
   none : (v : ℕ) → place_in v ≡ None → named_within places (place_in v) ≡ place_in v
   none v e = subst (λ x. named_within places x ≡ x) (sym e) refl
 
--- WORDS THAT ARE WRITTEN at a place of the table keep their mark, and name within the table where those that were read there do
+-- WORDS THAT ARE WRITTEN at a place of the table keep the mark. If the old words named only places of the table, the new words do
 pub record IsQuiet (places : ℕ) (old new : RawThree) : Type 0 where
   pub mark : is_linked_three new ≡ is_linked_three old
   pub names : NamesWithin places old → NamesWithin places new
@@ -147,7 +147,7 @@ module _ (p : Place) (places : ℕ) (w : RawThree) where
     within : {x : Option Place} → x ≡ o → named_within places x ≡ x
     within e = named e ∙ sym e
 
-    -- THE WRITES
+    -- THE WRITES: each lemma says how the node of a place changes if one of its words is written
     pub left_set : says (record w { left = n + w.left % 2 }) p places ≡ record (says w p places) { left = o }
     left_set = ap (λ x. record (says w p places) { left = x }) (named (place_beside o n w.left is))
 

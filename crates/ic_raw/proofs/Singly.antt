@@ -1,4 +1,4 @@
--- What calls of a singly linked list read of what is represented, and of the places that lead to one another.
+-- These lemmas say what the calls of a singly linked list read from the words, and to which places the links lead.
 use Rattle.std.proofs.Common.{◌≡◌, ◌≢◌, ◌↔◌, ◌≤◌, Option, Some, None, List, [], ◌∷◌, ◌++◌, length, true, refl, sym, ap, subst, ◌∙◌, arith}
 use Rattle.ic_link_ops.specs.Prelude.{Place, index_of, Cut, join, first_or, first, last, IsAbsent, IsDistinct, IsAfter, Table, ChangesOnly, IsCovered, IsLinked, KeepsLinked, Unlinks, LinkStep, acquires, releases}
 use Rattle.ic_link_ops.specs.Chains.{IsChain}
@@ -21,27 +21,27 @@ use Rattle.ic_raw.proofs.Views.{viewed, represented_back}
 use Rattle.ic_raw.proofs.Lists.{kept}
 use Rattle.ic_raw.proofs.Touches.{touches_insert, touches_remove, touches_replace}
 
--- what has something after it is linked
+-- a place that has a next place in a list, or is the last place of a list, is linked
 pub law : (e : RawOne) (b a : Option Place) → IsFollowed successor e b a → is_linked_one e ≡ true
 law = followed_linked {s = successor} {linked = is_linked_one} (λ e. refl)
 
--- and covered
+-- a linked place belongs to the table
 pub covered : (t : RawTable RawOne) (q : Place) → is_linked_one ((lent_table t).entry q) ≡ true → IsCovered (lent_table t) q
 covered t q on = linked_in_range is_linked_one no_word refl (raw_entries t) (index_of q) on
 
--- the place before a gap leads to the one after it
+-- the links lead from the place before a gap to the place after the gap
 pub next_represented : {t : Table RawOne} {list : Front} (front back : List Place) → Represents t list (front ++ back) → (at : Option Place) → at ≡ last front → next_from t list at ≡ first back
 next_represented front back shown None e = shown.head ∙ first_of_back front back e
 next_represented front back shown (Some q) e = (before_gap front back shown e).next
 
--- what is found by a view of the words is found by what they represent
+-- a gap that a call finds in a view is the gap of the sequence that the words represent
 pub gap_viewed : (t : RawTable RawOne) {words : List RawOne} {list shown : Front} {at named : Option Place} {found : Option Gap}
     → raw_entries t ≡ words → list ≡ shown → at ≡ named
     → ((cut : Cut) → Represents (lent_table t) list (join cut) → IsAfter cut at → found ≡ Some (gap_of cut))
     → (cut : Cut) → Represents (table_of words) shown (join cut) → IsAfter cut named → found ≡ Some (gap_of cut)
 gap_viewed t view same is finds cut shows after = finds cut (rw same (viewed no_word kept t view shows)) (is ∙ after)
 
--- what is found after a place by a view of the words stands there by the words themselves
+-- the place that a call finds after `at` in a view is the place after `at` in the words that the caller lent
 pub after_told : (t : RawTable RawOne) {words : List RawOne} (list : RawFront) {shown : Front} {at named : Option Place} {gap : Gap} {q : Place}
     → raw_entries t ≡ words → shown ≡ list_of list → at ≡ named → gap ≡ record { before = at; after = next_from (lent_table t) shown at } → gap.after ≡ Some q
     → next_from (table_of words) (list_of list) named ≡ Some q
@@ -51,7 +51,7 @@ after_told t list {shown} {at} {named} {gap} {q} view same is found stands =
     let back : next_from (table_of (raw_entries t)) (list_of list) named ≡ Some q = subst (λ a. next_from (lent_table t) (list_of list) a ≡ Some q) is there in
     subst (λ es. next_from (table_of es) (list_of list) named ≡ Some q) view back
 
--- WHAT A VIEW TELLS, THE WORDS TELL, and the other way round: of a gap, of a member, and that the places of a list come to an end
+-- A VIEW CONFIRMS a gap, a member, or a list with an end exactly if the words that the caller lent do
 module _ (t : RawTable RawOne) {words : List RawOne} {list shown : Front} (view : raw_entries t ≡ words) (same : shown ≡ list) where
   pub gap_same : {at named : Option Place} → at ≡ named → TellsGap (lent_table t) shown at ↔ TellsGap (table_of words) list named
   gap_same {at} {named} is =
@@ -73,25 +73,26 @@ module _ (t : RawTable RawOne) {words : List RawOne} {list shown : Front} (view 
     (λ x. (x.0, viewed no_word kept t view (subst (λ l. Represents (table_of words) l x.0) (sym same) x.1))),
   )
 
--- the words tell of a first member, which is linked
+-- the words confirm the first member of a list if this member is linked
 pub member_first : (t : Table RawOne) {list : Front} {p : Place} → list.head ≡ Some p → is_linked_one (t.entry p) ≡ true → TellsMember t list None
 member_first t {p = p} is on = (
   ((λ q e. absurd (none_not q e)), (λ q e. subst (λ z. is_linked_one (t.entry z) ≡ true) (some_same (sym is ∙ e)) on)),
   (λ none. none_not p (sym none ∙ is)),
 )
 
--- and of one after a place, where the gap that is found there has one
+-- the words confirm the member after `at` if they confirm the gap after `at` and a place is after the gap
 pub member_told : (t : Table RawOne) (list : Front) {at : Option Place} {gap : Gap} {p : Place} → TellsGap t list at → gap ≡ record { before = at; after = next_from t list at }
     → gap.after ≡ Some p → TellsMember t list at
 member_told t list {p = p} links_back found is = (links_back, (λ none. none_not p (sym none ∙ sym (ap (λ (g : Gap). g.after) found) ∙ is)))
 
--- a list without a first member represents none
+-- a list without a first member represents the empty sequence
 pub represents_none : (t : Table RawOne) (list : Front) → list.head ≡ None → RepresentsSome t list
 represents_none t list is = ([], record { distinct = tt; chain = tt; head = is; tail = refl })
 
--- A CHAIN THAT ENDS COMES TO NO PLACE TWICE: from there it would go on the same way, and end as soon
+-- A CHAIN THAT ENDS COMES TO NO PLACE TWICE. If it came to a place twice, it would go on in the same way after both visits, and would end after
+-- equally many places
 module _ (t : Place → RawOne) where
-  -- no entry says what stands before its place
+  -- a chain stays a chain whatever the place before it is, because no entry names the place before its place
   pub after_any : (b b' : Option Place) (w : List Place) (a : Option Place) → IsChain (IsFollowed successor) t b w a → IsChain (IsFollowed successor) t b' w a
   after_any b b' [] a c = tt
   after_any b b' (x ∷ w) a c = (record { linked = c.0.linked; next = c.0.next }, c.1)
@@ -111,7 +112,7 @@ module _ (t : Place → RawOne) where
   ended_distinct b (x ∷ w) c = (not_ahead b (Some x) x w w c c.1 (omega arith), ended_distinct (Some x) w c.1)
 
 module _ {t : Table RawOne} {front at : Place} (leads : LeadsTo t front at) (linked : is_linked_one (t.entry at) ≡ true) where
-  -- what is walked, with `at` itself, before what stands after
+  -- the places that a walk has passed and the place `at` are a chain, which leads to the place after `at`
   chain_on : (next : Option Place) → (successor_at successor t at).next ≡ next → IsChain (IsFollowed successor) t.entry None (leads.walked ++ at ∷ []) next
   chain_on next after =
       chain_glue (IsFollowed successor) t.entry None leads.walked (at ∷ []) next leads.chain (record { linked = linked; next = after }, tt)
@@ -119,11 +120,11 @@ module _ {t : Table RawOne} {front at : Place} (leads : LeadsTo t front at) (lin
   starts_on : (next : Option Place) → Some front ≡ first_or (leads.walked ++ at ∷ []) next
   starts_on next = leads.starts ∙ sym (first_or-append leads.walked (at ∷ []) next)
 
-  -- they lead on to what stands after it,
+  -- if the links lead to `at`, they lead on to the place after `at`
   pub leads_on : {next : Place} → (successor_at successor t at).next ≡ Some next → LeadsTo t front next
   leads_on {next} after = record { walked = leads.walked ++ at ∷ []; chain = chain_on (Some next) after; starts = starts_on (Some next) }
 
-  -- and where nothing does, they are a list, which ends there
+  -- if no place is after `at`, the places of the walk are a list, whose last member is `at`
   pub ends_there : (successor_at successor t at).next ≡ None → (s : List Place) × Represents t (list_from (Some front)) s × (Some at ≡ last s)
   ends_there after =
       let chain = chain_on None after in (
@@ -132,7 +133,7 @@ module _ {t : Table RawOne} {front at : Place} (leads : LeadsTo t front at) (lin
         sym (last_of_push leads.walked at),
       )
 
--- none among the places that are touched is no place
+-- a place is different from each place of a list of options exactly if this holds without the option none
 apart_none : (places : List (Option Place)) (q : Place) → IsNoneOf places q → IsNoneOf (places ++ None ∷ []) q
 apart_none [] q out = (none_not q, tt)
 apart_none (end ∷ places) q out = (out.0, apart_none places q out.1)
@@ -141,7 +142,7 @@ pub touches_places : {old new : Table RawOne} {steps : List LinkStep} (places : 
     → Touches is_linked_one old new steps places
 touches_places places k = record { steps_are = k.steps_are; others = λ q out. k.others q (apart_none places q out) }
 
--- AN EDIT TOUCHES NOTHING BEHIND IT, because no entry says what stands before its place
+-- AN EDIT OF A SINGLY LINKED LIST TOUCHES NO PLACE AFTER ITS GAP, because no entry names the place before its place
 module _ {old mid new : Table RawOne} {before after : Option Place} {p : Place} where
   pub touches_put : IsFree is_linked_one old p → IsLinked is_linked_one mid p → ChangesOnly old mid p → KeepsLinked is_linked_one mid new
       → ((q : Place) → before ≢ Some q → q ≢ p → (⊥ → after ≢ Some q) → new.entry q ≡ mid.entry q)

@@ -1,4 +1,4 @@
--- What an edit touches follows of what its parts change: the link that is acquired or released, and the neighbors that are turned.
+-- These lemmas say what an edit touches. An edit links or unlinks a place, and changes the links of the place's neighbors.
 use Rattle.std.proofs.Common.{◌≡◌, ◌≢◌, Bool, Option, Some, List, [], ◌∷◌, ◌++◌, sym, ap, subst, ◌∙◌}
 use Rattle.ic_link_ops.specs.Prelude.{Place, Table, ChangesOnly, IsLinked, KeepsLinked, LinksAlso, Unlinks, LinkStep, acquires, releases}
 use Rattle.ic_link_ops.specs.StepLaws.{trace_within}
@@ -7,23 +7,23 @@ use Rattle.ic_raw.specs.declared.table.RawTable.{RawTable}
 use Rattle.ic_raw.specs.Tables.{IsFree, raw_entries, raw_table}
 use Rattle.ic_raw.specs.Touches.{Touches}
 
--- two places differ where their ends do
+-- two places differ if the options of these places differ
 pub other_place : {p q : Place} → (Some p ≢ Some q) → q ≢ p
 other_place away same = away (ap (λ x. Some x) (sym same))
 
 module _ {E : Type 0} {linked : E → Bool} where
-  -- a place is linked, and then entries change that say the same of links
+  -- if a place is linked first, and later changes keep all marks, the whole edit links exactly this place
   pub links_first : {old mid new : Table E} {p : Place} → IsFree linked old p → IsLinked linked mid p → ChangesOnly old mid p → KeepsLinked linked mid new
       → LinksAlso linked old new p
   links_first free is only keeps = record { was = free.unlinked; is = keeps _ ∙ is; others = λ q n. keeps q ∙ ap linked (only.others q n) }
 
-  -- entries change that say the same of links, and then a place is unlinked
+  -- if changes keep all marks, and a place is then unlinked, the whole edit unlinks exactly this place
   pub unlinks_last : {old mid new : Table E} {p : Place} → KeepsLinked linked old mid → Unlinks linked mid new p → Unlinks linked old new p
   unlinks_last keeps off = record { was = sym (keeps _) ∙ off.was; is = off.is; others = λ q n. off.others q n ∙ keeps q }
 
-  -- `Names`: entries of the kind say what stands before their places
+  -- If `Names` holds, the entry of a place also names the place before it
   module _ {Names : Type 0} {old mid new : Table E} {before following : Option Place} where
-    -- INSERT: p is linked, and then put between its neighbors
+    -- INSERT: p is marked as linked, and then linked between its neighbors. The edit touches only p and its neighbors
     pub touches_insert : {p : Place} → IsFree linked old p → IsLinked linked mid p → ChangesOnly old mid p → KeepsLinked linked mid new
         → ((q : Place) → before ≢ Some q → q ≢ p → (Names → following ≢ Some q) → new.entry q ≡ mid.entry q)
         → Touches linked old new (acquires p ∷ []) (Some p ∷ before ∷ following ∷ [])
@@ -32,7 +32,7 @@ module _ {E : Type 0} {linked : E → Bool} where
       others = λ q out. let away = other_place out.0 in others q out.1.0 away (λ _. out.1.1.0) ∙ only.others q away;
     }
 
-    -- REMOVE: the neighbors of p are turned to each other, and then p is unlinked
+    -- REMOVE: the neighbors of p are linked to each other, and p is then unlinked. The edit touches only p and its neighbors
     pub touches_remove : {p : Place} → KeepsLinked linked old mid → ((q : Place) → before ≢ Some q → (Names → following ≢ Some q) → mid.entry q ≡ old.entry q)
         → Unlinks linked mid new p → ChangesOnly mid new p → Touches linked old new (releases p ∷ []) (Some p ∷ before ∷ following ∷ [])
     touches_remove keeps others off only = record {
@@ -41,18 +41,18 @@ module _ {E : Type 0} {linked : E → Bool} where
     }
 
   module _ {Names : Type 0} {old new : Table E} {before following : Option Place} where
-    -- SPLIT: both sides of a gap are turned to none
+    -- SPLIT: the links across a gap are replaced by none. The edit touches only the two sides of the gap
     pub touches_split : KeepsLinked linked old new → ((q : Place) → before ≢ Some q → (Names → following ≢ Some q) → new.entry q ≡ old.entry q)
         → Touches linked old new [] (before ∷ following ∷ [])
     touches_split keeps others = record { steps_are = keeps; others = λ q out. others q out.0 (λ _. out.1.0) }
 
-    -- SPLICE: both sides of a gap, and both ends of what goes in, are turned to each other
+    -- SPLICE: the sides of a gap are linked to the ends of the inserted list. The edit touches only these four places
     pub touches_splice : {head end : Option Place} → KeepsLinked linked old new
         → ((q : Place) → before ≢ Some q → (Names → following ≢ Some q) → (Names → head ≢ Some q) → end ≢ Some q → new.entry q ≡ old.entry q)
         → Touches linked old new [] (before ∷ following ∷ head ∷ end ∷ [])
     touches_splice keeps others = record { steps_are = keeps; others = λ q out. others q out.0 (λ _. out.1.0) (λ _. out.1.1.0) out.1.1.1.0 }
 
-    -- MOVE: the neighbors of p are turned to each other, and then p is put between two others
+    -- MOVE: the neighbors of p are linked to each other, and p is then linked between two other places. The edit touches only p and these four places
     pub touches_move : (mid : Table E) {p : Place} {ahead after : Option Place} → KeepsLinked linked old mid → KeepsLinked linked mid new
         → ((q : Place) → before ≢ Some q → (Names → following ≢ Some q) → mid.entry q ≡ old.entry q)
         → ((q : Place) → ahead ≢ Some q → q ≢ p → (Names → after ≢ Some q) → new.entry q ≡ mid.entry q)
@@ -62,7 +62,8 @@ module _ {E : Type 0} {linked : E → Bool} where
       others = λ q out. others' q out.1.1.1.0 (other_place out.0) (λ _. out.1.1.1.1.0) ∙ others q out.1.0 (λ _. out.1.1.0);
     }
 
-  -- REPLACE: p is linked, put between the neighbors of `gone`, and that one is unlinked
+  -- REPLACE: p is marked as linked and linked between the neighbors of `gone`, and `gone` is then unlinked. The edit touches only p, `gone` and the
+  -- neighbors
   pub touches_replace : {Names : Type 0} {old mid turned new : Table E} {before following : Option Place} {p gone : Place} → IsFree linked old p → IsLinked linked mid p
       → ChangesOnly old mid p → KeepsLinked linked mid turned
       → ((q : Place) → before ≢ Some q → q ≢ p → (Names → following ≢ Some q) → turned.entry q ≡ mid.entry q)
@@ -75,16 +76,16 @@ module _ {E : Type 0} {linked : E → Bool} where
         gone_only.others q (other_place out.1.0) ∙ others q out.1.1.0 away (λ _. out.1.1.1.0) ∙ only.others q away;
   }
 
-  -- the same places, named otherwise
+  -- what an edit touches can be said with an equal list of places
   pub touches_same : {old new : Table E} {steps : List LinkStep} {places places' : List (Option Place)} → places ≡ places'
       → Touches linked old new steps places → Touches linked old new steps places'
   touches_same {old} {new} {steps} same touched = subst (λ named. Touches linked old new steps named) same touched
 
-  -- an edit that changes nothing
+  -- an edit that changes nothing touches nothing
   pub touches_nothing : {old new : Table E} {places : List (Option Place)} → new ≡ old → Touches linked old new [] places
   touches_nothing same = record { steps_are = λ q. ap (λ t. linked (t.entry q)) same; others = λ q out. ap (λ t. t.entry q) same }
 
-  -- what a view of words touches is touched among the words
+  -- what an edit touches in a view is what it touches in the words that the caller lent
   pub touched_back : (unlinked : E) (a b : RawTable E) {es fs : List E} {steps : List LinkStep} {places places' : List (Option Place)} → raw_entries a ≡ es → fs ≡ raw_entries b
       → places' ≡ places → Touches linked (raw_table unlinked a) (raw_table unlinked b) steps places
       → Touches linked (table_of unlinked es) (table_of unlinked fs) steps places'

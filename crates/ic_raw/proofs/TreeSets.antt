@@ -1,4 +1,4 @@
--- What an edit of a tree leaves whatever the words say: which places are linked, and sets of places out of which no link leads.
+-- These lemmas say what an edit of a tree leaves, whatever the words contain: which places are linked, and out of which sets of places no link leads.
 use Rattle.std.proofs.Common.{◌≡◌, ◌≢◌, ◌⊎◌, ℕ, Bool, true, false, cond, nat_lt, Option, Some, None, List, [], ◌∷◌, refl, sym, ap, ◌∙◌, subst, inl, inr, eq-eqb}
 use Rattle.std.proofs.lemmas.Bool.{lt-ltb}
 use Rattle.ic_link_ops.specs.Prelude.{Place, index_of, Extent, Table, ChangesOnly, LinksAlso, Unlinks, Exchanges, LinkStep, TraceIs}
@@ -19,7 +19,7 @@ use Rattle.ic_raw.specs.Words.{is_linked_three}
 use Rattle.ic_raw.proofs.Seen.{seen_changes}
 use Rattle.ic_raw.proofs.Trees.{closed, in_kept}
 
--- A PLACE IS LINKED, and then another one unlinked
+-- A PLACE p IS LINKED, and another place `out` is then unlinked. The whole edit exchanges the two places
 pub exchanges : {E : Type 0} {linked : E → Bool} {old mid new : Table E} {p out : Place} → LinksAlso linked old mid p → p ≢ out → Unlinks linked mid new out
     → Exchanges linked old new p out
 exchanges {p = p} {out} on apart off = record {
@@ -30,12 +30,12 @@ exchanges {p = p} {out} on apart off = record {
   others = λ q n m. off.others q m ∙ on.others q n;
 }
 
--- an end in a set is in each set that has all of it
+-- if a set has an end, each larger set has it
 in_more : {S T : Place → Bool} → ((q : Place) → S q ≡ true → T q ≡ true) → (o : Option Place) → IsIn S o → IsIn T o
 in_more outer None i = tt
 in_more outer (Some q) i = outer q i
 
--- A SET WITH THE PLACE THAT COMES IN has that place, all of the set, and no other
+-- A SET TO WHICH THE PLACE p IS ADDED has p and all places of the set, and no others
 also_here : (p : Place) (S : Place → Bool) → also (Some p) S p ≡ true
 also_here p S = ap (λ b. cond b true (S p)) (eq-eqb (index_of p) (index_of p) refl)
 
@@ -48,17 +48,17 @@ also_more came S q h = pick (is_end came q) where
 also_inner : (p : Place) (S : Place → Bool) (q : Place) → also (Some p) S q ≡ true → q ≢ p → S q ≡ true
 also_inner p S q h apart = sym (ap (λ b. cond b true (S q)) (is_end_not (Some p) q (λ e. apart (sym (some_same e))))) ∙ h
 
--- where a set is closed, all its places, and the root, are places of the table
+-- if no link leads out of a set, all places of the set, and the root, belong to the table
 in_nodes : {t : Table RawThree} {root but : Option Place} {S : Place → Bool} → IsClosedBut seen_node (seen t) root but S → IsIn (has_place t) root
 in_nodes {t} {root} h = in_more {T = has_place t} h.linked root h.starts
 
 module _ {t u : Table RawThree} {p : Place} (only : ChangesOnly t u p) where
-  -- names within the table beside a place that changes
+  -- if only the words of p change, the words of each other place still name only places of the table
   changed_within : (q : Place) → q ≢ p → IsWithin t q → IsWithin u q
   changed_within q apart h =
       subst (λ (x : Extent). NamesWithin x.places (u.entry q)) (sym only.extent) (subst (NamesWithin t.extent.places) (sym (only.others q apart)) h)
 
-  -- and what was closed is closed but there. T may have that place beside those of S
+  -- if no link led out of the set S, only the links of p can lead out of the set T, which has the places of S and perhaps p
   reopened : {root : Option Place} {S T : Place → Bool} → IsClosed seen_node (seen t) root S → ((q : Place) → T q ≡ true → has_place t q ≡ true)
       → ((q : Place) → T q ≡ true → q ≢ p → S q ≡ true) → ((q : Place) → S q ≡ true → T q ≡ true) → IsClosedBut seen_node (seen u) root (Some p) T
   reopened {root} {S} {T} h places inner outer = record {
@@ -72,7 +72,7 @@ module _ {t u : Table RawThree} {p : Place} (only : ChangesOnly t u p) where
     moved r q apart i =
         subst (λ (e : Seen). IsIn T (r (seen_node e))) (sym ((seen_changes t u p only).others q apart)) (in_more outer (r (seen_node ((seen t).entry q))) i)
 
--- A PLACE COMES IN: it is linked, with words that name no other, and then put into the tree
+-- A PLACE IS INSERTED: it is linked, with words that name no other place, and then linked into the tree
 pub came_within : {t mid u : Table RawThree} {p : Place} {root root' at : Option Place} → IsFree is_linked_three t p → ChangesOnly t mid p → IsWithin mid p
     → KeepsMarks mid u
     → ((T : Place → Bool) → IsClosedBut seen_node (seen mid) root (Some p) T → T p ≡ true → IsIn T at → IsClosed seen_node (seen u) root' T)
@@ -98,7 +98,7 @@ came_within {t} {mid} {u} {p} {root} {root'} {at} free only bare keeps_links put
   stays : (S : Place → Bool) → IsClosed seen_node (seen t) root S → IsIn S at → IsClosed seen_node (seen u) root' (also (Some p) S)
   stays S h i = puts (also (Some p) S) (reopened only h (places h) (also_inner p S) (also_more (Some p) S)) (also_here p S) (in_more (also_more (Some p) S) at i)
 
--- NONE COMES IN
+-- NO PLACE IS INSERTED: the edit keeps the marks, and keeps each set out of which no link leads
 pub stays_within : {t u : Table RawThree} {root root' : Option Place} {ends : List (Option Place)} → KeepsMarks t u
     → StaysClosed seen_node (seen t) (seen u) root root' ends []
     → IsIn (has_place t) root → AreIn (has_place t) ends → StaysWithin t u root root' None None ends
@@ -109,7 +109,7 @@ stays_within {t} {root = root} keeps_links stays root_in ends_in = record {
   closed = λ S h ends. (stays S h ends).0;
 }
 
--- A PLACE LEAVES: at last it is unlinked
+-- A PLACE IS REMOVED: its words change last, when it is unlinked
 pub left_within : {t mid u : Table RawThree} {p : Place} {root root' came : Option Place} {ends : List (Option Place)}
     → StaysWithin t mid root root' came None ends → ChangesOnly mid u p
     → StaysWithin t u root root' came (Some p) ends
@@ -120,12 +120,12 @@ left_within {t} {mid} {u} {p} {root' = root'} {came} stays only = record {
   closed = λ S h ends. let k = stays.closed S h ends in reopened only k k.linked (λ q m n. m) (λ q m. m);
 }
 
--- an end to which links lead from the root need not be named
+-- an end to which links lead from the root need not be named among the ends
 pub led_within : {t u : Table RawThree} {root root' at came left : Option Place} → ((S : Place → Bool) → IsClosed seen_node (seen t) root S → IsIn S at)
     → StaysWithin t u root root' came left (at ∷ []) → StaysWithin t u root root' came left []
 led_within leads stays = record { extent = stays.extent; starts = stays.starts; names = stays.names; closed = λ S h ends. stays.closed S h (leads S h, tt) }
 
--- WHAT IS SO OF A VIEW is so of the words
+-- WHAT HOLDS OF A VIEW holds of the words that the caller lent
 closed_as : {v w : Table Seen} {root but : Option Place} {S : Place → Bool} → ((q : Place) → w.entry q ≡ v.entry q) → IsClosedBut seen_node v root but S
     → IsClosedBut seen_node w root but S
 closed_as {S = S} same h = record {
@@ -161,7 +161,7 @@ module _ (a b : RawTable RawThree) {es fs : List RawThree} where
       record { was = x.was; is = x.is; out_was = x.out_was; out_is = x.out_is; others = x.others } in
       rw (← e, f) back
 
--- what is reached in a view is reached among the words
+-- if links lead to a place in a view, they lead to it in the words that the caller lent
 pub reached_back : (a : RawTable RawThree) {es : List RawThree} {root : Option Place} (ends : List (Option Place)) (number : ℕ) → raw_entries a ≡ es
     → HandsOutReached (lent_table a) root ends number → HandsOutReached (table_of es) root ends number
 reached_back a {root = root} ends number e out =

@@ -1,4 +1,4 @@
--- Whither links lead a step of a tree depends on what the words say alone: so what a step does in a view it does among the words.
+-- The links that a step of a tree follows depend only on the words. A step in a view is therefore a step in the words that the caller lent.
 use Rattle.std.proofs.Common.{◌≡◌, ℕ, List, [], ◌∷◌, Option, Some}
 use Rattle.ic_unsafe_ref.specs.declared.place.Place.{Place}
 use Rattle.ic_link_ops.specs.declared.side.Side.{Side}
@@ -7,9 +7,9 @@ use Rattle.ic_raw.specs.declared.words.RawThree.{RawThree}
 use Rattle.ic_raw.specs.Seen.{HandsOutStep, StepEndsIn}
 use Rattle.ic_raw.specs.Tables.{raw_entries}
 use Rattle.ic_raw.specs.Tree.{table_of, lent_table}
-use Rattle.ic_raw.specs.WholeTree.{LeadsThrough, LeadsToEnd}
+use Rattle.ic_raw.specs.TreeShape.{LeadsThrough, LeadsToEnd}
 
--- a step that hands out a number, or has none to hand out
+-- if a step finds a place in a view, or finds none, it does so in the words that the caller lent
 pub step_back : (t : RawTable RawThree) {es : List RawThree} (root at : Option Place) (side : Side) (number : ℕ) → raw_entries t ≡ es
     → HandsOutStep (lent_table t) root side at number → HandsOutStep (table_of es) root side at number
 step_back t root at side number view out =
@@ -19,7 +19,7 @@ pub end_back : (t : RawTable RawThree) {es : List RawThree} (root at : Option Pl
     → StepEndsIn (lent_table t) root side at → StepEndsIn (table_of es) root side at
 end_back t root at side view ends = let back : StepEndsIn (table_of (raw_entries t)) root side at = ends in rw (← view) back
 
--- steps to an end
+-- if steps lead to an end in a view, they lead to an end in the words that the caller lent
 through : (t : RawTable RawThree) (root at : Option Place) (s : List Place) → LeadsThrough (lent_table t) root at s → LeadsThrough (table_of (raw_entries t)) root at s
 through t root at [] h = h
 through t root at (x ∷ s) h = (h.0, h.1, through t root (Some x) s h.2)

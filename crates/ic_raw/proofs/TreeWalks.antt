@@ -1,4 +1,4 @@
--- Trees that are walked from the first member on, while their members lose their marks.
+-- These lemmas follow a walk through a tree from the first member on, while the members lose their marks of linked places.
 use Rattle.std.proofs.Common.{◌≡◌, ◌≢◌, ◌⊎◌, Bool, true, false, eq-eqb, ℕ, ◌≤◌, ◌-◌, ◌*◌, ◌/◌, ◌%◌, inl, inr, Option, Some, None, List, [], ◌∷◌, ◌++◌, length, drop, refl, sym, ap, ◌∙◌, subst, arith, append_assoc, append-nil}
 use Rattle.std.proofs.lemmas.Bool.{ltb-true}
 use Rattle.ic_link_ops.specs.Prelude.{Place, index_of, place_at, Cut, join, first, last, IsMember, Extent, Table, ChangesOnly}
@@ -10,28 +10,28 @@ use Rattle.ic_link_ops.proofs.RepresentedTrees.{holds_linked, holds_length, root
 use Rattle.ic_rbtree.specs.Closed.{IsIn}
 use Rattle.ic_raw.specs.declared.words.RawThree.{RawThree}
 use Rattle.ic_raw.specs.Seen.{seen, seen_node, has_place}
-use Rattle.ic_raw.specs.WholeTree.{IsSeen, OnlyUnmarks, unmarked}
+use Rattle.ic_raw.specs.TreeShape.{IsSeen, OnlyUnmarks, unmarked}
 use Rattle.ic_raw.specs.Words.{place_in, is_linked_three}
 
 module _ {t : Table RawThree} {root : Option Place} where
-  -- what is seen stands in the table: each member,
+  -- each member of a tree, as an edit reads it, belongs to the table
   member_in : {s : List Place} → IsSeen t root s → (o : Option Place) → ((q : Place) → o ≡ Some q → IsMember q s) → IsIn (has_place t) o
   member_in shown None member = tt
   member_in shown (Some q) member = holds_linked shown.held (member q refl)
 
-  -- the root,
+  -- the root of a tree, as an edit reads it, is none or belongs to the table
   pub root_in : {s : List Place} → IsSeen t root s → IsIn (has_place t) root
   root_in shown = member_in shown root (λ q is out. root_member shown is out)
 
-  -- and what stands before a gap
+  -- the place before a gap of the tree is none or belongs to the table
   pub before_in : (cut : Cut) {at : Option Place} → IsSeen t root (join cut) → at ≡ last cut.front → IsIn (has_place t) at
   before_in cut {at} shown after = member_in shown at (λ q is out. (gap_not cut.front cut.back after refl out).0 is)
 
-  -- and so there are as many members as places at most
+  -- a tree has at most as many members as the table has places
   pub seen_length : {s : List Place} → IsSeen t root s → length s ≤ t.extent.places
   seen_length shown = holds_length (seen t) (λ q on. ltb-true (index_of q) t.extent.places on) shown.held
 
--- what is seen stays where all nodes say the same
+-- a table still represents the tree, as an edit reads it, if no node changes
 module _ (t u : Table RawThree) (same : (q : Place) → seen_node ((seen u).entry q) ≡ seen_node ((seen t).entry q)) where
   tree_kept : (up : Option Place) (tree : Tree) → IsTree seen_node (seen t).entry up tree → IsTree seen_node (seen u).entry up tree
   tree_kept up leaf h = tt
@@ -55,7 +55,7 @@ module _ (t u : Table RawThree) (same : (q : Place) → seen_node ((seen u).entr
     shape = h.shape;
   }
 
--- what the words w say at a place, in a table of this extent
+-- `says x q w` is the node that the words w describe at the place q, in a table of the extent x
 abbrev says : Extent → Place → RawThree → Node
 says x q w = seen_node ((seen (record { extent = x; entry = λ p. w })).entry q)
 
@@ -65,7 +65,7 @@ unmarked_says x q w =
     let named : place_in (w.left / 2 * 2) ≡ place_in w.left = ap (λ n. place_at (n % 8589934592 * 8)) half in
     rw named refl
 
--- where a place loses its mark alone, all nodes say the same
+-- if one place loses its mark and nothing else changes, no node changes, as an edit reads the words
 pub seen_unmarked : (t u : Table RawThree) (p : Place) → ChangesOnly t u p → u.entry p ≡ record (t.entry p) { left = (t.entry p).left / 2 * 2 }
     → (q : Place) → seen_node ((seen u).entry q) ≡ seen_node ((seen t).entry q)
 seen_unmarked t u p only is q = elim (same_or_not q p) [
@@ -84,7 +84,7 @@ unmarked_off w off =
 unmarked_twice : (w : RawThree) → unmarked (unmarked w) ≡ unmarked w
 unmarked_twice w = let same : w.left / 2 * 2 / 2 * 2 ≡ w.left / 2 * 2 = omega arith in ap (λ n. record w { left = n }) same
 
--- at a place, it takes the mark off that is still there, or none
+-- if an entry is as it was, or has lost its mark, this still holds after the mark is taken off once more
 mark_off : (w x y : RawThree) → (x ≡ w) ⊎ ((is_linked_three w ≡ true) × (x ≡ unmarked w)) → y ≡ unmarked x → (y ≡ w) ⊎ ((is_linked_three w ≡ true) × (y ≡ unmarked w))
 mark_off w x y (inl k) off = pick (is_linked_three w) refl where
   pick : (b : Bool) → is_linked_three w ≡ b → (y ≡ w) ⊎ ((is_linked_three w ≡ true) × (y ≡ unmarked w))
@@ -92,7 +92,7 @@ mark_off w x y (inl k) off = pick (is_linked_three w) refl where
   pick false none = inl (off ∙ ap unmarked k ∙ unmarked_off w none)
 mark_off w x y (inr k) off = inr (k.0, off ∙ ap unmarked k.1 ∙ unmarked_twice w)
 
--- ONE MORE MARK IS TAKEN OFF
+-- ONE MORE PLACE LOSES ITS MARK, and each entry is still as it was, or has lost the mark of a linked place
 pub unmarks_more : {old now new : Table RawThree} {p : Place} → OnlyUnmarks old now → ChangesOnly now new p → new.entry p ≡ unmarked (now.entry p) → OnlyUnmarks old new
 unmarks_more {old} {now} {new} {p} was only off = record {
   extent = only.extent ∙ was.extent;
@@ -102,7 +102,7 @@ unmarks_more {old} {now} {new} {p} was only off = record {
   ];
 }
 
--- A WALK HAS COME TO `at`: the members `done` are before it, and the others fit into the steps that are left
+-- A WALK HAS COME TO `at`: the members `done` are before `at`, and at most `left` members remain
 pub record HasComeTo (s : List Place) (at : Option Place) (left : ℕ) : Type 0 where
   pub done : List Place
   pub rest : List Place
@@ -120,11 +120,11 @@ module _ {s : List Place} {p : Place} {left : ℕ} (k : HasComeTo s (Some p) lef
   parts_are : s ≡ k.done ++ p ∷ drop 1 k.rest
   parts_are = k.parts ∙ ap (λ (l : List Place). k.done ++ l) rest_is
 
-  -- there is a member,
+  -- the place to which a walk has come is a member of the tree
   pub walk_member : IsMember p s
   walk_member = subst (IsMember p) (sym parts_are) (split_member k.done p (drop 1 k.rest))
 
-  -- after which the rest stands, to which a step leads
+  -- a gap of the tree is after the member p to which the walk has come, and the members after this gap are the rest of the walk
   walk_gap : (cut : Cut) × (s ≡ join cut) × (Some p ≡ last cut.front) × (cut.back ≡ drop 1 k.rest)
   walk_gap = (
     record { front = k.done ++ p ∷ []; back = drop 1 k.rest },
@@ -150,11 +150,11 @@ module _ {s : List Place} {p : Place} {left : ℕ} (k : HasComeTo s (Some p) lef
         refl,
       )
 
--- at the end all are done
+-- if a walk has come to none, it has passed all members
 pub walk_ends : {s : List Place} {at : Option Place} {left : ℕ} (k : HasComeTo s at left) → at ≡ None → k.done ≡ s
 walk_ends {s} {at} k none = sym (k.parts ∙ ap (λ (l : List Place). k.done ++ l) (nothing_first k.rest (sym none ∙ k.next)) ∙ append-nil k.done)
 
--- where no step is left, none is
+-- if no step is left, the walk has come to none
 pub walk_over : {s : List Place} {at : Option Place} {left : ℕ} → HasComeTo s at left → left ≡ 0 → at ≡ None
 walk_over k over = k.next ∙ none k.rest k.few over where
   none : {left : ℕ} (rest : List Place) → length rest ≤ left → left ≡ 0 → first rest ≡ None

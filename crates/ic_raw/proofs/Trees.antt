@@ -1,4 +1,4 @@
--- Trees as the words say them, and as they are seen.
+-- These lemmas compare a tree as its words describe it with the tree as an edit reads the words.
 use Rattle.std.proofs.Common.{◌≡◌, ◌≢◌, ℕ, zero, suc, ◌+◌, ◌≤◌, Bool, true, false, cond, nat_lt, Option, Some, None, List, [], ◌∷◌, ◌++◌, refl, sym, ap, ◌∙◌, subst, inl, inr, arith}
 use Rattle.std.proofs.lemmas.Bool.{lt-ltb}
 use Rattle.ic_link_ops.specs.Prelude.{Place, index_of, Cut, join, first, last, IsAbsent, Extent, Table, IsCovered, IsLinked, ChangesOnlyIn}
@@ -31,11 +31,11 @@ use Rattle.ic_raw.specs.Tree.{node, Represents, IsInsertPos, table_of, lent_tabl
 use Rattle.ic_raw.specs.Seen.{named_within, seen_node, seen, has_place, IsWithin, KeepsMarks}
 use Rattle.ic_raw.proofs.Seen.{named_itself}
 
--- a sequence stays where no entry changes
+-- a table still represents a tree if no entry changes
 pub kept : (t u : Table RawThree) (root : Option Place) (s : List Place) → Represents t root s → ((q : Place) → u.entry q ≡ t.entry q) → Represents u root s
 kept t u root s shown same = represents_kept shown (λ q member. same q)
 
--- what stands beside a gap is a member, and linked, and one place at most stands there
+-- a place beside a gap is a member of the tree, and is linked, and at most one place is on each side of a gap
 beside_member : (side : Side) (cut : Cut) {at : Option Place} {q : Place} → IsBeside side cut at → at ≡ Some q → IsAbsent q (join cut) → ⊥
 beside_member Left cut e is out = (gap_not cut.front cut.back refl e out).1 is
 beside_member Right cut e is out = (gap_not cut.front cut.back e refl out).0 is
@@ -47,22 +47,22 @@ pub one_beside : (side : Side) (cut : Cut) {a b : Option Place} → IsBeside sid
 one_beside Left cut x y = x ∙ sym y
 one_beside Right cut x y = x ∙ sym y
 
--- the root is linked, if there is one
+-- the root is none or linked
 pub root_stands : {t : Table RawThree} {root : Option Place} {s : List Place} → Represents t root s → IsNoneOrLinked is_linked_three t root
 root_stands shown q is = holds_linked shown.held (λ out. root_member shown is out)
 
--- and there is one where a member stands beside a gap
+-- a tree has a root if it has a member beside a gap
 pub beside_rooted : {t : Table RawThree} {root : Option Place} (side : Side) (cut : Cut) → Represents t root (join cut) → {at : Option Place} {q : Place} → IsBeside side cut at → at ≡ Some q → root ≢ None
 beside_rooted {t} {root} side cut shown {at} {q} e is none =
     beside_member side cut e is (subst (λ s. IsAbsent q s) (sym (no_root (subst (λ r. Represents t r (join cut)) none shown))) tt)
 
--- a hole at a member is beside it, and else beside none
-pub hole_beside : (t : Table RawThree) (side : Side) (at : Option Place) (cut : Cut) → IsInsertPos side t at cut → IsBeside side cut at
-hole_beside t Left None cut h = sym (ap first h.1)
-hole_beside t Right None cut h = sym (ap last h.0)
-hole_beside t side (Some x) cut h = h.1
+-- a position for a child on a side of a member is beside this member. If no member is named, it is beside no member
+pub insert_pos_beside : (t : Table RawThree) (side : Side) (at : Option Place) (cut : Cut) → IsInsertPos side t at cut → IsBeside side cut at
+insert_pos_beside t Left None cut h = sym (ap first h.1)
+insert_pos_beside t Right None cut h = sym (ap last h.0)
+insert_pos_beside t side (Some x) cut h = h.1
 
--- where a hole is, a member is linked, or the tree has no root
+-- the place at a position for a child is none or linked
 pub hole_stands : {t : Table RawThree} {root : Option Place} (side : Side) (at : Option Place) (cut : Cut) → Represents t root (join cut) → IsInsertPos side t at cut → IsNoneOrLinked is_linked_three t at
 hole_stands side None cut shown h = λ q e. absurd (none_not q e)
 hole_stands side (Some x) cut shown h = beside_stands side cut shown h.1
@@ -70,24 +70,24 @@ hole_stands side (Some x) cut shown h = beside_stands side cut shown h.1
 pub hole_empty : {t : Table RawThree} {root : Option Place} (side : Side) (cut : Cut) → Represents t root (join cut) → IsInsertPos side t None cut → root ≡ None
 hole_empty {t} {root} side cut shown h = no_members (subst (λ s. Represents t root s) (ap (λ s. s ++ cut.back) h.0 ∙ h.1) shown)
 
--- a hole among the words is one in their view
+-- a position for a child in the words that the caller lent is a position for a child in their view
 pub hole_viewed : {es : List RawThree} (t : RawTable RawThree) (side : Side) (at : Option Place) (cut : Cut) → raw_entries t ≡ es → IsInsertPos side (table_of es) at cut
     → IsInsertPos side (lent_table t) at cut
 hole_viewed t side None cut e h = h
 hole_viewed t side (Some q) cut e h = (subst (λ fs. child_on side (node (entry_at no_tree_words fs q)) ≡ None) (sym e) h.0, h.1)
 
--- entries that are seen as they were are as they were
+-- an entry that is as before, as an edit reads it, is as before
 pub frame_told : {t u : Table RawThree} {s : List Place} → ChangesOnlyIn (seen t) (seen u) s → ChangesOnlyIn t u s
 frame_told frame = record { extent = frame.extent; others = λ q out. ap (λ e. e.words) (frame.others q out) }
 
--- A PLACE IS TOLD, so that what is seen of it is what it says: it is linked, and its words name within the table
+-- AN EDIT READS A PLACE AS ITS WORDS SAY if the place is linked and its words name only places of the table
 abbrev pub AreLinked : Table RawThree → Place → Type 0
 AreLinked t p = IsLinked is_linked_three t p × IsWithin t p
 
 pub told_kept : {t u : Table RawThree} → KeepsMarks t u → (q : Place) → AreLinked t q → AreLinked u q
 told_kept kept q h = (kept.marks q ∙ h.0, kept.names q h.1)
 
--- NO NAME LEADS OUT OF THE TABLE, and so all its places are a closed set
+-- NO LINK LEADS OUT OF THE TABLE, as an edit reads the words, so that no link leads out of the set of all its places
 module _ (t : Table RawThree) where
   named_in : (o : Option Place) → IsIn (has_place t) (named_within t.extent.places o)
   named_in None = tt
@@ -109,13 +109,13 @@ module _ (t : Table RawThree) where
     starts = starts;
   }
 
-  -- a hole is seen as one
+  -- a position for a child is a position for a child as an edit reads the words
   pub seen_hole : (side : Side) (at : Option Place) (cut : Cut) → IsInsertPos side t at cut → holes.IsInsertPos seen_node (seen t) at side cut
   seen_hole side None cut h = h
   seen_hole Left (Some q) cut h = (ap (named_within t.extent.places) h.0, h.1)
   seen_hole Right (Some q) cut h = (ap (named_within t.extent.places) h.0, h.1)
 
--- a place of a table is one of every table of the same extent
+-- a place of a table belongs to every table of the same extent
 pub in_kept : (t u : Table RawThree) (at : Option Place) → u.extent ≡ t.extent → IsIn (has_place t) at → IsIn (has_place u) at
 in_kept t u at e i = subst (λ (x : Extent). IsIn (λ q. nat_lt (index_of q) x.places) at) (sym e) i
 
@@ -123,7 +123,7 @@ in_kept t u at e i = subst (λ (x : Extent). IsIn (λ q. nat_lt (index_of q) x.p
 pub in_range : (t : RawTable RawThree) (q : Place) → is_linked_three ((lent_table t).entry q) ≡ true → IsCovered (lent_table t) q
 in_range t q on = linked_in_range is_linked_three no_tree_words refl (raw_entries t) (index_of q) on
 
--- WHAT THE WORDS SHOW IS SEEN. `law`: only places of the table are linked
+-- A TREE THAT THE WORDS DESCRIBE is a tree as an edit reads the words. `law` says that only places of the table are linked
 module _ (t : Table RawThree) (law : (q : Place) → is_linked_three (t.entry q) ≡ true → IsCovered t q) where
   pub has : (p : Place) → is_linked_three (t.entry p) ≡ true → has_place t p ≡ true
   has p on = lt-ltb (index_of p) t.extent.places (law p on)
@@ -136,7 +136,7 @@ module _ (t : Table RawThree) (law : (q : Place) → is_linked_three (t.entry q)
   top_in up leaf h = tt
   top_in up (fork c a p b) h = has p h.0.linked
 
-  -- the words of a member name its children and its parent, and so they name within the table
+  -- the words of a member name its children and its parent, so that they name only places of the table
   named_as : {o : Option Place} (x : Option Place) → o ≡ x → IsIn (has_place t) x → named_within t.extent.places o ≡ o
   named_as {o} x e h = named_itself t.extent.places o (λ q k. in_there (has_place t) h (sym e ∙ k))
 
@@ -165,7 +165,7 @@ module _ (t : Table RawThree) (law : (q : Place) → is_linked_three (t.entry q)
     positive zero e = absurd (member (times_absent q s (ap (times_in q) (sym shown.held.order) ∙ times_order q shown.tree ∙ e)))
     positive (suc m) e = omega (arith, e)
 
-  -- what is seen as a hole is one
+  -- a position for a child, as an edit reads the words, is a position for a child in the words themselves
   pub hole_told : {root : Option Place} (side : Side) (at : Option Place) (cut : Cut) → Represents t root (join cut) → holes.IsInsertPos seen_node (seen t) at side cut → IsInsertPos side t at cut
   hole_told side None cut shown h = h
   hole_told Left (Some q) cut shown h = (sym (within shown q (beside_member Left cut h.1 refl)).left ∙ h.0, h.1)
@@ -199,7 +199,7 @@ module _ (t : Table RawThree) (law : (q : Place) → is_linked_three (t.entry q)
   pub seen_represents : {root : Option Place} {s : List Place} → Represents t root s → trees.Represents seen_node (seen t) root s
   seen_represents h = represents_of seen_node (seen_represented [] (represented_of node h) tt)
 
-  -- members are told, and a place beside them that is
+  -- an edit reads each member of a tree as its words say, and also one more place that is linked and names only places of the table
   pub members_told : {root : Option Place} {s : List Place} → Represents t root s → (q : Place) → (IsAbsent q s → ⊥) → AreLinked t q
   members_told shown q member = (holds_linked shown.held member, within shown q member)
 
@@ -210,7 +210,7 @@ module _ (t : Table RawThree) (law : (q : Place) → is_linked_three (t.entry q)
     | inr n ↦ members_told shown q (λ out. member (absent_with front back p q n (among q out)))
   ]
 
--- WHAT IS SEEN THE WORDS SHOW, where the members are told
+-- A TREE AS AN EDIT READS IT is the tree that the words describe, if an edit reads each member as its words say
 module _ (t : Table RawThree) where
   told_tree : (up : Option Place) (tree : Tree) → IsTree seen_node (seen t).entry up tree → ((q : Place) → 1 ≤ times q tree → AreLinked t q) → IsTree node t.entry up tree
   told_tree up leaf h is = tt
@@ -239,7 +239,7 @@ module _ (t : Table RawThree) where
     shape = h.shape;
   }
 
--- A MEMBER THAT NAMES NO PARENT IS THE ROOT, since each other one stands below another
+-- A MEMBER THAT NAMES NO PARENT IS THE ROOT, because each other member is below a member that it names as its parent
 below_named : (entry : Place → RawThree) (up : Place) (tree : Tree) (p : Place) → IsTree node entry (Some up) tree → (node (entry p)).parent ≡ None → IsAbsent p (in_order tree)
 below_named entry up leaf p t none = tt
 below_named entry up (fork c a x b) p t none =

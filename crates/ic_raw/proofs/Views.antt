@@ -1,4 +1,4 @@
--- What holds of a view holds of the words that were lent.
+-- If a statement holds of a view of a table, it holds of the words that the caller lent.
 use Rattle.std.proofs.Common.{◌≡◌, ◌↔◌, Bool, Option, List, [], inl, refl, ap, subst}
 use Rattle.std.specs.declared.cmp.Ordering.{Ordering}
 use Rattle.ic_link_ops.specs.Prelude.{Place, Cut, Table, ChangesOnlyIn, IsUnlinked}
@@ -15,13 +15,13 @@ module _ {W : Type 0} (unlinked : W) where
       → ChangesOnlyIn (table_of unlinked (raw_entries a)) (table_of unlinked (raw_entries b)) s
   frame_back a b f = record { extent = ap (λ e. record { places = e.places; identity = [] }) f.extent; others = f.others }
 
-  -- what is free among the words is free in the view
+  -- if a place is free in the words that the caller lent, it is free in their view
   pub free_viewed : {is_linked : W → Bool} {es : List W} (t : RawTable W) {p : Place} → raw_entries t ≡ es → IsFree is_linked (table_of unlinked es) p
       → IsFree is_linked (raw_table unlinked t) p
   free_viewed {is_linked} {es} t {p} e free =
       let same : IsFree is_linked (table_of unlinked (raw_entries t)) p = rw e free in record { covered = same.covered; unlinked = same.unlinked }
 
-  -- and the other way round, if a place is named
+  -- a place that the caller names is free in a view exactly if it is free in the words that the caller lent
   pub free_same : {is_linked : W → Bool} {es : List W} (t : RawTable W) {place named : Option Place} → raw_entries t ≡ es → place ≡ named
       → NamesFree is_linked (raw_table unlinked t) place ↔ NamesFree is_linked (table_of unlinked es) named
   free_same {is_linked} t {place} {named} e is =
@@ -33,20 +33,20 @@ module _ {W : Type 0} (unlinked : W) where
       subst (λ es. seen ↔ NamesFree is_linked (table_of unlinked es) named) e
       (subst (λ at. seen ↔ NamesFree is_linked (table_of unlinked (raw_entries t)) at) is same)
 
-  -- `kept`: a sequence stays where no entry changes
+  -- `kept` says that a table still represents a sequence if none of its entries changes
   module _ {H : Type 0} {Represents : Table W → H → List Place → Type 0}
       (kept : (t u : Table W) (h : H) (s : List Place) → Represents t h s → ((q : Place) → u.entry q ≡ t.entry q) → Represents u h s) where
-    -- what the words represent the view represents
+    -- a view represents each sequence that the words represent
     pub viewed : {es : List W} (t : RawTable W) {h : H} {s : List Place} → raw_entries t ≡ es → Represents (table_of unlinked es) h s → Represents (raw_table unlinked t) h s
     viewed t e shown = kept _ _ _ _ shown (λ q. ap (λ es. entry_at unlinked es q) e)
 
-    -- and the other way round
+    -- the words that the caller lent represent each sequence that their view represents
     pub represented_back : {es : List W} (t : RawTable W) {h : H} {s : List Place} → raw_entries t ≡ es → Represents (raw_table unlinked t) h s → Represents (table_of unlinked es) h s
     represented_back t {h} {s} e shown =
         let back : Represents (table_of unlinked (raw_entries t)) h s = kept _ _ _ _ shown (λ q. refl) in
         rw (← e) back
 
-    -- and what is done to the view is done to the words, once the list is kept
+    -- an edit of a view is an edit of the words that the caller lent, once the list is written back
     pub inserted_back : (a b : RawTable W) {es fs : List W} {h h' : H} {cut : Cut} {p : Place} → raw_entries a ≡ es → fs ≡ raw_entries b → h' ≡ h
         → Inserts Represents (raw_table unlinked a) (raw_table unlinked b) h cut p → Inserts Represents (table_of unlinked es) (table_of unlinked fs) h' cut p
     inserted_back a b {h} {cut} {p} e f k i =
@@ -99,17 +99,17 @@ module _ {W : Type 0} (unlinked : W) where
       record { extent = ap (λ x. record { places = x.places; identity = [] }) c.extent; entries = c.entries } in
       rw (← e, f) back
 
-  -- what is unlinked in the view is unlinked among the words
+  -- if a place is unlinked in a view, it is unlinked in the words that the caller lent
   pub unlinked_back : (is_linked : W → Bool) (b : RawTable W) {fs : List W} (p : Place) → fs ≡ raw_entries b → IsUnlinked is_linked (raw_table unlinked b) p
       → IsUnlinked is_linked (table_of unlinked fs) p
   unlinked_back is_linked b {fs} p f off =
       let back : IsUnlinked is_linked (table_of unlinked (raw_entries b)) p = off in
       rw f back
 
--- no place is unlinked
+-- if nothing changes, no place is unlinked
 pub unlinks_none : {W : Type 0} {is_linked : W → Bool} {off : W → W} (t : Table W) → OnlyUnlinks is_linked off t t
 unlinks_none t = record { extent = refl; entries = λ q. inl refl }
 
--- what a call does stays said where the words before it, and those after it, are named otherwise
+-- what a call does can be said with equal names for the words before the call and the words after it
 pub renamed : {W : Type 0} (Trace : List W → List W → Type 0) {old old' new new' : List W} → old' ≡ old → new ≡ new' → Trace old' new' → Trace old new
 renamed Trace e f does = rw (← e, f) does

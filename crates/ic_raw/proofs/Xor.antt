@@ -1,4 +1,4 @@
--- What calls of an XOR list read of what is represented.
+-- These lemmas say what the calls of an XOR list read from the words, if the words represent a list.
 use Rattle.std.proofs.Common.{◌≡◌, inl, inr, ℕ, nat_eq, true, Option, Some, None, List, [], ◌∷◌, ◌++◌, drop, reverse, refl, sym, ap, subst, ◌∙◌, append_assoc, append-nil}
 use Rattle.std.proofs.lemmas.Bool.{eq-eqb}
 use Rattle.ic_link_ops.specs.Prelude.{Place, word_of, first, last, but_last, Table, ChangesOnly, IsLinked}
@@ -19,18 +19,18 @@ use Rattle.ic_raw.specs.Xor.{Represents, HasNeighbors, GoesOn, Faces, TellsGap, 
 use Rattle.ic_raw.proofs.Entries.{same_word}
 use Rattle.ic_raw.proofs.Lists.{before_stands, after_stands}
 
--- two words are the same exactly if their places are
+-- two words are equal exactly if their places are equal
 pub words_tell : {a b : Option Place} {v w : ℕ} → v ≡ word_of a → w ≡ word_of b → (nat_eq v w ≡ true → a ≡ b) × (a ≡ b → nat_eq v w ≡ true)
 words_tell {a} {b} {v} {w} e f = (same_word a b e f, λ same. eq-eqb v w (e ∙ ap word_of same ∙ sym f))
 
--- either neighbor tells the other
+-- each of the two neighbors of a place, together with the place's word, gives the second neighbor
 pub other_after : (e : RawOne) (a b : Option Place) → HasNeighbors e a b → other e a ≡ b
 other_after e a b j = joins_finds_other (next_of_one e) a b j
 
 other_before : (e : RawOne) (a b : Option Place) → HasNeighbors e a b → other e b ≡ a
 other_before e a b j = joins_finds_other (next_of_one e) b a (joins_symmetric (next_of_one e) a b j)
 
--- a list goes on beyond a place, and the place faces its neighbor, by what stands there
+-- the list goes on beyond a place, and the place faces its neighbor, if the places there are none or linked and the ends are at the right places
 goes_on_by : (t : Table RawOne) (end : Option Place) (p : Place) (beyond : Option Place) → IsNoneOrLinked is_linked_one t beyond → (beyond ≡ None → end ≡ Some p) → GoesOn t.entry end p beyond
 goes_on_by t end p None stands ends = ends refl
 goes_on_by t end p (Some q) stands ends = stands q refl
@@ -42,7 +42,7 @@ faces_by t end None neighbor stands none beyond ends = none refl
 faces_by t end (Some p) neighbor stands none beyond ends = (stands p refl, goes_on_by t end p (other (t.entry p) neighbor) (beyond p refl) (ends p refl))
 
 module _ {t : Table RawOne} {list : Ends} (front back : List Place) (shown : Represents t list (front ++ back)) where
-  -- the list, cut on the other side of a place beside a gap, and what stands there
+  -- the list can be cut at the next gap, on the opposite side of a place beside this gap. The word of the place and its neighbor give the place there
   cut_before : {p : Place} → Some p ≡ last front → Represents t list (but_last front ++ p ∷ back)
   cut_before {p} here = rw (← append_assoc (but_last front) (p ∷ []) back) (rw (← split_last front (sym here)) shown)
 
@@ -55,7 +55,7 @@ module _ {t : Table RawOne} {list : Ends} (front back : List Place) (shown : Rep
   beyond_after : {p : Place} {to : Option Place} → Some p ≡ first back → to ≡ last front → other (t.entry p) to ≡ first (drop 1 back)
   beyond_after {p} here k = ap (other (t.entry p)) k ∙ other_after (t.entry p) _ _ (after_gap front back shown here).joined
 
-  -- so each place beside a gap faces the other
+  -- each of the two places beside a gap faces the other place
   before_faces : {at to : Option Place} → at ≡ last front → to ≡ first back → Faces t.entry list.head at to
   before_faces {at} {to} e k =
       faces_by t list.head at to (before_stands joined_linked front back shown e) (λ none. shown.head ∙ first_of_back front back (sym none ∙ e) ∙ sym k)
@@ -69,11 +69,11 @@ module _ {t : Table RawOne} {list : Ends} (front back : List Place) (shown : Rep
       (λ p is n.
       (cut_after (sym is ∙ e)).tail ∙ last_of_front (front ++ p ∷ []) (drop 1 back) (sym n ∙ beyond_after (sym is ∙ e) k) ∙ last_of_push front p)
 
-  -- THE WORDS TELL OF EACH GAP of a list that is represented,
+  -- THE WORDS CONFIRM EACH GAP of a list that they represent
   pub gap_told : {before after : Option Place} → before ≡ last front → after ≡ first back → TellsGap t list before after
   gap_told e k = (before_faces e k, after_faces k e)
 
--- of each member, which is linked, and whose neighbors tell each other,
+-- the words confirm each member of a list that they represent. The member is linked, and each of its neighbors and its word give the second neighbor
 module _ {t : Table RawOne} {list : Ends} (front : List Place) (p : Place) (back : List Place) (shown : Represents t list (front ++ p ∷ back)) where
   pub member_told : {before after : Option Place} → before ≡ last front → after ≡ first back → TellsMember t list before p after
   member_told e k =
@@ -89,27 +89,27 @@ module _ {t : Table RawOne} {list : Ends} (front : List Place) (p : Place) (back
   pub prev_represented : {after : Option Place} → after ≡ first back → other (t.entry p) after ≡ last front
   prev_represented e = ap (other (t.entry p)) e ∙ other_before (t.entry p) _ _ (represents_middle front back shown).joined
 
--- and of the list by its ends
+-- the words confirm the ends of a list that they represent
 pub ends_told : {t : Table RawOne} {list : Ends} {s : List Place} → Represents t list s → TellsEnds t list
 ends_told {t} {list} {s} shown =
     let whole : Represents t list (s ++ []) = rw append-nil shown in
     (after_faces [] s shown shown.head refl, before_faces s [] whole shown.tail refl)
 
--- a list is turned round by its ends alone
+-- a list is reversed if its two ends are exchanged, and no entry changes
 pub turned : {t : Table RawOne} {list list' : Ends} {s : List Place} → Represents t list s → list'.head ≡ list.tail → list'.tail ≡ list.head → Represents t list' (reverse s)
 turned shown head tail = represents_reversed (joined_symmetric (λ e a b. joins_symmetric (next_of_one e) a b)) shown head tail
 
--- a list's own ends, by what they are read of and written to
+-- the ends of a list after an edit can be said with equal names for the ends before and after it
 pub turned_back : {gap : Gap} {begins ends ends' : Option Place} {old old' new new' : Ends} → ends' ≡ ends → old ≡ old' → new' ≡ new → Turns gap begins ends old new
     → Turns gap begins ends' old' new'
 turned_back same e f turns = rw (same, ← e, f) turns
 
--- what the words of a view lead through
+-- if the links lead through a sequence in a view, they lead through it in the words that the caller lent
 pub leads_back : {es : List RawOne} (t : RawTable RawOne) (list : Ends) (s : List Place) → raw_entries t ≡ es → LeadsThrough (lent_table t) list s → LeadsThrough (table_of es) list s
 leads_back t list s e leads =
     let back : LeadsThrough (table_of (raw_entries t)) list s = leads in subst (λ es. LeadsThrough (table_of es) list s) e back
 
--- ONE MORE PLACE IS UNLINKED: it was linked from the first
+-- ONE MORE PLACE IS UNLINKED. A place that is linked now was linked at the start, because places are only unlinked
 was_linked : {old now : Table RawOne} → OnlyUnlinks old now → (q : Place) → IsLinked is_linked_one now q → IsLinked is_linked_one old q
 was_linked was q on = elim (was.entries q) [ inl k ↦ ap is_linked_one (sym k) ∙ on | inr k ↦ k.0 ]
 

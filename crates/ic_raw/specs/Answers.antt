@@ -1,29 +1,31 @@
--- What the status of a call means.
+-- This file says what the status means that a call returns.
 use Rattle.std.specs.Prelude.{◌≡◌, ◌≤◌, ℕ, zero, suc, List, [], ◌∷◌, Option, Some, None}
 use Rattle.ic_unsafe_ref.specs.declared.place.Place.{Place}
 use Rattle.ic_raw.specs.declared.status.TheConstants.{OK, NULL, BROKEN}
 use Rattle.ic_raw.specs.Words.{HasNumber}
 
--- one of the six statuses
+-- the number `status` is one of the six statuses that a call can return
 abbrev pub IsStatus : ℕ → Type 0
 IsStatus status = status ≤ BROKEN
 
--- WHY A CALL IS REFUSED: by the first fault of a place that it names, and if none has one, because the words do not fit together
+-- WHY A CALL IS REFUSED: the status of a refused call is the first number in `faults` that is not `OK`. If all of them are `OK`, the status is
+-- `BROKEN`, because the words do not fit together
 abbrev pub refusal : (faults : List ℕ) → ℕ
 refusal [] = BROKEN
 refusal (zero ∷ faults) = refusal faults
 refusal (suc fault ∷ faults) = suc fault
 
--- THE CALL IS ACCEPTED, and makes the edit `Trace`
+-- THE CALL IS ACCEPTED: its status is `OK`, and it has made the edit `Trace`
 pub record IsAccepted (status : ℕ) (Trace : Type 0) : Type 0 where
   pub accepted : status ≡ OK
   pub done : Trace
 
--- THE ANSWER TO A SEARCH that found this member, or none: the number is that of the member, or the status is `NULL`
+-- THE RESULT OF A SEARCH: if the search found a member, the call is accepted, and `number` is the number of this member. If the search found none,
+-- the status is `NULL`
 abbrev pub IsFound : Option Place → (status number : ℕ) → Type 0
 IsFound None status number = status ≡ NULL
 IsFound (Some p) status number = IsAccepted status (HasNumber p number)
 
--- the answer is some position, a member or none, that has the property `Is`
+-- the result of the call is a position that has the property `Is`. A position is a member, or none
 abbrev pub HandsOut : (Option Place → Type 0) → (status number : ℕ) → Type 0
 HandsOut Is status number = (position : Option Place) × Is position × IsFound position status number

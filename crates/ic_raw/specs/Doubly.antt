@@ -1,4 +1,4 @@
--- Doubly linked lists over a caller's words.
+-- This file says when words that a caller lends represent a doubly linked list.
 use Rattle.std.specs.Prelude.{◌≡◌, ℕ, List, [], ◌∷◌, ◌++◌, Option, Some, None}
 use Rattle.ic_link_ops.specs.Prelude.{Place, word_of, Cut, Table}
 use Rattle.ic_link_ops.specs.Chains.{Ends}
@@ -8,8 +8,8 @@ use Rattle.ic_link_ops.specs.LinkedList.{neighbors_at}
 use Rattle.ic_link_ops.specs.Widths.{nameable}
 use Rattle.ic_raw.specs.declared.words.RawEnds.{RawEnds}
 use Rattle.ic_raw.specs.declared.gap.Gap.{Gap}
-use Rattle.ic_raw.specs.declared.gap.Side.{Side}
-use Rattle.ic_raw.specs.declared.gap.Side.TheVariants.{After, Before}
+use Rattle.ic_raw.specs.declared.gap.GapSide.{GapSide}
+use Rattle.ic_raw.specs.declared.gap.GapSide.TheVariants.{After, Before}
 use Rattle.ic_raw.specs.Answers.{IsAccepted}
 use Rattle.ic_raw.specs.Gaps.{IsNoneOrLinked}
 use Rattle.ic_raw.specs.LinkWords.{LinkWords, neighbors, table_of}
@@ -17,11 +17,11 @@ use Rattle.ic_raw.specs.Words.{place_in}
 use Rattle.ic_raw.specs.Calls as calls
 use Rattle.ic_raw.specs.Fills as fills
 
--- the first and the last place that a list's two words name
+-- `ends_of l` is the first and the last place of a list, which its two words name
 abbrev pub ends_of : RawEnds → Ends
 ends_of l = record { head = place_in l.head; tail = place_in l.tail }
 
--- the words of a list with these ends, as a call writes them: 0 if there is no such place
+-- `words_of list` is the two words of a list with these ends, as a call writes them. The word of an end that is none is 0
 abbrev pub words_of : Ends → RawEnds
 words_of list = record { head = word_of list.head; tail = word_of list.tail }
 
@@ -29,23 +29,24 @@ words_of list = record { head = word_of list.head; tail = word_of list.tail }
 abbrev pub IsWritten : RawEnds → Type 0
 IsWritten list = list ≡ words_of (ends_of list)
 
--- the end of a list that a side means if no member is named: the first member for `After`, the last one for `Before`
-abbrev pub end_on : Side → Ends → Option Place
+-- `end_on` is the end of a list that a side means if the caller names no member: the first member for `After`, and the last member for `Before`
+abbrev pub end_on : GapSide → Ends → Option Place
 end_on After list = list.head
 end_on Before list = list.tail
 
--- a member between these two places is at that end
-abbrev pub IsEnd : Side → (front back : List Place) → Type 0
+-- a member between `front` and `back` is at the end that the side means: for `After` no member is before it, and for `Before` none is after it
+abbrev pub IsEnd : GapSide → (front back : List Place) → Type 0
 IsEnd After front back = front ≡ []
 IsEnd Before front back = back ≡ []
 
--- `words`: how the words of a place are read, which have 8 bytes or 4
+-- `words` says how the words of a place are read. They have 8 bytes each, or 4 bytes each
 module _ {W : Type 0} (words : LinkWords W) where
-  -- THE TABLE REPRESENTS s as the list with these ends
+  -- THE TABLE REPRESENTS A SEQUENCE of places as the doubly linked list with these ends
   abbrev pub Represents : Table W → Ends → List Place → Type 0
   Represents = doubly.Represents (neighbors words)
 
-  -- the places after and before a place; for none, the first and the last place of the list
+  -- `next_from` is the place after a given place, and `prev_from` is the place before it. If no place is given, they are the first and the last place
+  -- of the list
   abbrev pub next_from : Table W → Ends → Option Place → Option Place
   next_from t list None = list.head
   next_from t list (Some p) = (neighbors_at (neighbors words) t p).next
@@ -54,30 +55,31 @@ module _ {W : Type 0} (words : LinkWords W) where
   prev_from t list None = list.tail
   prev_from t list (Some p) = (neighbors_at (neighbors words) t p).prev
 
-  -- the gap on this side of a place, by the word of that place
-  abbrev pub gap_from : Side → Table W → Ends → Option Place → Gap
+  -- `gap_from` is the gap between the place `at` and its neighbor on this side. The word of `at` names the neighbor
+  abbrev pub gap_from : GapSide → Table W → Ends → Option Place → Gap
   gap_from After t list at = record { before = at; after = next_from t list at }
   gap_from Before t list at = record { before = prev_from t list at; after = at }
 
-  -- the places on both sides of a member, by its words; for none, the last member and the first
+  -- `around` is the two neighbors of the member `at`, as its words name them. If `at` is none, they are the last and the first member of the list
   abbrev pub around : Table W → Ends → Option Place → Gap
   around t list at = record { before = prev_from t list at; after = next_from t list at }
 
-  -- THE LINKS CONFIRM A GAP on this side of a place: the place there is none, or it is linked and names this place as its neighbor
-  abbrev pub TellsGap : Side → Table W → Ends → Option Place → Type 0
+  -- THE LINKS CONFIRM A GAP beside the place `at`: the neighbor of `at` on this side is none or a linked place, and the links lead from this neighbor
+  -- back to `at`
+  abbrev pub TellsGap : GapSide → Table W → Ends → Option Place → Type 0
   TellsGap After t list at = IsNoneOrLinked words.is_linked t (next_from t list at) × (prev_from t list (next_from t list at) ≡ at)
   TellsGap Before t list at = IsNoneOrLinked words.is_linked t (prev_from t list at) × (next_from t list (prev_from t list at) ≡ at)
 
-  -- a list is cut at a gap: the part that it gives away is on the side of the gap on which the call edits
-  abbrev pub SplitsBeside : Side → (old new : Table W) → (kept handed : Ends) → Cut → Type 0
+  -- the call cuts the list at a gap. For the side `After` the list gives away the part after the gap, and for `Before` the part before the gap
+  abbrev pub SplitsBeside : GapSide → (old new : Table W) → (kept handed : Ends) → Cut → Type 0
   SplitsBeside After old new kept handed cut = Splits Represents old new kept handed cut.front cut.back
   SplitsBeside Before old new kept handed cut = Splits Represents old new kept handed cut.back cut.front
 
-  -- what a call does to such words, for the places that they can name
+  -- the table of the words `es` represents s as the list that has the words `list`. The table has only the places that words of this width can name
   abbrev pub RepresentsList : List W → RawEnds → List Place → Type 0
   RepresentsList es list s = Represents (table_of words es) (ends_of list) s
 
-  -- the place is none, or a linked place of the table of these words
+  -- `at` is none, or it is a linked place of the table of these words
   abbrev pub IsNoneOrLinkedIn : List W → Option Place → Type 0
   IsNoneOrLinkedIn es = IsNoneOrLinked words.is_linked (table_of words es)
 
@@ -94,20 +96,20 @@ module _ {W : Type 0} (words : LinkWords W) where
     abbrev pub Replaced : Place → (front back : List Place) → Place → Type 0
     Replaced = calls.Replaced Represents words.is_linked words.unlinked ends_of (nameable words.width old) (nameable words.width new) list list' status
 
-    -- a member is moved to the position at which the other members are cut
+    -- the call takes the member p out of the list, and inserts p at the position `cut` of the remaining members
     abbrev pub Moved : Place → (front back : List Place) → Cut → Type 0
     Moved p front back cut =
         RepresentsList old list (front ++ p ∷ back) → IsAccepted status (Inserts Represents (table_of words old) (table_of words new) (ends_of list') cut p)
 
-    -- a member stays where it is, and nothing is changed
+    -- if p is a member of the list, the call is accepted and changes nothing, so that p stays where it is
     abbrev pub Stayed : Place → (front back : List Place) → Type 0
     Stayed p front back = RepresentsList old list (front ++ p ∷ back) → IsAccepted status ((new ≡ old) × (list' ≡ list))
 
     abbrev pub Spliced : RawEnds → Cut → List Place → Type 0
     Spliced = calls.Spliced Represents words.is_linked words.unlinked ends_of (nameable words.width old) (nameable words.width new) list list' status
 
-    -- the part that the list gives away is on the side of the gap on which the call edits
-    abbrev pub Split : Side → RawEnds → Cut → Type 0
+    -- the call cuts the list. For the side `After` the list `rest` gets the members after the cut, and for `Before` the members before the cut
+    abbrev pub Split : GapSide → RawEnds → Cut → Type 0
     Split After rest cut =
         calls.Split Represents words.is_linked words.unlinked ends_of (nameable words.width old) (nameable words.width new) list list' status rest cut cut.front cut.back
     Split Before rest cut =
@@ -119,6 +121,6 @@ module _ {W : Type 0} (words : LinkWords W) where
     abbrev pub Filled : Cut → (first count : ℕ) → Type 0
     Filled = fills.Filled Represents words.is_linked words.unlinked ends_of (nameable words.width old) (nameable words.width new) list list' status
 
-  -- the `count` places from this number on belong to the table of these words, and none of them is linked
+  -- each of the `count` places from the number `first` on belongs to the table of these words and is not linked
   abbrev pub IsFreeRunIn : List W → (first count : ℕ) → Type 0
   IsFreeRunIn es = fills.IsFreeRun words.is_linked (table_of words es)

@@ -1,4 +1,5 @@
--- Runs of places with consecutive numbers, and what a call does that inserts such a run. The definitions are the same for every kind of lists.
+-- A run is a list of places with consecutive numbers. This file says what a call does that inserts a run. The definitions are the same for every kind
+-- of lists.
 use Rattle.std.specs.Prelude.{◌≡◌, ℕ, zero, suc, ◌+◌, ◌-◌, Bool, List, [], ◌∷◌, length, map, Option, Some}
 use Rattle.ic_link_ops.specs.Prelude.{Place, Cut, join, Table, acquires}
 use Rattle.ic_link_ops.specs.PlainTables.{table_of}
@@ -10,46 +11,46 @@ use Rattle.ic_raw.specs.Tables.{IsFree}
 use Rattle.ic_raw.specs.Touches.{Touches}
 use Rattle.ic_raw.specs.Words.{place_of}
 
--- THE RUN FROM A NUMBER: the place with that number, the place with the next number, and so on
+-- A LIST IS THE RUN FROM A NUMBER: its places have the numbers `first`, `first` + 1, and so on
 abbrev pub IsRun : (first : ℕ) → List Place → Type 0
 IsRun first [] = Unit {0}
 IsRun first (p ∷ run) = (place_of first ≡ Some p) × IsRun (first + 1) run
 
--- the faults of the `count` numbers from the first one on, each of them that of the place with this number
+-- `run_faults` is the list of the faults of `count` places, whose numbers are `first`, `first` + 1, and so on
 abbrev pub run_faults : (fault : Option Place → ℕ) → (first count : ℕ) → List ℕ
 run_faults fault first zero = []
 run_faults fault first (suc count) = fault (place_of first) ∷ run_faults fault (first + 1) count
 
--- the first fault in a list of them, or `OK` if there is none
+-- `first_fault` is the first fault in the list, or `OK` if the list has no fault
 abbrev pub first_fault : (faults : List ℕ) → ℕ
 first_fault [] = OK
 first_fault (zero ∷ faults) = first_fault faults
 first_fault (suc fault ∷ faults) = suc fault
 
--- each of these places belongs to the table and is not linked
+-- each place of the list belongs to the table and is not linked
 abbrev pub AreFree : {E : Type 0} → (linked : E → Bool) → Table E → List Place → Type 0
 AreFree linked t [] = Unit {0}
 AreFree linked t (p ∷ run) = IsFree linked t p × AreFree linked t run
 
--- THE RUN IS FREE: it consists of the `count` places from this number on, and each of them belongs to the table and is not linked
+-- THE RUN IS FREE: each of the `count` places from the number `first` on belongs to the table and is not linked
 pub record IsFreeRun {E : Type 0} (linked : E → Bool) (t : Table E) (first count : ℕ) : Type 0 where
   pub run : List Place
   pub numbered : IsRun first run
   pub counted : length run ≡ count
   pub free : AreFree linked t run
 
--- the last of the `count` places from this number on
+-- `last_of_run` is the last one of the `count` places from the number `first` on
 abbrev pub last_of_run : (first count : ℕ) → Option Place
 last_of_run first count = place_of (first + (count - 1))
 
--- A FILL TOUCHES NO MORE: it links each place of the run, in its order, and changes only their entries and that of the end after which it inserts
--- them
+-- A FILL TOUCHES NO MORE THAN A RUN AND AN END: the call links the places of the run in their order. It changes only their entries and that of the
+-- place `end`, after which it inserts them
 abbrev pub TouchesRun : {E : Type 0} → (linked : E → Bool) → (old new : Table E) → (run : List Place) → (end : Option Place) → Type 0
 TouchesRun linked old new run end = Touches linked old new (map acquires run) (end ∷ map Some run)
 
--- `Represents`, `linked`, `unlinked` and `head_of` belong to a kind of lists, as in Calls
+-- `Represents`, `linked`, `unlinked` and `head_of` describe one kind of lists. The file Calls explains these names
 module _ {W R H : Type 0} (Represents : Table W → H → List Place → Type 0) (linked : W → Bool) (unlinked : W) (head_of : R → H) where
-  -- a free run is inserted at the position at which the list is cut
+  -- if the table represents the list and the run is free, the call inserts the run at the position `cut`
   abbrev pub Filled : (old new : List W) (list list' : R) (status : ℕ) → Cut → (first count : ℕ) → Type 0
   Filled old new list list' status cut first count =
       RepresentsList Represents linked unlinked head_of old list (join cut) → (free : IsFreeRun linked (table_of unlinked old) first count)

@@ -1,14 +1,15 @@
--- The gap at which a call edits.
+-- A gap is the position between two neighboring members at which a call edits a list.
 use Rattle.std.specs.Prelude.{◌≡◌, ◌≢◌, ◌∷◌, List, Bool, Option, Some, None}
 use Rattle.ic_link_ops.specs.Prelude.{Place, Cut, at_front, at_back, first, last, IsAfter, IsBefore, Table, IsLinked}
 use Rattle.ic_link_ops.specs.Chains.{Ends, end_of}
 use Rattle.ic_raw.specs.declared.gap.Gap.{Gap}
 use Rattle.ic_raw.specs.Tables.{IsFree}
-use Rattle.ic_raw.specs.declared.gap.Side.{Side}
-use Rattle.ic_raw.specs.declared.gap.Side.TheVariants.{After, Before}
+use Rattle.ic_raw.specs.declared.gap.GapSide.{GapSide}
+use Rattle.ic_raw.specs.declared.gap.GapSide.TheVariants.{After, Before}
 
--- the gap is after the place, or before all members if there is no place; or, for the other side, before the place, or after all members
-abbrev pub IsBeside : Side → Cut → Option Place → Type 0
+-- for the side `After`, the cut is after the place `at`, or before all members if `at` is none. For the side `Before`, the cut is before the place
+-- `at`, or after all members if `at` is none
+abbrev pub IsBeside : GapSide → Cut → Option Place → Type 0
 IsBeside After cut at = IsAfter cut at
 IsBeside Before cut at = IsBefore cut at
 
@@ -16,11 +17,11 @@ IsBeside Before cut at = IsBefore cut at
 abbrev pub IsNoneOrLinked : {E : Type 0} → (E → Bool) → Table E → Option Place → Type 0
 IsNoneOrLinked linked t at = (q : Place) → at ≡ Some q → IsLinked linked t q
 
--- each side of a gap is none or a linked place
+-- the place on each side of the gap is none, or it is linked
 abbrev pub StandBeside : {E : Type 0} → (E → Bool) → Table E → Gap → Type 0
 StandBeside linked t gap = IsNoneOrLinked linked t gap.before × IsNoneOrLinked linked t gap.after
 
--- the caller names a place to insert, and it belongs to the table and is not linked
+-- the caller names a place, and this place belongs to the table and is not linked
 abbrev pub NamesFree : {E : Type 0} → (E → Bool) → Table E → Option Place → Type 0
 NamesFree linked t place = (p : Place) × (place ≡ Some p) × IsFree linked t p
 
@@ -28,46 +29,48 @@ NamesFree linked t place = (p : Place) × (place ≡ Some p) × IsFree linked t 
 abbrev pub BeginApart : (one other : Option Place) → Type 0
 BeginApart one other = (p : Place) → other ≡ Some p → one ≢ Some p
 
--- the gap between two places, none beyond an end
+-- `gap_between` is the gap between the places `before` and `after`. One of them is none if the gap is at an end of the list
 abbrev pub gap_between : (before after : Option Place) → Gap
 gap_between before after = record { before = before; after = after }
 
--- A LIST'S OWN ENDS after an edit at a gap. If a member is before the gap, the first member stays, or else the list now begins with `begins`. If a
--- member is after the gap, the last member stays, or else the list now ends with `ends`
+-- THE ENDS OF A LIST after an edit at a gap: if a member is before the gap, the list keeps its first member, or else it begins with `begins`. If a
+-- member is after the gap, the list keeps its last member, or else it ends with `ends`
 pub record Turns (gap : Gap) (begins ends : Option Place) (old new : Ends) : Type 0 where
   pub head : new.head ≡ end_of gap.before begins old.head
   pub tail : new.tail ≡ end_of gap.after ends old.tail
 
--- the ends after this place was inserted into the gap
+-- `new` is the ends of the list after the place `place` was inserted into the gap
 abbrev pub PutIn : Gap → (place : Option Place) → (old new : Ends) → Type 0
 PutIn gap place = Turns gap place place
 
--- the ends after the member between the two sides of the gap was removed: these are neighbors now
+-- `new` is the ends of the list after the member between the two sides of the gap was removed. The two sides are neighbors then
 abbrev pub TakenOut : Gap → (old new : Ends) → Type 0
 TakenOut gap = Turns gap gap.after gap.before
 
--- this place, or the other one if it is none
+-- `or_else` is the first of two places, or the second one if the first is none
 abbrev pub or_else : Option Place → Option Place → Option Place
 or_else None other = other
 or_else (Some p) other = Some p
 
--- the ends after all members of the given list were moved into the gap. If that list is empty, the two sides of the gap are neighbors as before
+-- `new` is the ends of the list after all members of the list `given` were moved into the gap. If `given` is empty, the two sides of the gap stay
+-- neighbors
 abbrev pub AllPutIn : Gap → (given old new : Ends) → Type 0
 AllPutIn gap given = Turns gap (or_else given.head gap.after) (or_else given.tail gap.before)
 
--- A MEMBER MOVES: it is removed from between two places, and inserted into a gap
+-- A MEMBER MOVES: it is removed from between the two places of `from` and inserted into the gap `to`, and the list then has the ends `new`
 abbrev pub IsMoved : (from : Gap) → (member : Option Place) → (to : Gap) → (old new : Ends) → Type 0
 IsMoved from member to old new = (without : Ends) × TakenOut from old without × PutIn to member without new
 
--- A LIST IS CUT AT A GAP: the part before begins as the list did, and the part after ends as it did. A part without members has no ends
+-- A LIST IS CUT AT A GAP: the part before the gap begins as the list did, and the part after the gap ends as the list did. A part without members has
+-- no ends
 pub record IsCutAt (gap : Gap) (old front back : Ends) : Type 0 where
   pub front_head : front.head ≡ end_of gap.before None old.head
   pub front_tail : front.tail ≡ gap.before
   pub back_head : back.head ≡ gap.after
   pub back_tail : back.tail ≡ end_of gap.after None old.tail
 
--- the list gives away the part on the side of the gap on which the call edits, and keeps the other part
-abbrev pub IsCutBeside : Side → Gap → (old kept handed : Ends) → Type 0
+-- the list is cut at the gap. For the side `After` the list gives away the part after the gap, and for `Before` the part before the gap
+abbrev pub IsCutBeside : GapSide → Gap → (old kept handed : Ends) → Type 0
 IsCutBeside After gap old kept handed = IsCutAt gap old kept handed
 IsCutBeside Before gap old kept handed = IsCutAt gap old handed kept
 
@@ -75,20 +78,21 @@ IsCutBeside Before gap old kept handed = IsCutAt gap old handed kept
 abbrev pub IsApart : Gap → Place → Type 0
 IsApart gap p = (gap.before ≢ Some p) × (gap.after ≢ Some p)
 
--- the gap of a cut: the last place before it, and the first place after it
+-- `gap_of` is the gap between the last place before the cut and the first place after the cut
 abbrev pub gap_of : Cut → Gap
 gap_of cut = record { before = last cut.front; after = first cut.back }
 
--- the cut that a side means if no member is named: before all members, or after all members
-abbrev pub outermost : Side → List Place → Cut
+-- `outermost` is the cut that a side means if the caller names no member: for `After` it is before all members, and for `Before` it is after all
+-- members
+abbrev pub outermost : GapSide → List Place → Cut
 outermost After s = at_front s
 outermost Before s = at_back s
 
--- the place of a gap that is nearer to the end that this side means
-abbrev pub toward : Side → Gap → Option Place
+-- `toward` is the place before the gap for the side `After`, and the place after the gap for the side `Before`
+abbrev pub toward : GapSide → Gap → Option Place
 toward After gap = gap.before
 toward Before gap = gap.after
 
--- the gap before a member
+-- `before p front back` is the gap before the member p of the list that consists of `front`, p and `back`
 abbrev pub before : Place → (front back : List Place) → Cut
 before p front back = record { front = front; back = p ∷ back }

@@ -15,9 +15,10 @@ use Rattle.ic_raw.specs.Singly.{RepresentsList, FreeIn, IsNoneOrLinkedIn, IsWrit
 use Rattle.ic_raw.specs.Singly.{Inserted, Removed, LeavesChain, Touched}
 use Rattle.ic_raw.specs.Words.{is_linked_one}
 
--- `old`, `new`: the words of the table before the call and after it. `buckets`, `buckets'`: the words of the buckets before and after
+-- `old` and `new` are the words of the table before the call and after it. `buckets` and `buckets'` are the words of the buckets before the call and
+-- after it
 module _ (old new : List RawOne) (buckets buckets' : List RawFront) (status hash : ℕ) where
-  -- A PLACE IS INSERTED AT THE FRONT OF THE CHAIN of its hash
+  -- A PLACE IS INSERTED AT THE FRONT OF THE CHAIN to which its hash leads
   pub record InsertCall (place : Option Place) : Type 0 where
     pub inserted : (s : List Place) (p : Place) → 1 ≤ length buckets → place ≡ Some p
         → Inserted old new (chain_of buckets hash) (chain_of buckets' hash) status (at_front s) p
@@ -32,7 +33,7 @@ module _ (old new : List RawOne) (buckets buckets' : List RawFront) (status hash
     pub why : status ≢ OK → status ≡ refusal (buckets_fault buckets ∷ fault_of old place ∷ [])
     pub is_status : IsStatus status
 
-  -- A PLACE IS REMOVED FROM THE CHAIN of its hash
+  -- A PLACE IS REMOVED FROM THE CHAIN to which its hash leads
   pub record RemoveCall (place : Option Place) : Type 0 where
     pub removed : (front back : List Place) (p : Place) → 1 ≤ length buckets → place ≡ Some p
         → Removed old new (chain_of buckets hash) (chain_of buckets' hash) status p front back
@@ -51,9 +52,9 @@ module _ (old new : List RawOne) (buckets buckets' : List RawFront) (status hash
     pub why : status ≢ OK → status ≢ NULL → status ≡ refusal (buckets_fault buckets ∷ fault_at old place ∷ [])
     pub is_status : IsStatus status
 
--- `keys`: the key of each place. The number of the member that is found replaces `was`
+-- `keys` has one key for each place. If the call finds a member, the number of this member replaces the number `was`
 module _ (keys : List ℕ) (old new : List RawOne) (status was number : ℕ) where
-  -- THE FIRST MEMBER OF A CHAIN WITH A KEY IS FOUND
+  -- THE FIRST MEMBER WITH A KEY IS FOUND in the chain to which `hash` leads
   pub record FindCall (buckets : List RawFront) (hash key : ℕ) : Type 0 where
     pub found : (s : List Place) → length old ≤ length keys → 1 ≤ length buckets → RepresentsList old (chain_of buckets hash) s
         → HandsOut (Finds (has_key keys key) s) status number
@@ -65,7 +66,7 @@ module _ (keys : List ℕ) (old new : List RawOne) (status was number : ℕ) whe
     pub why : status ≢ OK → status ≢ NULL → status ≡ refusal (keys_fault keys (length old) ∷ buckets_fault buckets ∷ [])
     pub is_status : IsStatus status
 
-  -- THE NEXT MEMBER AFTER `at` WITH THE SAME KEY IS FOUND
+  -- THE NEXT MEMBER WITH THE KEY OF `at` IS FOUND among the members after `at`
   pub record NextEqualCall (at : Option Place) : Type 0 where
     pub found : (list : RawFront) (front back : List Place) (p : Place) → at ≡ Some p → length old ≤ length keys → RepresentsList old list (front ++ p ∷ back)
         → HandsOut (Finds (has_key keys (key_of keys p)) back) status number

@@ -12,7 +12,7 @@ pub mod Tree
 pub mod Seen
 pub mod Keys
 pub mod Fills
-pub mod WholeTree
+pub mod TreeShape
 pub mod Sorting
 pub mod MarkedTree
 pub mod Ring

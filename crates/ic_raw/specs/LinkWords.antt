@@ -1,4 +1,4 @@
--- Words of doubly linked places, of 8 bytes or of 4, and tables over them.
+-- A place of a doubly linked list has two words, of 8 bytes or of 4 bytes each. This file says how a table of these words is read.
 use Rattle.std.specs.Prelude.{◌≡◌, ℕ, Bool, List, Option}
 use Rattle.ic_link_ops.specs.Prelude.{Place, Table}
 use Rattle.ic_link_ops.specs.LinkedList.{Neighbors}
@@ -10,7 +10,7 @@ use Rattle.ic_raw.specs.declared.table.RawTable.{RawTable}
 use Rattle.ic_raw.specs.Tables.{nameable_table, neighbors_of, IsFree, member_fault, place_fault}
 use Rattle.ic_raw.specs.Words.{no_words, is_linked_two, next_of_two, prev_of_two, no_narrow_words, is_linked_narrow, next_of_narrow, prev_of_narrow}
 
--- HOW THE WORDS OF A PLACE ARE READ: the ghost members of their trait `PrevPlace`
+-- HOW THE WORDS OF A PLACE ARE READ: the record has the ghost members of the trait `PrevPlace`, which each type of words implements
 abbrev pub LinkWords : Type 0 → Type 1
 LinkWords W = record {
   unlinked : W;
@@ -21,7 +21,7 @@ LinkWords W = record {
   prev : W → Option Place;
 }
 
--- the reading of two words of 8 bytes
+-- `wide_words` says how the two words of a place are read if each word has 8 bytes
 abbrev pub wide_words : LinkWords RawTwo
 wide_words = record {
   unlinked = no_words;
@@ -32,7 +32,7 @@ wide_words = record {
   prev = prev_of_two;
 }
 
--- the reading of two words of 4 bytes
+-- `narrow_words` says how the two words of a place are read if each word has 4 bytes
 abbrev pub narrow_words : LinkWords RawNarrowTwo
 narrow_words = record {
   unlinked = no_narrow_words;
@@ -44,23 +44,24 @@ narrow_words = record {
 }
 
 module _ {W : Type 0} (words : LinkWords W) where
-  -- the places before and after the place of an entry
+  -- `neighbors` is the places before and after a place, which the words of its entry name
   abbrev pub neighbors : W → Neighbors
   neighbors = neighbors_of words.next_word words.is_linked words.prev
 
-  -- A TABLE OF THE PLACES THAT THE WORDS CAN NAME: the first ones of a caller's words, as many as words of this width can name
+  -- THE TABLE OF A CALLER'S WORDS has only the places that words of this width can name, which are the first ones
   abbrev pub table_of : List W → Table W
   table_of es = plain.table_of words.unlinked (nameable words.width es)
 
-  -- the same table for words that are lent
+  -- `lent_table` is the table of the words that a caller lends. The table has only the places that words of this width can name
   abbrev pub lent_table : RawTable W → Table W
   lent_table = nameable_table words.width words.unlinked
 
-  -- the place is free in the table of these words
+  -- the place belongs to the table of these words and is not linked
   abbrev pub FreeIn : List W → Place → Type 0
   FreeIn es = IsFree words.is_linked (table_of es)
 
-  -- the status by which a call refuses a member that the caller names, and a place to insert
+  -- `fault_at` is the fault of a member that the caller names, and `fault_of` is the fault of a place that the caller wants to insert. Each is `OK`
+  -- if there is no fault
   abbrev pub fault_at : List W → Option Place → ℕ
   fault_at es = member_fault words.is_linked (table_of es)
 

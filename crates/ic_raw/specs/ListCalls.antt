@@ -1,11 +1,11 @@
--- WHAT THE CALLS OF DOUBLY LINKED LISTS DO: each record is the whole contract of a call. The first fields say what the call does to a list that the
--- table represents. The others hold whatever the words contain: what an accepted call has tested before it edits, which entries it changes, which
--- ends the list then has, and what a refused call leaves and why it was refused.
+-- WHAT THE CALLS OF DOUBLY LINKED LISTS DO: each record is the whole contract of one call. The first fields say what the call does to a list that the
+-- table represents. The other fields hold whatever the words contain. They say what an accepted call has tested before it edits, which entries it
+-- changes, and which ends the list then has. They also say what a refused call leaves, and why it was refused.
 use Rattle.std.specs.Prelude.{◌≡◌, ◌≢◌, ◌↔◌, ◌++◌, ◌∷◌, ℕ, List, [], Option, Some, None}
 use Rattle.ic_link_ops.specs.Prelude.{Place, Cut, join, at_back, KeepsLinked, acquires, releases}
 use Rattle.ic_link_ops.specs.Chains.{no_members}
-use Rattle.ic_raw.specs.declared.gap.Side.{Side}
-use Rattle.ic_raw.specs.declared.gap.Side.TheVariants.{After, Before}
+use Rattle.ic_raw.specs.declared.gap.GapSide.{GapSide}
+use Rattle.ic_raw.specs.declared.gap.GapSide.TheVariants.{After, Before}
 use Rattle.ic_raw.specs.declared.status.TheConstants.{OK, NULL, BROKEN}
 use Rattle.ic_raw.specs.declared.words.RawEnds.{RawEnds}
 use Rattle.ic_raw.specs.Answers.{IsStatus, refusal}
@@ -17,11 +17,11 @@ use Rattle.ic_raw.specs.LinkWords.{LinkWords, table_of, FreeIn, fault_at, fault_
 use Rattle.ic_raw.specs.Touches.{Touches, sides}
 use Rattle.ic_raw.specs.Words.{place_of, HasNumber}
 
--- `link`: how the words of a place are read. `old`, `new`: the words of the table before the call and after it. `list`, `list'`: the words of the
--- list before and after. `status`: the status that the call returns
+-- `link` says how the words of a place are read. `old` and `new` are the words of the table before the call and after it. `list` and `list'` are the
+-- words of the list before the call and after it. `status` is the status that the call returns
 module _ {W : Type 0} (link : LinkWords W) (old new : List W) (list list' : RawEnds) (status : ℕ) where
   -- A PLACE IS INSERTED INTO THE GAP on this side of the member `at`, or at an end of the list if `at` is none
-  pub record InsertCall (side : Side) (at place : Option Place) : Type 0 where
+  pub record InsertCall (side : GapSide) (at place : Option Place) : Type 0 where
     pub inserted : (cut : Cut) (p : Place) → IsBeside side cut at → place ≡ Some p → Inserted link old new list list' status cut p
     pub free : (p : Place) → place ≡ Some p → status ≡ OK → FreeIn link old p
     pub no_place : place ≡ None → status ≢ OK
@@ -35,8 +35,8 @@ module _ {W : Type 0} (link : LinkWords W) (old new : List W) (list list' : RawE
     pub why : status ≢ OK → status ≡ refusal (fault_at link old at ∷ fault_of link old place ∷ [])
     pub is_status : IsStatus status
 
-  -- THE FIRST MEMBER IS REMOVED, or the last one for the side `Before`, and its number replaces `was`
-  pub record PopCall (side : Side) (was popped : ℕ) : Type 0 where
+  -- THE FIRST MEMBER IS REMOVED, or the last member for the side `Before`. The number of the removed member replaces the number `was`
+  pub record PopCall (side : GapSide) (was popped : ℕ) : Type 0 where
     pub taken : (front back : List Place) (p : Place) → IsEnd side front back → Popped link old new list list' status popped p front back
     pub handed : (p : Place) → end_on side (ends_of list) ≡ Some p → status ≡ OK → HasNumber p popped
     pub null : (status ≡ NULL) ↔ (end_on side (ends_of list) ≡ None)
@@ -51,7 +51,7 @@ module _ {W : Type 0} (link : LinkWords W) (old new : List W) (list list' : RawE
     pub why : status ≢ OK → status ≢ NULL → status ≡ BROKEN
     pub is_status : IsStatus status
 
-  -- A MEMBER IS REMOVED
+  -- THE MEMBER `at` IS REMOVED from the list, and it is then unlinked
   pub record RemoveCall (at : Option Place) : Type 0 where
     pub removed : (front back : List Place) (p : Place) → at ≡ Some p → Removed link old new list list' status p front back
     pub null : (status ≡ NULL) ↔ (at ≡ None)
@@ -66,7 +66,7 @@ module _ {W : Type 0} (link : LinkWords W) (old new : List W) (list list' : RawE
     pub why : status ≢ OK → status ≢ NULL → status ≡ refusal (fault_at link old at ∷ [])
     pub is_status : IsStatus status
 
-  -- A PLACE REPLACES A MEMBER, which is removed
+  -- A PLACE REPLACES THE MEMBER `at`, which is removed
   pub record ReplaceCall (at place : Option Place) : Type 0 where
     pub replaced : (front back : List Place) (out p : Place) → at ≡ Some out → place ≡ Some p → Replaced link old new list list' status out front back p
     pub free : (p : Place) → place ≡ Some p → status ≡ OK → FreeIn link old p
@@ -83,9 +83,9 @@ module _ {W : Type 0} (link : LinkWords W) (old new : List W) (list list' : RawE
     pub why : status ≢ OK → status ≢ NULL → status ≡ refusal (fault_at link old at ∷ fault_of link old place ∷ [])
     pub is_status : IsStatus status
 
-  -- A MEMBER MOVES into the gap on this side of the member `at`, or to an end of the list if `at` is none. If `at` is the member itself, nothing
-  -- changes
-  pub record MoveCall (side : Side) (at place : Option Place) : Type 0 where
+  -- THE MEMBER `place` MOVES into the gap on this side of the member `at`, or to an end of the list if `at` is none. If `at` is equal to `place`,
+  -- nothing changes
+  pub record MoveCall (side : GapSide) (at place : Option Place) : Type 0 where
     pub moved : (cut : Cut) (front back : List Place) (p : Place) → IsBeside side cut at → place ≡ Some p → join cut ≡ front ++ back
         → Moved link old new list list' status p front back cut
     pub itself : (front back : List Place) (p : Place) → at ≡ Some p → place ≡ Some p → Stayed link old new list list' status p front back
@@ -108,8 +108,8 @@ module _ {W : Type 0} (link : LinkWords W) (old new : List W) (list list' : RawE
     pub why : status ≢ OK → status ≢ NULL → status ≡ refusal (fault_at link old at ∷ fault_at link old place ∷ [])
     pub is_status : IsStatus status
 
-  -- A MEMBER MOVES TO THE FRONT, or to the back for the side `Before`
-  pub record MoveToEndCall (side : Side) (place : Option Place) : Type 0 where
+  -- A MEMBER MOVES TO THE FRONT of its list, or to the back for the side `Before`
+  pub record MoveToEndCall (side : GapSide) (place : Option Place) : Type 0 where
     pub moved : (front back : List Place) (p : Place) → place ≡ Some p → Moved link old new list list' status p front back (outermost side (front ++ back))
     pub there : (front back : List Place) (p : Place) → IsEnd side front back → place ≡ Some p → Stayed link old new list list' status p front back
     pub null : (status ≡ NULL) ↔ (place ≡ None)
@@ -128,9 +128,9 @@ module _ {W : Type 0} (link : LinkWords W) (old new : List W) (list list' : RawE
     pub why : status ≢ OK → status ≢ NULL → status ≡ refusal (fault_at link old place ∷ [])
     pub is_status : IsStatus status
 
-  -- ALL MEMBERS OF A SECOND LIST MOVE INTO THE GAP on this side of the member `at`, or to an end of the list if `at` is none. `given`, `given'`: the
-  -- words of the second list
-  pub record SpliceCall (side : Side) (at : Option Place) (given given' : RawEnds) : Type 0 where
+  -- ALL MEMBERS OF A SECOND LIST MOVE INTO THE GAP on this side of the member `at`, or to an end of the list if `at` is none. `given` and `given'`
+  -- are the words of the second list before the call and after it
+  pub record SpliceCall (side : GapSide) (at : Option Place) (given given' : RawEnds) : Type 0 where
     pub spliced : (cut : Cut) (t : List Place) → IsBeside side cut at → Spliced link old new list list' status given cut t
     pub emptied : status ≡ OK → given' ≡ words_of no_members
     pub stands : status ≡ OK → IsNoneOrLinkedIn link old at
@@ -146,9 +146,9 @@ module _ {W : Type 0} (link : LinkWords W) (old new : List W) (list list' : RawE
     pub why : status ≢ OK → status ≡ refusal (fault_at link old at ∷ [])
     pub is_status : IsStatus status
 
-  -- THE LIST IS CUT at the gap on this side of the member `at`, or at an end if `at` is none, and the part on that side becomes the list `rest`,
-  -- which has to be empty before. `rest`, `rest'`: the words of that list
-  pub record SplitCall (side : Side) (at : Option Place) (rest rest' : RawEnds) : Type 0 where
+  -- THE LIST IS CUT at the gap on this side of the member `at`, or at an end if `at` is none. The part on this side of the gap becomes the list
+  -- `rest`, which has to be empty before the call. `rest` and `rest'` are the words of this list before the call and after it
+  pub record SplitCall (side : GapSide) (at : Option Place) (rest rest' : RawEnds) : Type 0 where
     pub split : (cut : Cut) → IsBeside side cut at → ends_of rest ≡ no_members → Split link old new list list' status side rest' cut
     pub empty : status ≡ OK → ends_of rest ≡ no_members
     pub stands : status ≡ OK → IsNoneOrLinkedIn link old at
@@ -161,7 +161,7 @@ module _ {W : Type 0} (link : LinkWords W) (old new : List W) (list list' : RawE
     pub why : status ≢ OK → status ≡ refusal (fault_at link old at ∷ [])
     pub is_status : IsStatus status
 
-  -- A RUN OF `count` PLACES IS INSERTED AFTER ALL MEMBERS
+  -- A RUN OF `count` PLACES IS INSERTED AFTER ALL MEMBERS, from the place with the number `first` on
   pub record FillCall (first count : ℕ) : Type 0 where
     pub filled : (s : List Place) → Filled link old new list list' status (at_back s) first count
     pub free : status ≡ OK → IsFreeRunIn link old first count
@@ -174,7 +174,7 @@ module _ {W : Type 0} (link : LinkWords W) (old new : List W) (list list' : RawE
     pub why : status ≢ OK → status ≡ refusal (run_faults (fault_of link old) first count)
     pub is_status : IsStatus status
 
-  -- ALL MEMBERS ARE REMOVED
+  -- ALL MEMBERS ARE REMOVED, and the list is then empty
   pub record ClearCall : Type 0 where
     pub cleared : (s : List Place) → Cleared link old new list list' status s
     pub ended : status ≡ OK → (s : List Place) × RepresentsList link old list s

@@ -1,9 +1,9 @@
--- WHAT THE CALLS OF RINGS DO: each record is the whole contract of a call. Its fields say, in this order, what the call does to rings, what holds of
--- every accepted call, and what holds of a refused one.
+-- WHAT THE CALLS OF RINGS DO: each record is the whole contract of one call. The first fields say what the call does to rings. The fields after them
+-- say what holds of every accepted call, and the last fields what holds of a refused call.
 use Rattle.std.specs.Prelude.{◌≡◌, ◌≢◌, ◌↔◌, ◌⊎◌, ◌++◌, ◌∷◌, ℕ, List, [], Option, Some, None}
 use Rattle.ic_link_ops.specs.Prelude.{Place, IsDisjoint, last, ChangesOnly, IsLinked, IsUnlinked, acquires, releases}
-use Rattle.ic_raw.specs.declared.gap.Side.{Side}
-use Rattle.ic_raw.specs.declared.gap.Side.TheVariants.{After}
+use Rattle.ic_raw.specs.declared.gap.GapSide.{GapSide}
+use Rattle.ic_raw.specs.declared.gap.GapSide.TheVariants.{After}
 use Rattle.ic_raw.specs.declared.status.TheConstants.{OK, NULL}
 use Rattle.ic_raw.specs.Answers.{IsStatus, IsAccepted, refusal}
 use Rattle.ic_raw.specs.LinkWords.{LinkWords, table_of, FreeIn, fault_at, fault_of}
@@ -11,16 +11,16 @@ use Rattle.ic_raw.specs.Ring.{IsCircle, AreLinked, Makes, MakesTwo, around, besi
 use Rattle.ic_raw.specs.Touches.{Touches}
 use Rattle.ic_raw.specs.Words.{HasNumber}
 
--- both neighbors of the place are confirmed by their words
+-- the words confirm both neighbors of the place p: `before` and p name each other, and p and `after` name each other
 pub record IsAmid {W : Type 0} (words : LinkWords W) (es : List W) (p : Place) : Type 0 where
   pub before : Place
   pub after : Place
   pub comes : AreLinked words (table_of words es) before p
   pub goes : AreLinked words (table_of words es) p after
 
--- `words`: how the words of a place are read. `old`, `new`: the words of the table before the call and after it
+-- `words` says how the words of a place are read. `old` and `new` are the words of the table before the call and after it
 module _ {W : Type 0} (words : LinkWords W) (old new : List W) (status : ℕ) where
-  -- A PLACE BECOMES A HEAD, alone in a ring with no members
+  -- A PLACE BECOMES A HEAD, and is then alone in a ring without members
   pub record InitCall (head : Option Place) : Type 0 where
     pub opened : (h : Place) → head ≡ Some h → FreeIn words old h
         → IsAccepted status (IsCircle words (table_of words new) (h ∷ []) × ChangesOnly (table_of words old) (table_of words new) h)
@@ -30,8 +30,8 @@ module _ {W : Type 0} (words : LinkWords W) (old new : List W) (status : ℕ) wh
     pub why : status ≢ OK → status ≡ refusal (fault_of words old head ∷ [])
     pub is_status : IsStatus status
 
-  -- A PLACE IS INSERTED on that side of a place of a ring
-  pub record InsertCall (side : Side) (at place : Option Place) : Type 0 where
+  -- A PLACE IS INSERTED INTO A RING on this side of the place `at`
+  pub record InsertCall (side : GapSide) (at place : Option Place) : Type 0 where
     pub inserted : (h p : Place) (r : List Place) → at ≡ Some h → place ≡ Some p → FreeIn words old p → IsCircle words (table_of words old) (h ∷ r)
         → IsAccepted status (Makes words (table_of words old) (table_of words new) (p ∷ h ∷ r) (put_in side h p r))
     pub free : (p : Place) → place ≡ Some p → status ≡ OK → FreeIn words old p
@@ -44,7 +44,7 @@ module _ {W : Type 0} (words : LinkWords W) (old new : List W) (status : ℕ) wh
     pub why : status ≢ OK → status ≢ NULL → status ≡ refusal (fault_at words old at ∷ fault_of words old place ∷ [])
     pub is_status : IsStatus status
 
-  -- A PLACE IS REMOVED from its ring
+  -- A PLACE IS REMOVED from its ring, and it is then unlinked
   pub record RemoveCall (place : Option Place) : Type 0 where
     pub removed : (p : Place) (r : List Place) → place ≡ Some p → IsCircle words (table_of words old) (p ∷ r)
         → IsAccepted status (Makes words (table_of words old) (table_of words new) (p ∷ r) r × IsUnlinked words.is_linked (table_of words new) p)
@@ -56,7 +56,7 @@ module _ {W : Type 0} (words : LinkWords W) (old new : List W) (status : ℕ) wh
     pub why : status ≢ OK → status ≢ NULL → status ≡ refusal (fault_at words old place ∷ [])
     pub is_status : IsStatus status
 
-  -- TWO PLACES EXCHANGE the places that follow them: two rings become one, or one ring becomes two
+  -- TWO PLACES EXCHANGE the places that follow them. Two rings become one ring, or one ring becomes two rings
   pub record ExchangeCall (one other : Option Place) : Type 0 where
     pub joins : (x y : Place) (r s : List Place) → one ≡ Some x → other ≡ Some y → IsCircle words (table_of words old) r → IsCircle words (table_of words old) s → IsDisjoint r s
         → last r ≡ Some x → last s ≡ Some y → IsAccepted status (Makes words (table_of words old) (table_of words new) (r ++ s) (r ++ s))
@@ -71,8 +71,8 @@ module _ {W : Type 0} (words : LinkWords W) (old new : List W) (status : ℕ) wh
     pub why : status ≢ OK → status ≢ NULL → status ≡ refusal (fault_at words old one ∷ fault_at words old other ∷ [])
     pub is_status : IsStatus status
 
-  -- THE PLACE BESIDE A HEAD IS REMOVED from its ring, and its number replaces `was`
-  pub record PopCall (was popped : ℕ) (side : Side) (head : Option Place) : Type 0 where
+  -- THE PLACE ON THIS SIDE OF A HEAD IS REMOVED from its ring. The number of the removed place replaces the number `was`
+  pub record PopCall (was popped : ℕ) (side : GapSide) (head : Option Place) : Type 0 where
     pub taken : (h p : Place) (r : List Place) → head ≡ Some h → IsCircle words (table_of words old) (put_in side h p r)
         → IsAccepted status
         (Makes words (table_of words old) (table_of words new) (put_in side h p r) (h ∷ r) × IsUnlinked words.is_linked (table_of words new) p × HasNumber p popped)
@@ -86,7 +86,7 @@ module _ {W : Type 0} (words : LinkWords W) (old new : List W) (status : ℕ) wh
     pub why : status ≢ OK → status ≢ NULL → status ≡ refusal (fault_at words old head ∷ [])
     pub is_status : IsStatus status
 
-  -- A PLACE REPLACES ANOTHER ONE, which is removed from its ring
+  -- THE PLACE `place` REPLACES THE PLACE `at`, which is removed from its ring
   pub record ReplaceCall (at place : Option Place) : Type 0 where
     pub replaced : (h p : Place) (r : List Place) → at ≡ Some h → place ≡ Some p → FreeIn words old p → IsCircle words (table_of words old) (h ∷ r)
         → IsAccepted status (Makes words (table_of words old) (table_of words new) (p ∷ h ∷ r) (p ∷ r) × IsUnlinked words.is_linked (table_of words new) h)
@@ -100,8 +100,8 @@ module _ {W : Type 0} (words : LinkWords W) (old new : List W) (status : ℕ) wh
     pub why : status ≢ OK → status ≢ NULL → status ≡ refusal (fault_at words old at ∷ fault_of words old place ∷ [])
     pub is_status : IsStatus status
 
-  -- A PLACE MOVES to that side of another one, out of another ring or within its own. If both places are the same, nothing changes
-  pub record MoveCall (side : Side) (at place : Option Place) : Type 0 where
+  -- THE PLACE `place` MOVES to this side of the place `at`, out of another ring or within its own ring. If `at` is equal to `place`, nothing changes
+  pub record MoveCall (side : GapSide) (at place : Option Place) : Type 0 where
     pub apart : (h p : Place) (r s : List Place) → at ≡ Some h → place ≡ Some p → IsCircle words (table_of words old) (p ∷ r) → IsCircle words (table_of words old) (h ∷ s)
         → IsDisjoint (p ∷ r) (h ∷ s) → IsAccepted status (MakesTwo words (table_of words old) (table_of words new) (p ∷ r ++ h ∷ s) r (put_in side h p s))
     pub within : (h p : Place) (r s : List Place) → at ≡ Some h → place ≡ Some p → IsCircle words (table_of words old) (p ∷ r ++ h ∷ s)
@@ -116,8 +116,8 @@ module _ {W : Type 0} (words : LinkWords W) (old new : List W) (status : ℕ) wh
     pub why : status ≢ OK → status ≢ NULL → status ≡ refusal (fault_at words old at ∷ fault_at words old place ∷ [])
     pub is_status : IsStatus status
 
-  -- ALL MEMBERS OF A HEAD MOVE to that side of a place of another ring, and the head is then alone in its ring
-  pub record SpliceCall (side : Side) (at given : Option Place) : Type 0 where
+  -- ALL MEMBERS OF THE HEAD `given` MOVE to this side of the place `at` of another ring. The head `given` is then alone in its ring
+  pub record SpliceCall (side : GapSide) (at given : Option Place) : Type 0 where
     pub spliced : (h g : Place) (r s : List Place) → at ≡ Some h → given ≡ Some g → IsCircle words (table_of words old) (h ∷ r) → IsCircle words (table_of words old) (g ∷ s)
         → IsDisjoint (h ∷ r) (g ∷ s)
         → IsAccepted status (MakesTwo words (table_of words old) (table_of words new) (h ∷ r ++ g ∷ s) (all_put_in side h r s) (g ∷ []))

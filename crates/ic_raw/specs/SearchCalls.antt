@@ -1,4 +1,5 @@
--- WHAT THE CALLS OF RED-BLACK TREES BY KEYS DO, in an array with one key for each place: each record is the whole contract of a call.
+-- WHAT THE CALLS DO THAT INSERT AND FIND MEMBERS OF A RED-BLACK TREE BY KEYS: each record is the whole contract of one call. The keys are in an array
+-- with one key for each place.
 use Rattle.std.specs.Prelude.{◌≡◌, ◌≢◌, ◌≤◌, ◌⊎◌, ◌∷◌, ℕ, List, [], Option, Some, None, length}
 use Rattle.ic_link_ops.specs.Prelude.{Place, LinksAlso}
 use Rattle.ic_raw.specs.declared.search.Target.{Target}
@@ -11,9 +12,11 @@ use Rattle.ic_raw.specs.Seen.{StaysWithin, HandsOutReached}
 use Rattle.ic_raw.specs.Words.{is_linked_three}
 use Rattle.ic_raw.specs.Tree.{RepresentsTree, FreeIn, IsNoneOrLinkedIn, IsWritten, root_in, fault_of, table_of}
 
--- the words of the table before the call and after it
+-- `keys` has one key for each place. `old` and `new` are the words of the table before the call and after it. `status` is the status that the call
+-- returns
 module _ (keys : List ℕ) (old new : List RawThree) (status : ℕ) where
-  -- A PLACE IS INSERTED BY ITS KEY, after all members whose key is not greater. `tree`, `tree'`: the word of the tree before and after
+  -- A PLACE IS INSERTED BY ITS KEY, after all members whose key is not greater. `tree` and `tree'` are the word of the tree before the call and after
+  -- it
   pub record PutCall (tree tree' : RawRoot) (place : Option Place) : Type 0 where
     pub inserted : (s : List Place) (p : Place) → place ≡ Some p → length old ≤ length keys → InsertedInOrder keys old new tree tree' status s p
     pub free : (p : Place) → place ≡ Some p → status ≡ OK → FreeIn old p
@@ -27,7 +30,8 @@ module _ (keys : List ℕ) (old new : List RawThree) (status : ℕ) where
     pub why : status ≢ OK → status ≡ refusal (keys_fault keys (length old) ∷ fault_of old place ∷ [])
     pub is_status : IsStatus status
 
-  -- THE MEMBER THAT IS SEARCHED FOR A KEY IS FOUND, and its number replaces `was`
+  -- THE MEMBER THAT `target` MEANS FOR THE KEY `key` IS FOUND, for example the first member with this key. The number of the member replaces the
+  -- number `was`
   pub record FindCall (tree : RawRoot) (key : ℕ) (target : Target) (was number : ℕ) : Type 0 where
     pub found : (s : List Place) → length old ≤ length keys → RepresentsTree old tree s → HandsOut (IsTarget target (against key keys) s) status number
     pub reached : status ≡ OK → HandsOutReached (table_of old) (root_in tree) [] number

@@ -1,4 +1,4 @@
--- Singly linked lists over a caller's words.
+-- This file says when words that a caller lends represent a singly linked list.
 use Rattle.std.specs.Prelude.{◌≡◌, ◌≢◌, ◌∷◌, ℕ, List, [], Option, Some, None}
 use Rattle.ic_link_ops.specs.Prelude.{Place, word_of, Cut, first_or, Table, LinkStep, releases}
 use Rattle.ic_link_ops.specs.SinglyLinkedList as singly
@@ -15,30 +15,30 @@ use Rattle.ic_raw.specs.Fills as fills
 use Rattle.ic_raw.specs.Gaps.{IsNoneOrLinked}
 use Rattle.ic_raw.specs.Touches.{Touches}
 
--- the words of a table, and those that are lent, as contracts see them
+-- `table_of` is the table that has these words, and `lent_table` is the table of the words that a caller lends. Contracts name both
 abbrev pub table_of : List RawOne → Table RawOne
 table_of = plain.table_of no_word
 
 abbrev pub lent_table : RawTable RawOne → Table RawOne
 lent_table = raw_table no_word
 
--- the place after the place of an entry
+-- `successor` is the place after a place, which the word of its entry names
 abbrev pub successor : RawOne → Successor
 successor = successor_of next_of_one is_linked_one
 
--- THE TABLE REPRESENTS s as the list with this first place
+-- THE TABLE REPRESENTS A SEQUENCE of places as the singly linked list with this first place
 abbrev pub Represents : Table RawOne → Front → List Place → Type 0
 Represents = singly.Represents successor
 
--- THE TABLE REPRESENTS A SEQUENCE for the list: its links lead to an end
+-- THE TABLE REPRESENTS SOME SEQUENCE for the list, because the links lead from the list's first place to an end
 abbrev pub RepresentsSome : Table RawOne → Front → Type 0
 RepresentsSome = singly.RepresentsSome successor
 
--- the first place that a list's word names
+-- `front_of` is the first place of a list, which the list's word names
 abbrev pub front_of : RawFront → Option Place
 front_of l = place_in l.head
 
--- the word for a first place, as a call writes it: 0 for none
+-- `word_of_front` is the word of a list with this first place, as a call writes it. The word is 0 if the list has no first place
 abbrev pub word_of_front : Option Place → RawFront
 word_of_front first = record { head = word_of first }
 
@@ -46,20 +46,20 @@ word_of_front first = record { head = word_of first }
 abbrev pub IsWritten : RawFront → Type 0
 IsWritten l = l ≡ word_of_front (front_of l)
 
--- the list with that first place
+-- `list_of` is the list whose first place is the place that the word names
 abbrev pub list_of : RawFront → Front
 list_of l = list_from (front_of l)
 
--- the place after a place; for none, the first place of the list
+-- `next_from` is the place after a given place, or the first place of the list if no place is given
 abbrev pub next_from : Table RawOne → Front → Option Place → Option Place
 next_from t list None = list.head
 next_from t list (Some p) = (successor_at successor t p).next
 
--- THE LINKS CONFIRM A GAP after a place, or before all members for none: each of its two sides is none or linked
+-- THE LINKS CONFIRM A GAP after the place `at`, or before all members if `at` is none: the place on each side of the gap is none or linked
 abbrev pub TellsGap : Table RawOne → Front → (at : Option Place) → Type 0
 TellsGap t list at = IsNoneOrLinked is_linked_one t at × IsNoneOrLinked is_linked_one t (next_from t list at)
 
--- THE LINKS CONFIRM A MEMBER there
+-- THE LINKS CONFIRM A MEMBER after the place `at`: they confirm the gap after `at`, and the place after `at` is not none
 abbrev pub TellsMember : Table RawOne → Front → (at : Option Place) → Type 0
 TellsMember t list at = TellsGap t list at × (next_from t list at ≢ None)
 
@@ -69,18 +69,19 @@ pub record LeadsTo (t : Table RawOne) (front at : Place) : Type 0 where
   pub chain : IsChain (IsFollowed successor) t.entry None walked (Some at)
   pub starts : Some front ≡ first_or walked (Some at)
 
--- the links lead from this place, which is not none, to `at`
+-- `front` is not none, and the links lead from it to the place `at`
 pub record LeadsFrom (t : Table RawOne) (front : Option Place) (at : Place) : Type 0 where
   pub begin : Place
   pub is : front ≡ Some begin
   pub leads : LeadsTo t begin at
 
--- a list's own first place after the member `at` was removed: the place after `at` if `at` was the first, or else the first place as before
+-- `new` is the list after the member `at` was removed. If `at` was the first member, the list begins with the place after `at`, or else with the
+-- first place of `old`
 pub record LosesFront (t : Table RawOne) (at : Option Place) (old new : Front) : Type 0 where
   pub first : old.head ≡ at → new.head ≡ next_from t old at
   pub other : old.head ≢ at → new.head ≡ old.head
 
--- what a call does to such words
+-- the definitions of what a call does are those of the file Calls, which are used here for singly linked lists
 abbrev pub RepresentsList : List RawOne → RawFront → List Place → Type 0
 RepresentsList = calls.RepresentsList Represents is_linked_one no_word list_of
 
@@ -120,22 +121,22 @@ Cleared = calls.Cleared Represents is_linked_one no_word list_of
 abbrev pub Filled : (old new : List RawOne) (list list' : RawFront) (status : ℕ) → Cut → (first count : ℕ) → Type 0
 Filled = fills.Filled Represents is_linked_one no_word list_of
 
--- a call links and unlinks places in these steps alone, and changes only the words of these places
+-- a call links and unlinks places in exactly these steps, and it changes only the words of these places
 abbrev pub Touched : (old new : List RawOne) → List LinkStep → (places : List (Option Place)) → Type 0
 Touched old new = Touches is_linked_one (table_of old) (table_of new)
 
--- A PLACE IS REMOVED FROM A LIST whose links lead to it: the place before it is linked, or none at the front. Only this place is unlinked, and only
--- its own words and those of the place before change
+-- A PLACE p IS REMOVED FROM A LIST whose links lead to p. The place `before` is linked and has p after it, or is none if p is the first. The call
+-- unlinks only p, and changes only the words of p and of `before`
 pub record LeavesChain (old new : List RawOne) (list : RawFront) (p : Place) : Type 0 where
   pub before : Option Place
   pub stands : IsNoneOrLinkedIn old before
   pub leads : next_from (table_of old) (list_of list) before ≡ Some p
   pub touched : Touched old new (releases p ∷ []) (Some p ∷ before ∷ [])
 
--- a fill of the words touches this run and this end alone
+-- a call links the places of the run in their order, and changes only their words and those of the place `end`
 abbrev pub TouchedRun : (old new : List RawOne) → (run : List Place) → (end : Option Place) → Type 0
 TouchedRun old new = fills.TouchesRun is_linked_one (table_of old) (table_of new)
 
--- the `count` places from this number on belong to the table of these words, and none of them is linked
+-- each of the `count` places from the number `first` on belongs to the table of these words and is not linked
 abbrev pub IsFreeRunIn : List RawOne → (first count : ℕ) → Type 0
 IsFreeRunIn words = fills.IsFreeRun is_linked_one (table_of words)

@@ -1,6 +1,6 @@
--- WHAT THE CALLS OF SINGLY LINKED LISTS DO: each record is the whole contract of a call. The first fields say what the call does to a list that the
--- table represents. The others hold whatever the words contain: what an accepted call has tested before it edits, and what a refused call leaves and
--- why it was refused.
+-- WHAT THE CALLS OF SINGLY LINKED LISTS DO: each record is the whole contract of one call. The first fields say what the call does to a list that the
+-- table represents. The other fields hold whatever the words contain. They say what an accepted call has tested before it edits, what a refused call
+-- leaves, and why it was refused.
 use Rattle.std.specs.Prelude.{◌≡◌, ◌≢◌, ◌↔◌, ◌∷◌, ℕ, List, [], Option, Some, None}
 use Rattle.ic_link_ops.specs.Prelude.{Place, Cut, at_front, last, IsAfter, acquires, releases}
 use Rattle.ic_link_ops.specs.Chains.{end_of}
@@ -14,10 +14,10 @@ use Rattle.ic_raw.specs.Singly.{RepresentsList, RepresentsSome, IsNoneOrLinkedIn
 use Rattle.ic_raw.specs.Singly.{Inserted, Popped, Exchanged, Spliced, Split, Cleared, Filled, Touched, TouchedRun}
 use Rattle.ic_raw.specs.Words.{HasNumber, is_linked_one, place_of}
 
--- `old`, `new`: the words of the table before the call and after it. `list`, `list'`: the word of the list before and after. `status`: the status
--- that the call returns
+-- `old` and `new` are the words of the table before the call and after it. `list` and `list'` are the word of the list before the call and after it.
+-- `status` is the status that the call returns
 module _ (old new : List RawOne) (list list' : RawFront) (status : ℕ) where
-  -- the place after a place; for none, the first member
+  -- `after` is the place after a given place of the list, or the first member if no place is given
   abbrev pub after : Option Place → Option Place
   after at = next_from (table_of old) (list_of list) at
 
@@ -32,7 +32,7 @@ module _ (old new : List RawOne) (list list' : RawFront) (status : ℕ) where
     pub why : status ≢ OK → status ≡ refusal (fault_at old at ∷ fault_of old place ∷ [])
     pub is_status : IsStatus status
 
-  -- THE FIRST MEMBER IS REMOVED, and its number replaces `was`
+  -- THE FIRST MEMBER IS REMOVED. The number of the removed member replaces the number `was`
   pub record PopCall (was popped : ℕ) : Type 0 where
     pub taken : (s : List Place) (p : Place) → Popped old new list list' status popped p [] s
     pub handed : (p : Place) → front_of list ≡ Some p → status ≡ OK → HasNumber p popped
@@ -45,7 +45,7 @@ module _ (old new : List RawOne) (list list' : RawFront) (status : ℕ) where
     pub why : status ≢ OK → status ≢ NULL → status ≡ BROKEN
     pub is_status : IsStatus status
 
-  -- THE MEMBER AFTER `at` IS REMOVED, or the first one if `at` is none, and its number replaces `was`
+  -- THE MEMBER AFTER `at` IS REMOVED, or the first member if `at` is none. The number of the removed member replaces the number `was`
   pub record RemoveCall (at : Option Place) (was removed : ℕ) : Type 0 where
     pub taken : (front back : List Place) (p : Place) → at ≡ last front → Popped old new list list' status removed p front back
     pub handed : (p : Place) → after at ≡ Some p → status ≡ OK → HasNumber p removed
@@ -59,7 +59,8 @@ module _ (old new : List RawOne) (list list' : RawFront) (status : ℕ) where
     pub why : status ≢ OK → status ≢ NULL → status ≡ refusal (fault_at old at ∷ [])
     pub is_status : IsStatus status
 
-  -- A PLACE REPLACES THE MEMBER AFTER `at`, or the first one if `at` is none. That member is removed, and its number is stored
+  -- A PLACE REPLACES THE MEMBER AFTER `at`, or the first member if `at` is none. The replaced member is removed, and its number replaces the number
+  -- `was`
   pub record ReplaceCall (at place : Option Place) (was out : ℕ) : Type 0 where
     pub replaced : (front back : List Place) (q p : Place) → at ≡ last front → place ≡ Some p → Exchanged old new list list' status out q front back p
     pub handed : (q : Place) → after at ≡ Some q → status ≡ OK → HasNumber q out
@@ -74,7 +75,8 @@ module _ (old new : List RawOne) (list list' : RawFront) (status : ℕ) where
     pub why : status ≢ OK → status ≢ NULL → status ≡ refusal (fault_at old at ∷ fault_of old place ∷ [])
     pub is_status : IsStatus status
 
-  -- ALL MEMBERS OF A SECOND LIST MOVE AFTER THE MEMBER `at`, or to the front if `at` is none. `given`, `given'`: the word of the second list
+  -- ALL MEMBERS OF A SECOND LIST MOVE AFTER THE MEMBER `at`, or to the front if `at` is none. `given` and `given'` are the word of the second list
+  -- before the call and after it
   pub record SpliceCall (at : Option Place) (given given' : RawFront) : Type 0 where
     pub spliced : (cut : Cut) (t : List Place) → IsAfter cut at → Spliced old new list list' status given cut t
     pub emptied : status ≡ OK → given' ≡ word_of_front None
@@ -88,8 +90,8 @@ module _ (old new : List RawOne) (list list' : RawFront) (status : ℕ) where
     pub why : status ≢ OK → status ≡ refusal (fault_at old at ∷ [])
     pub is_status : IsStatus status
 
-  -- THE LIST IS CUT AFTER THE MEMBER `at`, or before all members if `at` is none, and the members after the cut become the list `rest`, which has to
-  -- be empty before. `rest`, `rest'`: the word of that list
+  -- THE LIST IS CUT AFTER THE MEMBER `at`, or before all members if `at` is none. The members after the cut become the list `rest`, which has to be
+  -- empty before the call. `rest` and `rest'` are the word of this list before the call and after it
   pub record SplitCall (at : Option Place) (rest rest' : RawFront) : Type 0 where
     pub split : (cut : Cut) → IsAfter cut at → front_of rest ≡ None → Split old new list list' status rest' cut
     pub accepted : (status ≡ OK) ↔ (front_of rest ≡ None) × TellsGap (table_of old) (list_of list) at
@@ -101,7 +103,7 @@ module _ (old new : List RawOne) (list list' : RawFront) (status : ℕ) where
     pub why : status ≢ OK → status ≡ refusal (fault_at old at ∷ [])
     pub is_status : IsStatus status
 
-  -- A RUN OF `count` PLACES IS INSERTED BEFORE ALL MEMBERS
+  -- A RUN OF `count` PLACES IS INSERTED BEFORE ALL MEMBERS, from the place with the number `first` on
   pub record FillCall (first count : ℕ) : Type 0 where
     pub filled : (s : List Place) → Filled old new list list' status (at_front s) first count
     pub nothing : count ≡ 0 → (status ≡ OK) × (new ≡ old) × (list' ≡ list)
@@ -113,7 +115,7 @@ module _ (old new : List RawOne) (list list' : RawFront) (status : ℕ) where
     pub why : status ≢ OK → status ≡ refusal (run_faults (fault_of old) first count)
     pub is_status : IsStatus status
 
-  -- ALL MEMBERS ARE REMOVED
+  -- ALL MEMBERS ARE REMOVED, and the list is then empty
   pub record ClearCall : Type 0 where
     pub cleared : (s : List Place) → Cleared old new list list' status s
     pub ended : status ≡ OK → (s : List Place) × RepresentsList old list s

@@ -1,4 +1,4 @@
--- A table over words that a caller lends.
+-- A table has one entry for each place. The entries are words that a caller lends.
 use Rattle.std.specs.Prelude.{◌≡◌, ◌∷◌, [], List, ℕ, Bool, cond, nat_lt, Option, Some, None}
 use Rattle.std.specs.Borrow.{MutBor}
 use Rattle.ic_link_ops.specs.Prelude.{Place, index_of, Table, IsCovered, IsUnlinked}
@@ -12,28 +12,30 @@ use Rattle.ic_raw.specs.declared.status.TheConstants.{OK, OUT_OF_RANGE, LINKED, 
 use Rattle.ic_raw.specs.declared.table.RawTable.{RawTable}
 
 module _ {W : Type 0} where
-  -- this is a view of these words, as they are
+  -- the table t is a view of the words that are lent: it has the name of their borrow, and its entries are these words
   abbrev pub IsView : MutBor (List W) → RawTable W → Type 0
   IsView words t = (t.entries.ghost_name ≡ words.ghost_name) × (t.entries.now ≡ words.now)
 
-  -- the words that are lent, in the order of their places
+  -- `raw_entries` is the words that the caller lends, in the order of their places
   abbrev pub raw_entries : RawTable W → List W
   raw_entries t = t.entries.now
 
-  -- the words as a table of the places that words of this width can name. The name of the borrow distinguishes it from other tables that are lent
+  -- `nameable_table` is the table of the places that words of this width can name. The name of the borrow distinguishes the table from other tables
+  -- that are lent
   abbrev pub nameable_table : Width → W → RawTable W → Table W
   nameable_table width unlinked t = table_with unlinked (t.entries.ghost_name ∷ []) (nameable width (raw_entries t))
 
-  -- the same for words of 8 bytes, which can name every place
+  -- `raw_table` is the table of words of 8 bytes, which can name every place
   abbrev pub raw_table : W → RawTable W → Table W
   raw_table = nameable_table wide
 
-  -- THE FAULT OF A MEMBER that the caller names: it is not linked, or does not belong to the table. If the caller names none, there is no fault
+  -- THE FAULT OF A MEMBER that the caller names: the member is not linked, or it does not belong to the table. If the caller names no member, there
+  -- is no fault
   abbrev pub member_fault : (is_linked : W → Bool) → Table W → Option Place → ℕ
   member_fault is_linked t None = OK
   member_fault is_linked t (Some p) = cond (is_linked (t.entry p)) OK (cond (nat_lt (index_of p) t.extent.places) NOT_LINKED OUT_OF_RANGE)
 
-  -- THE FAULT OF A PLACE to insert: it is linked, or does not belong to the table
+  -- THE FAULT OF A PLACE that the caller wants to insert: the place is linked, or it does not belong to the table, or the caller names none
   abbrev pub place_fault : (is_linked : W → Bool) → Table W → Option Place → ℕ
   place_fault is_linked t None = OUT_OF_RANGE
   place_fault is_linked t (Some p) = cond (nat_lt (index_of p) t.extent.places) (cond (is_linked (t.entry p)) LINKED OK) OUT_OF_RANGE
@@ -44,7 +46,8 @@ module _ {W : Type 0} where
     pub unlinked : IsUnlinked is_linked t p
 
 module _ {W : Type 0} (next_word : W → ℕ) where
-  -- the neighbors that the words name, in the form of links
+  -- `joins_of` says that the words w name two places as neighbors. Each definition here reads the words as a link, for which the reading is defined
+  -- already
   abbrev pub joins_of : W → Option Place → Option Place → Type 0
   joins_of w = readings.HasXorNeighbors next_word (link_of w)
 

@@ -1,18 +1,18 @@
--- What an edit touches, whatever the words of a table contain. They need not represent a sequence.
+-- This file says which places an edit changes, whatever the words of a table contain. The words need not represent a sequence.
 use Rattle.std.specs.Prelude.{◌≡◌, ◌≢◌, ◌∷◌, List, [], Bool, Option, Some}
 use Rattle.ic_link_ops.specs.Prelude.{Place, Table, LinkStep, TraceIs}
 use Rattle.ic_raw.specs.declared.gap.Gap.{Gap}
 
--- a place is different from each of these ends
+-- the place q is different from each place in the list
 abbrev pub IsNoneOf : List (Option Place) → Place → Type 0
 IsNoneOf [] q = Unit {0}
 IsNoneOf (end ∷ ends) q = (end ≢ Some q) × IsNoneOf ends q
 
--- the two sides of a gap
+-- `sides` is the list of the place before the gap and the place after the gap
 abbrev pub sides : Gap → List (Option Place)
 sides gap = gap.before ∷ gap.after ∷ []
 
--- AN EDIT TOUCHES NO MORE: it links and unlinks only the places of these steps, and changes only the entries of these places
+-- AN EDIT TOUCHES NO MORE: it links and unlinks places in exactly these steps, and changes only the entries of these places
 pub record Touches {E : Type 0} (linked : E → Bool) (old new : Table E) (steps : List LinkStep) (places : List (Option Place)) : Type 0 where
   pub steps_are : TraceIs linked old new steps
   pub others : (q : Place) → IsNoneOf places q → new.entry q ≡ old.entry q

@@ -1,4 +1,4 @@
--- Red-black trees over a caller's words.
+-- This file says when words that a caller lends represent a red-black tree.
 use Rattle.std.specs.Prelude.{◌≡◌, ℕ, List, Option, Some, None}
 use Rattle.ic_link_ops.specs.Prelude.{Place, word_of, Cut, Table}
 use Rattle.ic_link_ops.specs.declared.side.Side.{Side}
@@ -14,26 +14,26 @@ use Rattle.ic_raw.specs.Words.{place_in, no_tree_words, is_linked_three, color_o
 use Rattle.ic_raw.specs.Tables.{raw_table}
 use Rattle.ic_raw.specs.Calls as calls
 
--- the words of a table, and those that are lent, as contracts see them
+-- `table_of` is the table that has these words, and `lent_table` is the table of the words that a caller lends. Contracts name both
 abbrev pub table_of : List RawThree → Table RawThree
 table_of = plain.table_of no_tree_words
 
 abbrev pub lent_table : RawTable RawThree → Table RawThree
 lent_table = raw_table no_tree_words
 
--- the node that an entry describes
+-- `node` is the node of the tree that the words of an entry describe: its two children, its parent, its color, and whether it is linked
 abbrev pub node : RawThree → Node
 node w = record { linked = is_linked_three w; left = place_in w.left; right = place_in w.right; parent = place_in w.parent; color = color_of w }
 
--- THE TABLE REPRESENTS s as the tree with this root
+-- THE TABLE REPRESENTS A SEQUENCE of places as the red-black tree with this root
 abbrev pub Represents : Table RawThree → Option Place → List Place → Type 0
 Represents = trees.Represents node
 
--- the root that a tree's word names
+-- `root_in` is the root of a tree, which the tree's word names
 abbrev pub root_in : RawRoot → Option Place
 root_in t = place_in t.root
 
--- the word for a root, as a call writes it: 0 for none
+-- `word_of_root` is the word of a tree with this root, as a call writes it. The word is 0 if the tree has no root
 abbrev pub word_of_root : Option Place → RawRoot
 word_of_root root = record { root = word_of root }
 
@@ -41,17 +41,17 @@ word_of_root root = record { root = word_of root }
 abbrev pub IsWritten : RawRoot → Type 0
 IsWritten t = t ≡ word_of_root (root_in t)
 
--- THE HOLE on a side of a member where it has no child: on the left it is the gap before the member, on the right the gap after it. For none, the
--- tree is empty
+-- A POSITION FOR A CHILD on this side of the member `at`, which has no child there: a new member comes before `at` on the left side, and after `at`
+-- on the right. If `at` is none, the tree is empty
 abbrev pub IsInsertPos : Side → Table RawThree → Option Place → Cut → Type 0
 IsInsertPos side t at cut = holes.IsInsertPos node t at side cut
 
--- THE LINKS CONFIRM A HOLE there: the place has no child on this side, or, for none, the tree has no root
+-- THE LINKS CONFIRM A POSITION FOR A CHILD: the place has no child on this side, or, if no place is given, the tree has no root
 abbrev pub TellsInsertPos : Side → Table RawThree → (root : Option Place) → Option Place → Type 0
 TellsInsertPos side t root None = root ≡ None
 TellsInsertPos side t root (Some p) = child_on side (node (t.entry p)) ≡ None
 
--- what a call does to such words
+-- the definitions of what a call does are those of the file Calls, which are used here for red-black trees
 abbrev pub RepresentsTree : List RawThree → RawRoot → List Place → Type 0
 RepresentsTree = calls.RepresentsList Represents is_linked_three no_tree_words root_in
 

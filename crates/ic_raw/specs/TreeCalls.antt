@@ -1,6 +1,6 @@
--- WHAT THE CALLS OF RED-BLACK TREES DO: each record is the whole contract of a call. The first fields say what the call does to a tree that the table
--- represents. The others hold whatever the words contain: what an accepted call has tested before it edits, and what a refused call leaves and why it
--- was refused.
+-- WHAT THE CALLS OF RED-BLACK TREES DO: each record is the whole contract of one call. The first fields say what the call does to a tree that the
+-- table represents. The other fields hold whatever the words contain. They say what an accepted call has tested before it edits, what a refused call
+-- leaves, and why it was refused.
 use Rattle.std.specs.Prelude.{◌≡◌, ◌≢◌, ◌↔◌, ◌⊎◌, ◌∷◌, ℕ, List, [], Option, Some, None}
 use Rattle.ic_link_ops.specs.Prelude.{Place, Cut, join, LinksAlso, Unlinks, Exchanges}
 use Rattle.ic_link_ops.specs.declared.side.Side.{Side}
@@ -14,17 +14,17 @@ use Rattle.ic_raw.specs.Answers.{IsStatus, IsFound, refusal}
 use Rattle.ic_raw.specs.Tree.{node, RepresentsTree, IsInsertPos, TellsInsertPos, FreeIn, IsNoneOrLinkedIn, IsWritten, root_in, word_of_root, table_of, fault_at, fault_of}
 use Rattle.ic_raw.specs.Tree.{Inserted, Removed, Replaced}
 use Rattle.ic_raw.specs.Seen.{StaysWithin, HandsOutStep, StepEndsIn}
-use Rattle.ic_raw.specs.WholeTree.{Cleared, LeadsToEnd, OnlyUnmarks}
+use Rattle.ic_raw.specs.TreeShape.{Cleared, LeadsToEnd, OnlyUnmarks}
 use Rattle.ic_raw.specs.Words.{is_linked_three}
 
--- `old`, `new`: the words of the table before the call and after it. `tree`, `tree'`: the word of the tree before and after. `status`: the status
--- that the call returns
+-- `old` and `new` are the words of the table before the call and after it. `tree` and `tree'` are the word of the tree before the call and after it.
+-- `status` is the status that the call returns
 module _ (old new : List RawThree) (tree tree' : RawRoot) (status : ℕ) where
-  -- a place that names no parent is the root of this tree
+  -- if the place p names no parent, p is the root of this tree
   abbrev pub IsOwn : Place → Type 0
   IsOwn p = (node_at node (table_of old) p).parent ≡ None → root_in tree ≡ Some p
 
-  -- A PLACE IS INSERTED AS THE CHILD on this side of the member `at`, or as the only member if `at` is none
+  -- A PLACE IS INSERTED AS THE CHILD on this side of the member `at`, or as the only member of the tree if `at` is none
   pub record InsertCall (side : Side) (at place : Option Place) : Type 0 where
     pub inserted : (cut : Cut) (p : Place) → IsInsertPos side (table_of old) at cut → place ≡ Some p → Inserted old new tree tree' status cut p
     pub free : (p : Place) → place ≡ Some p → status ≡ OK → FreeIn old p
@@ -39,7 +39,7 @@ module _ (old new : List RawThree) (tree tree' : RawRoot) (status : ℕ) where
     pub why : status ≢ OK → status ≡ refusal (fault_at old at ∷ fault_of old place ∷ [])
     pub is_status : IsStatus status
 
-  -- A MEMBER IS REMOVED
+  -- THE MEMBER `at` IS REMOVED from the tree, and it is then unlinked
   pub record RemoveCall (at : Option Place) : Type 0 where
     pub removed : (front back : List Place) (p : Place) → at ≡ Some p → Removed old new tree tree' status p front back
     pub null : (status ≡ NULL) ↔ (at ≡ None)
@@ -53,7 +53,7 @@ module _ (old new : List RawThree) (tree tree' : RawRoot) (status : ℕ) where
     pub why : status ≢ OK → status ≢ NULL → status ≡ refusal (fault_at old at ∷ [])
     pub is_status : IsStatus status
 
-  -- A PLACE REPLACES A MEMBER, which is removed
+  -- A PLACE REPLACES THE MEMBER `at`, which is removed
   pub record ReplaceCall (at place : Option Place) : Type 0 where
     pub replaced : (front back : List Place) (out p : Place) → at ≡ Some out → place ≡ Some p → Replaced old new tree tree' status out front back p
     pub free : (p : Place) → place ≡ Some p → status ≡ OK → FreeIn old p
@@ -70,7 +70,7 @@ module _ (old new : List RawThree) (tree tree' : RawRoot) (status : ℕ) where
     pub why : status ≢ OK → status ≢ NULL → status ≡ refusal (fault_at old at ∷ fault_of old place ∷ [])
     pub is_status : IsStatus status
 
-  -- ALL MEMBERS ARE REMOVED
+  -- ALL MEMBERS ARE REMOVED, and the tree is then empty
   pub record ClearCall : Type 0 where
     pub cleared : (s : List Place) → Cleared old new tree tree' status s
     pub root : status ≡ OK → IsNoneOrLinkedIn old (root_in tree)
@@ -81,9 +81,11 @@ module _ (old new : List RawThree) (tree tree' : RawRoot) (status : ℕ) where
     pub why : status ≢ OK → status ≡ BROKEN
     pub is_status : IsStatus status
 
--- the words of the table before the call and after it, and the word of the tree
+-- `old` and `new` are the words of the table before the call and after it, and `tree` is the word of the tree. `status` is the status that the call
+-- returns
 module _ (old new : List RawThree) (tree : RawRoot) (status : ℕ) where
-  -- THE MEMBER BESIDE `at` on this side IS FOUND, or the outermost member on the opposite side if `at` is none, and its number replaces `was`
+  -- THE MEMBER BESIDE `at` on this side IS FOUND. If `at` is none, the outermost member on the opposite side is found. The number of the member
+  -- replaces the number `was`
   pub record StepCall (side : Side) (at : Option Place) (was number : ℕ) : Type 0 where
     pub found : (cut : Cut) (member : Option Place) → IsBeside side cut at → IsBeside (across side) cut member → RepresentsTree old tree (join cut)
         → IsFound member status number

@@ -1,4 +1,4 @@
--- How a caller's words are read.
+-- This file says how the numbers in a caller's words are read.
 use Rattle.std.proofs.Common.{arith}
 use Rattle.std.specs.Prelude.{◌≡◌, ℕ, ◌+◌, ◌*◌, ◌/◌, ◌%◌, ◌<◌, Bool, true, cond, nat_eq, Option, Some}
 use Rattle.ic_link_ops.specs.Prelude.{Place, index_of, place_at}
@@ -9,34 +9,35 @@ use Rattle.ic_raw.specs.declared.words.RawTwo.{RawTwo}
 use Rattle.ic_raw.specs.declared.words.RawNarrowTwo.{RawNarrowTwo}
 use Rattle.ic_raw.specs.declared.words.RawThree.{RawThree}
 
--- the number in a word: a multiple of 8 below 2 ^ 36, whatever the word's bits are
+-- `number_in v` is the number in the word v: a multiple of 8 below 2 ^ 36, whatever the bits of the word are
 abbrev pub number_in : ℕ → ℕ
 number_in v = v / 8 % 8589934592 * 8
 
--- the place that a word names, or none if its number is 0
+-- `place_in v` is the place that the word v names, or none if the number in the word is 0
 abbrev pub place_in : ℕ → Option Place
 place_in v = place_at (number_in v)
 
--- the number in a word of 4 bytes: a multiple of 8 below 2 ^ 32; and the place that it names
+-- `narrow_number_in v` is the number in the word v of 4 bytes: a multiple of 8 below 2 ^ 32. `narrow_place_in v` is the place that this word names
 abbrev pub narrow_number_in : ℕ → ℕ
 narrow_number_in v = v / 8 % 536870912 * 8
 
 abbrev pub narrow_place_in : ℕ → Option Place
 narrow_place_in v = place_at (narrow_number_in v)
 
--- whether a word has the mark of a linked place
+-- `is_marked v` says whether the word v has the mark of a linked place, which is its lowest bit
 abbrev pub is_marked : ℕ → Bool
 is_marked v = nat_eq (v % 2) 1
 
--- the place with that index, or none for 4,294,967,295
+-- `place_of i` is the place with the index i, or none if i is 4,294,967,295
 abbrev pub place_of : ℕ → Option Place
 place_of i = place_at (8 * ((i + 1) % 4294967296))
 
--- the number names that place, if its index is below 4,294,967,295
+-- `number` names the place p, if the index of p is below 4,294,967,295
 abbrev pub HasNumber : Place → ℕ → Type 0
 HasNumber p number = index_of p < 4294967295 → place_of number ≡ Some p
 
--- links of one word: the word of an unlinked place, whether a place is linked, and the number of the next place
+-- A link of one word: `no_word` is the word of an unlinked place, `is_linked_one` says whether a place is linked, and `next_of_one` is the number of
+-- the next place
 abbrev pub no_word : RawOne
 no_word = record { next = 0 }
 
@@ -46,7 +47,7 @@ is_linked_one w = is_marked w.next
 abbrev pub next_of_one : RawOne → ℕ
 next_of_one w = number_in w.next
 
--- links of two words: the first word is read like that of a one-word link, and the second names the previous place
+-- A link of two words: the first word has the mark of a linked place and the number of the next place, and the second word names the previous place
 abbrev pub no_words : RawTwo
 no_words = record { next = 0; prev = 0 }
 
@@ -59,7 +60,8 @@ next_of_two w = number_in w.next
 abbrev pub prev_of_two : RawTwo → Option Place
 prev_of_two w = place_in w.prev
 
--- links of two words of 4 bytes
+-- A link of two words of 4 bytes: the first word has the mark of a linked place and the number of the next place, and the second word names the
+-- previous place
 abbrev pub no_narrow_words : RawNarrowTwo
 no_narrow_words = record { next = 0; prev = 0 }
 
@@ -72,11 +74,12 @@ next_of_narrow w = narrow_number_in w.next
 abbrev pub prev_of_narrow : RawNarrowTwo → Option Place
 prev_of_narrow w = narrow_place_in w.prev
 
--- the number of the next place is small
+-- the number of the next place in a word of 4 bytes is less than 2 ^ 32
 pub narrow_number_small : (w : RawNarrowTwo) → is_linked_narrow w ≡ true → next_of_narrow w < 4294967296
 narrow_number_small w linked = omega arith
 
--- links of three words: the words of an unlinked place, whether a place is linked, and which color it has
+-- A link of three words: `no_tree_words` is the words of an unlinked place, `is_linked_three` says whether a place is linked, and `color_of` is the
+-- color of the place
 abbrev pub no_tree_words : RawThree
 no_tree_words = record { left = 0; right = 0; parent = 0 }
 

@@ -1,4 +1,4 @@
--- XOR linked lists over a caller's words.
+-- This file says when words that a caller lends represent an XOR linked list.
 use Rattle.std.specs.Prelude.{◌≡◌, true, ℕ, List, [], ◌∷◌, Option, Some, None}
 use Rattle.ic_link_ops.specs.Prelude.{Place, Cut, Table}
 use Rattle.ic_link_ops.specs.Chains.{Ends}
@@ -11,55 +11,59 @@ use Rattle.ic_raw.specs.Doubly.{ends_of}
 use Rattle.ic_raw.specs.Calls as calls
 use Rattle.ic_raw.specs.Fills as fills
 
--- the place of an entry is between these two
+-- the word of a place says that its neighbors are these two places
 abbrev pub HasNeighbors : RawOne → Option Place → Option Place → Type 0
 HasNeighbors = joins_of next_of_one
 
--- the neighbor of an entry's place on the other side, from the given neighbor
+-- `other` is the second neighbor of a place, which its word and its first neighbor give
 abbrev pub other : RawOne → Option Place → Option Place
 other = other_of next_of_one
 
--- THE TABLE REPRESENTS s as the list with these ends
+-- THE TABLE REPRESENTS A SEQUENCE of places as the XOR linked list with these ends
 abbrev pub Represents : Table RawOne → Ends → List Place → Type 0
 Represents = xor.Represents is_linked_one HasNeighbors
 
--- the place on the other side of a place, by its word; none beyond none
+-- `beyond` is the neighbor of the place `at` that is opposite to `neighbor`, by the word of `at`. If `at` is none, it is none
 abbrev pub beyond : Table RawOne → (at neighbor : Option Place) → Option Place
 beyond t None neighbor = None
 beyond t (Some p) neighbor = other (t.entry p) neighbor
 
--- THE LIST GOES ON beyond a place: a linked place is there, or none is and the place is the list's end on that side
+-- THE LIST GOES ON beyond the place p: the place `beyond` is linked, or it is none and p is the end of the list on that side
 abbrev pub GoesOn : (Place → RawOne) → (end : Option Place) → Place → (beyond : Option Place) → Type 0
 GoesOn entry end p None = end ≡ Some p
 GoesOn entry end p (Some q) = is_linked_one (entry q) ≡ true
 
--- A PLACE FACES ITS NEIGHBOR: it is linked, and the list goes on beyond it. If there is no place, the neighbor is the list's end
+-- A PLACE FACES ITS NEIGHBOR: the place is linked, and the list goes on beyond the place, on the side away from the neighbor. If there is no place,
+-- the neighbor is the list's end
 abbrev pub Faces : (Place → RawOne) → (end place neighbor : Option Place) → Type 0
 Faces entry end None neighbor = end ≡ neighbor
 Faces entry end (Some p) neighbor = (is_linked_one (entry p) ≡ true) × GoesOn entry end p (other (entry p) neighbor)
 
--- THE LINKS CONFIRM A GAP: the places on both sides of it face each other. They confirm each gap of a list, but may confirm others, too: in the list
--- 0, 1, .., 6 they confirm one between 1 and 6, since the words of these name the linked places 4 and 3 beyond them
+-- THE LINKS CONFIRM A GAP: the places on both sides of the gap face each other. The links confirm each gap of a list, but they may also confirm a gap
+-- that the list does not have. For example, they confirm a gap between 1 and 6 in the list 0, 1, .., 6. The words of 1 and 6 then name the linked
+-- places 4 and 3 beyond them
 abbrev pub TellsGap : Table RawOne → Ends → (before after : Option Place) → Type 0
 TellsGap t list before after = Faces t.entry list.head before after × Faces t.entry list.tail after before
 
--- THE LINKS CONFIRM A MEMBER between two places: both face it
+-- THE LINKS CONFIRM A MEMBER p between two places: the places `before` and `after` both face p
 abbrev pub TellsMember : Table RawOne → Ends → (before : Option Place) → Place → (after : Option Place) → Type 0
 TellsMember t list before p after = Faces t.entry list.head before (Some p) × Faces t.entry list.tail after (Some p)
 
--- THE LINKS CONFIRM the member after a place, with none before the first member, and the member before a place, with none after the last
+-- THE LINKS CONFIRM THE MEMBER `at`: for `TellsMemberAfter`, `before` is the place before `at`, or none if `at` is the first member. For
+-- `TellsMemberBefore`, `after` is the place after `at`, or none if `at` is the last member
 abbrev pub TellsMemberAfter : Table RawOne → Ends → (before at : Option Place) → Type 0
 TellsMemberAfter t list before at = (p : Place) → at ≡ Some p → TellsMember t list before p (other (t.entry p) before)
 
 abbrev pub TellsMemberBefore : Table RawOne → Ends → (after at : Option Place) → Type 0
 TellsMemberBefore t list after at = (p : Place) → at ≡ Some p → TellsMember t list (other (t.entry p) after) p after
 
--- THE LINKS CONFIRM A LIST by its ends: the first member faces none before it, and the last faces none after it
+-- THE LINKS CONFIRM A LIST by its ends: the first member is linked and has no place before it, and the last is linked and has no place after it. If
+-- one end is none, both are
 abbrev pub TellsEnds : Table RawOne → Ends → Type 0
 TellsEnds t list = Faces t.entry list.tail list.head None × Faces t.entry list.head list.tail None
 
--- THE LINKS LEAD THROUGH s from the first member to the last: each place of s is linked, and the place on its other side is the next one. Unlike a
--- list, s may have a place twice
+-- THE LINKS LEAD THROUGH s from the first member to the last: each place of s is linked, and its word and the place before it give the next place.
+-- Unlike a list, s may have a place twice
 abbrev pub LeadsOn : (Place → RawOne) → (end from at : Option Place) → List Place → Type 0
 LeadsOn entry end from at [] = (at ≡ None) × (end ≡ from)
 LeadsOn entry end from at (x ∷ s) = (at ≡ Some x) × (is_linked_one (entry x) ≡ true) × LeadsOn entry end (Some x) (other (entry x) from) s
@@ -67,7 +71,7 @@ LeadsOn entry end from at (x ∷ s) = (at ≡ Some x) × (is_linked_one (entry x
 abbrev pub LeadsThrough : Table RawOne → Ends → List Place → Type 0
 LeadsThrough t list s = LeadsOn t.entry list.tail None list.head s
 
--- what a call does to such words
+-- the definitions of what a call does are those of the file Calls, which are used here for XOR linked lists
 abbrev pub RepresentsList : List RawOne → RawEnds → List Place → Type 0
 RepresentsList = calls.RepresentsList Represents is_linked_one no_word ends_of
 
@@ -107,6 +111,7 @@ Cleared = calls.Cleared Represents is_linked_one no_word ends_of
 abbrev pub Filled : (old new : List RawOne) (list list' : RawEnds) (status : ℕ) → Cut → (first count : ℕ) → Type 0
 Filled = fills.Filled Represents is_linked_one no_word ends_of
 
--- LINKED PLACES ARE UNLINKED, AND NOTHING ELSE IS CHANGED: such a place has the word of one then that no call has linked
+-- LINKED PLACES ARE UNLINKED, AND NOTHING ELSE IS CHANGED: each entry is as it was, or it was that of a linked place and is now the word of an
+-- unlinked place
 abbrev pub OnlyUnlinks : (old new : Table RawOne) → Type 0
 OnlyUnlinks = calls.OnlyUnlinks is_linked_one (λ w. no_word)

@@ -1,12 +1,12 @@
--- WHAT THE CALLS OF XOR LINKED LISTS DO: each record is the whole contract of a call. The first fields say what the call does to a list that the
--- table represents. The others hold whatever the words contain: what an accepted call has tested before it edits, and what a refused call leaves and
--- why it was refused.
+-- WHAT THE CALLS OF XOR LINKED LISTS DO: each record is the whole contract of one call. The first fields say what the call does to a list that the
+-- table represents. The other fields hold whatever the words contain. They say what an accepted call has tested before it edits, what a refused call
+-- leaves, and why it was refused.
 use Rattle.std.specs.Prelude.{◌≡◌, ◌≢◌, ◌↔◌, ◌∷◌, ℕ, List, [], Option, Some, None}
 use Rattle.ic_link_ops.specs.Prelude.{Place, Cut, at_back, last, IsAfter, IsBefore, acquires, releases}
 use Rattle.ic_link_ops.specs.Chains.{no_members}
 use Rattle.ic_raw.specs.declared.gap.Gap.{Gap}
-use Rattle.ic_raw.specs.declared.gap.Side.{Side}
-use Rattle.ic_raw.specs.declared.gap.Side.TheVariants.{After, Before}
+use Rattle.ic_raw.specs.declared.gap.GapSide.{GapSide}
+use Rattle.ic_raw.specs.declared.gap.GapSide.TheVariants.{After, Before}
 use Rattle.ic_raw.specs.declared.status.TheConstants.{OK, NULL, BROKEN}
 use Rattle.ic_raw.specs.declared.words.RawEnds.{RawEnds}
 use Rattle.ic_raw.specs.declared.words.RawOne.{RawOne}
@@ -20,10 +20,10 @@ use Rattle.ic_raw.specs.Words.{HasNumber, is_linked_one, place_of}
 use Rattle.ic_raw.specs.Xor.{FreeIn, IsNoneOrLinkedIn, beyond, TellsGap, TellsMemberAfter, TellsMemberBefore, TellsEnds, LeadsThrough, fault_at, fault_of}
 use Rattle.ic_raw.specs.Xor.{Inserted, Removed, Popped, Replaced, Spliced, Split, Cleared, Filled, OnlyUnlinks}
 
--- `old`, `new`: the words of the table before the call and after it. `list`, `list'`: the words of the list before and after. `status`: the status
--- that the call returns
+-- `old` and `new` are the words of the table before the call and after it. `list` and `list'` are the words of the list before the call and after it.
+-- `status` is the status that the call returns
 module _ (old new : List RawOne) (list list' : RawEnds) (status : ℕ) where
-  -- A PLACE IS INSERTED BETWEEN two neighbors, of which one is none at an end of the list
+  -- A PLACE IS INSERTED BETWEEN the neighbors `before` and `after`, of which one is none at an end of the list
   pub record InsertCall (before after place : Option Place) : Type 0 where
     pub inserted : (cut : Cut) (p : Place) → IsAfter cut before → IsBefore cut after → place ≡ Some p → Inserted old new list list' status cut p
     pub free : (p : Place) → place ≡ Some p → status ≡ OK → FreeIn old p
@@ -38,7 +38,7 @@ module _ (old new : List RawOne) (list list' : RawEnds) (status : ℕ) where
     pub why : status ≢ OK → status ≡ refusal (fault_at old before ∷ fault_at old after ∷ fault_of old place ∷ [])
     pub is_status : IsStatus status
 
-  -- A PLACE IS INSERTED AT AN END, between none and the end that the list names
+  -- A PLACE IS INSERTED AT AN END of the list. One of `before` and `after` is none, and the second is the end that the list's words name
   pub record PushCall (before after place : Option Place) : Type 0 where
     pub inserted : (cut : Cut) (p : Place) → IsAfter cut before → IsBefore cut after → place ≡ Some p → Inserted old new list list' status cut p
     pub free : (p : Place) → place ≡ Some p → status ≡ OK → FreeIn old p
@@ -51,18 +51,18 @@ module _ (old new : List RawOne) (list list' : RawEnds) (status : ℕ) where
     pub why : status ≢ OK → status ≡ refusal (fault_of old place ∷ [])
     pub is_status : IsStatus status
 
-  -- the links confirm the member at an end: the first one, or the last one for the side `Before`
-  abbrev pub TellsEndOn : Side → Type 0
+  -- the links confirm the member at an end of the list: the first member for the side `After`, and the last member for the side `Before`
+  abbrev pub TellsEndOn : GapSide → Type 0
   TellsEndOn After = TellsMemberAfter (table_of old) (ends_of list) None (ends_of list).head
   TellsEndOn Before = TellsMemberBefore (table_of old) (ends_of list) None (ends_of list).tail
 
-  -- the places on both sides of that member: none, and the one that its word names
-  abbrev pub around_end : Side → Gap
+  -- `around_end` is the two neighbors of the member at an end of the list: one neighbor is none, and the word of the member names the other one
+  abbrev pub around_end : GapSide → Gap
   around_end After = gap_between None (beyond (table_of old) (ends_of list).head None)
   around_end Before = gap_between (beyond (table_of old) (ends_of list).tail None) None
 
-  -- THE FIRST MEMBER IS REMOVED, or the last one for the side `Before`, and its number replaces `was`
-  pub record PopCall (side : Side) (was popped : ℕ) : Type 0 where
+  -- THE FIRST MEMBER IS REMOVED, or the last member for the side `Before`. The number of the removed member replaces the number `was`
+  pub record PopCall (side : GapSide) (was popped : ℕ) : Type 0 where
     pub taken : (front back : List Place) (p : Place) → IsEnd side front back → Popped old new list list' status popped p front back
     pub handed : (p : Place) → end_on side (ends_of list) ≡ Some p → status ≡ OK → HasNumber p popped
     pub null : (status ≡ NULL) ↔ (end_on side (ends_of list) ≡ None)
@@ -76,7 +76,7 @@ module _ (old new : List RawOne) (list list' : RawEnds) (status : ℕ) where
     pub why : status ≢ OK → status ≢ NULL → status ≡ BROKEN
     pub is_status : IsStatus status
 
-  -- THE MEMBER `at` IS REMOVED, whose previous member is `before`
+  -- THE MEMBER `at` IS REMOVED, and `before` is the member before `at`
   pub record RemoveCall (before at : Option Place) : Type 0 where
     pub removed : (front back : List Place) (p : Place) → before ≡ last front → at ≡ Some p → Removed old new list list' status p front back
     pub null : (status ≡ NULL) ↔ (at ≡ None)
@@ -91,7 +91,7 @@ module _ (old new : List RawOne) (list list' : RawEnds) (status : ℕ) where
     pub why : status ≢ OK → status ≢ NULL → status ≡ refusal (fault_at old at ∷ fault_at old before ∷ [])
     pub is_status : IsStatus status
 
-  -- A PLACE REPLACES THE MEMBER `at`, which is removed, and whose previous member is `before`
+  -- A PLACE REPLACES THE MEMBER `at`, which is removed. `before` is the member before `at`
   pub record ReplaceCall (before at place : Option Place) : Type 0 where
     pub replaced : (front back : List Place) (out p : Place) → before ≡ last front → at ≡ Some out → place ≡ Some p
         → Replaced old new list list' status out front back p
@@ -110,8 +110,8 @@ module _ (old new : List RawOne) (list list' : RawEnds) (status : ℕ) where
     pub why : status ≢ OK → status ≢ NULL → status ≡ refusal (fault_at old at ∷ fault_at old before ∷ fault_of old place ∷ [])
     pub is_status : IsStatus status
 
-  -- ALL MEMBERS OF A SECOND LIST MOVE BETWEEN two neighbors, of which one is none at an end of the list. `given`, `given'`: the words of the second
-  -- list
+  -- ALL MEMBERS OF A SECOND LIST MOVE BETWEEN the neighbors `before` and `after`, of which one is none at an end of the list. `given` and `given'`
+  -- are the words of the second list before the call and after it
   pub record SpliceCall (before after : Option Place) (given given' : RawEnds) : Type 0 where
     pub spliced : (cut : Cut) (t : List Place) → IsAfter cut before → IsBefore cut after → Spliced old new list list' status given cut t
     pub emptied : status ≡ OK → given' ≡ words_of no_members
@@ -129,7 +129,7 @@ module _ (old new : List RawOne) (list list' : RawEnds) (status : ℕ) where
     pub why : status ≢ OK → status ≡ refusal (fault_at old before ∷ fault_at old after ∷ [])
     pub is_status : IsStatus status
 
-  -- ALL MEMBERS OF A SECOND LIST MOVE TO THE BACK
+  -- ALL MEMBERS OF A SECOND LIST MOVE TO THE BACK of the list. `given` and `given'` are the words of the second list before the call and after it
   pub record AppendCall (given given' : RawEnds) : Type 0 where
     pub spliced : (s t : List Place) → Spliced old new list list' status given (at_back s) t
     pub emptied : status ≡ OK → given' ≡ words_of no_members
@@ -146,8 +146,8 @@ module _ (old new : List RawOne) (list list' : RawEnds) (status : ℕ) where
     pub why : status ≢ OK → status ≡ BROKEN
     pub is_status : IsStatus status
 
-  -- THE LIST IS CUT BETWEEN two neighbors, of which one is none at an end of the list, and the members after the cut become the list `rest`, which
-  -- has to be empty before. `rest`, `rest'`: the words of that list
+  -- THE LIST IS CUT BETWEEN the neighbors `before` and `after`, of which one is none at an end of the list. The members after the cut become the list
+  -- `rest`, which has to be empty before the call. `rest` and `rest'` are the words of this list before the call and after it
   pub record SplitCall (before after : Option Place) (rest rest' : RawEnds) : Type 0 where
     pub split : (cut : Cut) → IsAfter cut before → IsBefore cut after → ends_of rest ≡ no_members → Split old new list list' status rest' cut
     pub empty : status ≡ OK → ends_of rest ≡ no_members
@@ -162,7 +162,7 @@ module _ (old new : List RawOne) (list list' : RawEnds) (status : ℕ) where
     pub why : status ≢ OK → status ≡ refusal (fault_at old before ∷ fault_at old after ∷ [])
     pub is_status : IsStatus status
 
-  -- A RUN OF `count` PLACES IS INSERTED AFTER ALL MEMBERS
+  -- A RUN OF `count` PLACES IS INSERTED AFTER ALL MEMBERS, from the place with the number `first` on
   pub record FillCall (first count : ℕ) : Type 0 where
     pub filled : (s : List Place) → Filled old new list list' status (at_back s) first count
     pub free : status ≡ OK → IsFreeRunIn old first count
@@ -175,7 +175,7 @@ module _ (old new : List RawOne) (list list' : RawEnds) (status : ℕ) where
     pub why : status ≢ OK → status ≡ refusal (run_faults (fault_of old) first count)
     pub is_status : IsStatus status
 
-  -- ALL MEMBERS ARE REMOVED
+  -- ALL MEMBERS ARE REMOVED, and the list is then empty
   pub record ClearCall : Type 0 where
     pub cleared : (s : List Place) → Cleared old new list list' status s
     pub ended : status ≡ OK → (s : List Place) × LeadsThrough (table_of old) (ends_of list) s

@@ -1,4 +1,5 @@
-//! Walks along one chain of a hash table, over a view of the table. Each walk ends within as many steps as the table has places.
+//! The functions of this module walk along one chain of a hash table, in a view of the table. Each walk ends within as many steps as the table has
+//! places.
 //!
 //! ```text
 //! let before = place_before(&links, list.first(), member); // the place before the member, if the chain has it
@@ -22,7 +23,8 @@ use crate::words::RawOne;
 use ic_link_ops::singly_linked_list::SinglyLinkedListOps;
 use ic_unsafe_ref::Place;
 
-// Returns the place before this member in the chain that begins with `front`, if a walk from there comes to the member.
+// Returns the place before `member` in the chain that begins with `front`, if a walk from `front` comes to `member`. The inner result is `None` if
+// `member` is the first of the chain.
 pub(crate) fn place_before(
     links: &RawTable<'_, RawOne>,
     front: Option<Place>,
@@ -57,7 +59,7 @@ pub(crate) fn place_before(
     None
 }
 
-// Stores the number of the first member with this key in `found`, from this place of a chain on.
+// Stores in `found` the number of the first member with the key `key`, among the members of a chain from the place `from` on.
 pub(crate) fn find_from(
     links: &RawTable<'_, RawOne>,
     keys: &[u64],

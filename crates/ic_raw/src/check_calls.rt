@@ -1,4 +1,4 @@
-//! Checks that the words represent a list, a tree or a hash table, and counts its members.
+//! The calls of this module check that the words represent a list, a tree or a hash table, and count its members.
 //!
 //! ```text
 //! check_list(table, list, &mut members) // OK, or BROKEN where the words represent no list
@@ -40,7 +40,7 @@ impl<W: Words> TellsLinks for RawTable<'_, W> {
 /// Checks that the words represent a doubly linked list, and stores the number of its members in `members`, or returns [`BROKEN`] if they do not
 /// represent one. O(n).
 ///
-/// It writes nothing else. If it returns [`OK`], every other call does with this list what its own comment says.
+/// The call writes nothing else. If it returns [`OK`], every other call does with this list what the comment of the other call says.
 #[inline]
 pub fn check_list<W: PrevPlace>(table: &mut [W], list: &RawEnds, members: &mut u64) -> u32
     ensures { CheckCall table.old table.new result (doubly.RepresentsList W.PrevPlace table.old list.now) members.old members.new }
@@ -56,7 +56,7 @@ pub fn check_list<W: PrevPlace>(table: &mut [W], list: &RawEnds, members: &mut u
 /// Checks that the words represent a singly linked list, and stores the number of its members in `members`, or returns [`BROKEN`] if they do not
 /// represent one. O(n).
 ///
-/// It writes nothing else. If it returns [`OK`], every other call does with this list what its own comment says.
+/// The call writes nothing else. If it returns [`OK`], every other call does with this list what the comment of the other call says.
 #[inline]
 pub fn check_stack(table: &mut [RawOne], list: &RawFront, members: &mut u64) -> u32
     ensures { CheckCall table.old table.new result (singly.RepresentsList table.old list.now) members.old members.new }
@@ -72,7 +72,8 @@ pub fn check_stack(table: &mut [RawOne], list: &RawFront, members: &mut u64) -> 
 /// Checks that the words represent a tree, and stores the number of its members in `members`, or returns [`BROKEN`] if they do not represent a
 /// red-black tree. O(n).
 ///
-/// It writes nothing else, and requires no keys. If it returns [`OK`], every other call does with this tree what its own comment says.
+/// The call writes nothing else, and it requires no keys. If it returns [`OK`], every other call does with this tree what the comment of the other
+/// call says.
 #[inline]
 pub fn check_tree(table: &mut [RawThree], tree: &RawRoot, members: &mut u64) -> u32
     ensures { CheckCall table.old table.new result (RepresentsTree table.old tree.now) members.old members.new }
@@ -85,7 +86,7 @@ pub fn check_tree(table: &mut [RawThree], tree: &RawRoot, members: &mut u64) -> 
     OK
 }
 
-// Returns how many members the chain in a bucket has, or `None` if the chain has no end or a member belongs in another bucket.
+// Returns how many members the chain in the bucket `at` has, or `None` if the chain has no end or if the hash of a member leads to another bucket.
 fn own_members(
     links: &RawTable<'_, RawOne>,
     hashes: &[u64],
@@ -115,7 +116,7 @@ fn own_members(
     Some(members)
 }
 
-// Returns how many members all chains have together, or `None` if a chain has no end or a member belongs in another bucket.
+// Returns how many members all chains have together, or `None` if a chain has no end or if the hash of a member leads to another bucket.
 fn all_members(links: &RawTable<'_, RawOne>, hashes: &[u64], buckets: &[RawFront]) -> Option<usize>
     requires hashes { (singly.lent_table links.now).extent.places ≤ length hashes.now }
     ensures { MatchOption result (RepresentsNone (HoldsByHash (raw_entries links.now) hashes.now buckets.now))
@@ -133,11 +134,11 @@ fn all_members(links: &RawTable<'_, RawOne>, hashes: &[u64], buckets: &[RawFront
     Some(members)
 }
 
-/// Checks that the words represent a hash table, and stores the number of its members in `members`, or returns [`BROKEN`] if they do not: if a chain
-/// has no end, or a member is not in the bucket to which its hash leads. O(b + n) for b buckets and n places.
+/// Checks that the words represent a hash table, and stores the number of its members in `members`. The call returns [`BROKEN`] if a chain has no
+/// end, or if a member is not in the bucket to which its hash leads. O(b + n) for b buckets and n places.
 ///
-/// It writes nothing else. There must be a hash for each place of the table, and at least one bucket. If it returns [`OK`], no place is in two
-/// chains, and every other call does with each chain what its own comment says.
+/// The call writes nothing else. There must be a hash for each place of the table, and at least one bucket. If the call returns [`OK`], no place is
+/// in two chains, and every other call does with each chain what the comment of the other call says.
 #[inline]
 pub fn check_hash(
     table: &mut [RawOne],

@@ -1,4 +1,4 @@
-//! Runs of places with consecutive numbers, which one call links.
+//! A run is a list of places with consecutive numbers, which one call links.
 //!
 //! ```text
 //! let status = fill(&mut links, &mut list, gap, first, count);
@@ -24,11 +24,11 @@ use crate::status::{BROKEN, OK};
 use crate::table::RawTable;
 use crate::words::RawOne;
 use crate::xor_list;
-use ic_chain::{Chain, ForwardLinks};
+use ic_chain::{ForwardLinks, LinkList};
 use ic_link_ops::Words;
 use ic_unsafe_ref::Place;
 
-// Returns the first fault of `count` places from this number on: [`OK`] if each belongs to the table and is not linked.
+// Returns the first fault of the `count` places from the number `first` on, or [`OK`] if each of them belongs to the table and is not linked.
 fn run_fault<W: Words>(links: &RawTable<'_, W>, first: u32, count: u32) -> u32
     ensures fault { result ≡ first_fault (run_faults (place_fault W.is_linked (nameable_table W.width W.unlinked links.now)) first count) }
     ensures status { IsStatus result }
@@ -48,10 +48,10 @@ fn run_fault<W: Words>(links: &RawTable<'_, W>, first: u32, count: u32) -> u32
 
 // Links each place of a run of unlinked places after the previous one, between two neighbors of a list.
 //
-// The caller passes in `filled` the law of its kind of lists, by which a place between two others is linked.
+// The clause `filled` has a premise, which the caller proves for its kind of lists: a place between two other places is linked.
 fn link_run<'a, W: Words, K: ForwardLinks<RawTable<'a, W>>>(
     links: &mut RawTable<'a, W>,
-    list: &mut Chain<K, ()>,
+    list: &mut LinkList<K, ()>,
     gap: Gap,
     first: u32,
     count: u32,
@@ -81,10 +81,11 @@ fn link_run<'a, W: Words, K: ForwardLinks<RawTable<'a, W>>>(
     }
 }
 
-/// Inserts a run of places into the gap, if there is one and no place of the run is linked. Otherwise it returns the status of the refusal. O(count).
+/// Inserts a run of places into the gap, if there is a gap and each place of the run belongs to the table and is not linked. Otherwise the function
+/// returns the status of the refusal. O(count).
 pub(crate) fn fill<'a, W: Words, K: ForwardLinks<RawTable<'a, W>>>(
     links: &mut RawTable<'a, W>,
-    list: &mut Chain<K, ()>,
+    list: &mut LinkList<K, ()>,
     gap: Option<Gap>,
     first: u32,
     count: u32,
@@ -119,7 +120,7 @@ pub(crate) fn fill<'a, W: Words, K: ForwardLinks<RawTable<'a, W>>>(
     OK
 }
 
-/// Returns the gap after the last member of an XOR list. The result is `None` if the links at the end do not lead to each other.
+/// Returns the gap after the last member of an XOR list. The result is `None` if the links on the two sides of this gap do not lead to each other.
 pub(crate) fn gap_after_last_of_xor(
     links: &RawTable<'_, RawOne>,
     list: &xor_list::List,

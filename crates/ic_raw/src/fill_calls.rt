@@ -1,4 +1,4 @@
-//! The calls that link a run of consecutive places at once.
+//! Each call of this module links a run of places with consecutive numbers at once.
 //!
 //! ```text
 //! fill_list(table, &mut vacant, 0, 64) // OK: 0, 1, .., 63
@@ -10,7 +10,7 @@ ghost use Rattle.ic_raw.specs.StackCalls as stacks;
 ghost use Rattle.ic_raw.specs.XorCalls as xor_lists;
 
 use crate::fill::{fill, gap_after_last_of_xor};
-use crate::gap::Side;
+use crate::gap::GapSide;
 use crate::list::gap_at;
 use crate::list_calls::{list_of, write_back};
 use crate::stack::gap_after;
@@ -20,9 +20,9 @@ use crate::table::RawTable;
 use crate::words::{RawEnds, RawFront, RawOne, RawTwo};
 use crate::xor_calls;
 
-/// Inserts the `count` places `first`, `first + 1` and so on at the back, in this order. O(count).
+/// Inserts the `count` places `first`, `first + 1` and so on at the back of the list, in the order of their numbers. O(count).
 ///
-/// Each of them must belong to the table and must not be linked. If the last member does not belong to the table, it returns
+/// Each of these places must belong to the table and must not be linked. If the last member does not belong to the table, the call returns
 /// [`BROKEN`](crate::BROKEN). If `count` is 0, nothing changes.
 #[inline]
 pub fn fill_list(table: &mut [RawTwo], list: &mut RawEnds, first: u32, count: u32) -> u32
@@ -33,7 +33,7 @@ pub fn fill_list(table: &mut [RawTwo], list: &mut RawEnds, first: u32, count: u3
     }
     let mut links = RawTable::new(table);
     let mut edited = list_of(&*list);
-    let gap = gap_at(&links, &edited, Side::Before, None);
+    let gap = gap_at(&links, &edited, GapSide::Before, None);
     let status = fill(&mut links, &mut edited, gap, first, count);
     if status != OK {
         return status;
@@ -42,10 +42,10 @@ pub fn fill_list(table: &mut [RawTwo], list: &mut RawEnds, first: u32, count: u3
     OK
 }
 
-/// Inserts the `count` places `first`, `first + 1` and so on at the front, in this order. O(count).
+/// Inserts the `count` places `first`, `first + 1` and so on at the front of the list, in the order of their numbers. O(count).
 ///
-/// Each of them must belong to the table and must not be linked. If the first member is not linked, it returns [`BROKEN`](crate::BROKEN). If `count`
-/// is 0, nothing changes.
+/// Each of these places must belong to the table and must not be linked. If the first member of the list is not linked, the call returns
+/// [`BROKEN`](crate::BROKEN). If `count` is 0, nothing changes.
 #[inline]
 pub fn fill_stack(table: &mut [RawOne], list: &mut RawFront, first: u32, count: u32) -> u32
     ensures { stacks.FillCall table.old table.new list.old list.new result first count }
@@ -64,9 +64,9 @@ pub fn fill_stack(table: &mut [RawOne], list: &mut RawFront, first: u32, count: 
     OK
 }
 
-/// Inserts the `count` places `first`, `first + 1` and so on at the back, in this order. O(count).
+/// Inserts the `count` places `first`, `first + 1` and so on at the back of the list, in the order of their numbers. O(count).
 ///
-/// Each of them must belong to the table and must not be linked. If the last member does not belong to the table, it returns
+/// Each of these places must belong to the table and must not be linked. If the last member does not belong to the table, the call returns
 /// [`BROKEN`](crate::BROKEN). If `count` is 0, nothing changes.
 #[inline]
 pub fn fill_xor_list(table: &mut [RawOne], list: &mut RawEnds, first: u32, count: u32) -> u32

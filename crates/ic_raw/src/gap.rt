@@ -1,22 +1,22 @@
-//! The gaps at which calls edit.
+//! A gap is the position between two neighboring members, at which a call edits a list.
 //!
 //! ```text
-//! Side::After  // after a place, before all at none
+//! GapSide::After  // after a place, before all at none
 //! ```
 
 ghost use Rattle.std.specs.Prelude.{◌≡◌, ◌≢◌, ◌↔◌, Some, true, false};
 ghost use Rattle.ic_unsafe_ref.specs.declared.place.Place.{Place};
 ghost use Rattle.ic_raw.specs.Gaps.{IsApart};
 
-use ic_chain::{Chain, ListKind};
+use ic_chain::{LinkList, ListKind};
 use ic_unsafe_ref::Place;
 
 /// The side of a place on which a call edits.
 #[derive(Clone, Copy)]
-pub enum Side {
-    /// The gap after the place, or the gap before all members if the place is none.
+pub enum GapSide {
+    /// The edit is made in the gap after the place, or in the gap before all members if there is no place.
     After,
-    /// The gap before the place, or the gap after all members if the place is none.
+    /// The edit is made in the gap before the place, or in the gap after all members if there is no place.
     Before,
 }
 
@@ -40,9 +40,9 @@ impl Gap {
     }
 }
 
-/// Returns whether both lists begin with the same member. They do if both are the same list.
+/// Returns whether both lists begin with the same member. If both arguments are the same list and it has a member, the result is `true`.
 #[inline]
-pub fn begin_alike<K: ListKind, T>(list: &Chain<K, T>, given: &Chain<K, T>) -> bool
+pub fn begin_alike<K: ListKind, T>(list: &LinkList<K, T>, given: &LinkList<K, T>) -> bool
     ensures apart { result ≡ false → (p : Place) → given.now.head ≡ Some p → list.now.head ≢ Some p }
     ensures alike { result ≡ true → (p : Place) × (given.now.head ≡ Some p) × (list.now.head ≡ Some p) }
 {

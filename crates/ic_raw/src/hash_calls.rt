@@ -1,4 +1,4 @@
-//! The calls of hash tables. Each bucket is a singly linked list of the members whose hash leads to it.
+//! This module has the calls of hash tables. Each bucket is a singly linked list of the members whose hash leads to it.
 //!
 //! ```text
 //! insert(table, buckets, hash_of(30), 7)                  // OK
@@ -24,7 +24,7 @@ use crate::words::{RawFront, RawOne};
 use ic_link_ops::singly_linked_list::SinglyLinkedListOps;
 use ic_unsafe_ref::Place;
 
-// Returns the bucket to which a hash leads, or `None` if there are no buckets.
+// Returns the number of the bucket to which a hash leads, or `None` if there are no buckets.
 #[inline]
 fn slot(buckets: &[RawFront], hash: u64) -> Option<usize>
     ensures slot { (i : ℕ) → result ≡ Some i → (i ≡ slot_of buckets.now hash) × (i < length buckets.now) }
@@ -36,10 +36,10 @@ fn slot(buckets: &[RawFront], hash: u64) -> Option<usize>
     Some((hash % buckets.len() as u64) as usize)
 }
 
-/// Inserts a place at the front of its chain, which is the list in bucket `hash % buckets`. O(1).
+/// Inserts a place at the front of its chain, which is the list in the bucket with the number `hash % buckets`. O(1).
 ///
 /// The place must belong to the table and must not be linked, and there must be at least one bucket. If the first member of the chain is not linked,
-/// it returns [`BROKEN`](crate::BROKEN).
+/// the call returns [`BROKEN`](crate::BROKEN).
 #[inline]
 pub fn insert(table: &mut [RawOne], buckets: &mut [RawFront], hash: u64, place: u32) -> u32
     ensures { InsertCall table.old table.new buckets.old buckets.new result hash (place_of place) }
@@ -50,7 +50,7 @@ pub fn insert(table: &mut [RawOne], buckets: &mut [RawFront], hash: u64, place: 
     push_front(table, &mut buckets[at], place)
 }
 
-// Removes a member from a list, at whichever position it is.
+// Removes a member from any position of a list.
 #[inline]
 fn remove_from(table: &mut [RawOne], list: &mut RawFront, member: Place) -> u32
     ensures removed { (front back : List Place) → Removed table.old table.new list.old list.new result member front back }
@@ -74,10 +74,10 @@ fn remove_from(table: &mut [RawOne], list: &mut RawFront, member: Place) -> u32
     OK
 }
 
-/// Removes a place from its chain, at whichever position it is there, or returns [`NULL`](crate::NULL) if the argument is [`NONE`](crate::NONE). It
-/// reads one entry of the table for each member up to that one.
+/// Removes a place from any position of its chain, or returns [`NULL`](crate::NULL) if the argument is [`NONE`](crate::NONE). The call reads one
+/// entry of the table for each member of the chain up to the removed one.
 ///
-/// If the chain has no such member, it returns [`BROKEN`](crate::BROKEN).
+/// If the place is linked but is not a member of the chain, the call returns [`BROKEN`](crate::BROKEN).
 #[inline]
 pub fn remove(table: &mut [RawOne], buckets: &mut [RawFront], hash: u64, place: u32) -> u32
     ensures { RemoveCall table.old table.new buckets.old buckets.new result hash (place_of place) }
@@ -91,11 +91,11 @@ pub fn remove(table: &mut [RawOne], buckets: &mut [RawFront], hash: u64, place: 
     remove_from(table, &mut buckets[at], member)
 }
 
-/// Stores the number of the first member of the chain with this key in `found`, or returns [`NULL`](crate::NULL) if there is none. It writes nothing
-/// else. It reads one entry of the table for each member up to that one.
+/// Stores in `found` the number of the first member of the chain with this key, or returns [`NULL`](crate::NULL) if there is none. The call writes
+/// nothing else. It reads one entry of the table for each member of the chain up to the found one.
 ///
-/// There must be a key for each place of the table, and at least one bucket. If the links of the chain lead to no end or out of the table, it returns
-/// [`BROKEN`](crate::BROKEN).
+/// There must be a key for each place of the table, and at least one bucket. If the links of the chain lead to no end or out of the table, the call
+/// returns [`BROKEN`](crate::BROKEN).
 #[inline]
 pub fn find(
     table: &mut [RawOne],
@@ -117,10 +117,11 @@ pub fn find(
     find_from(&links, keys, key, place_in(buckets[at].head), found)
 }
 
-/// Stores the number of the next member after `at` that has the same key in `found`, or returns [`NULL`](crate::NULL) if there is none, or if `at` is
-/// [`NONE`](crate::NONE). It writes nothing else. It reads one entry of the table for each member up to that one.
+/// Stores in `found` the number of the next member after `at` that has the key of `at`. The call returns [`NULL`](crate::NULL) if there is no such
+/// member, or if `at` is [`NONE`](crate::NONE). The call writes nothing else. It reads one entry of the table for each member from `at` to the found
+/// one.
 ///
-/// There must be a key for each place of the table. If the links lead to no end or out of the table, it returns [`BROKEN`](crate::BROKEN).
+/// There must be a key for each place of the table. If the links lead to no end or out of the table, the call returns [`BROKEN`](crate::BROKEN).
 #[inline]
 pub fn next_equal(table: &mut [RawOne], keys: &[u64], at: u32, found: &mut u32) -> u32
     ensures { NextEqualCall keys.now table.old table.new result found.old found.new (place_of at) }

@@ -1,16 +1,17 @@
-//! Lists, rings, hash tables and red-black trees over words of a caller's own, at places that are numbers.
+//! Lists, rings, hash tables and red-black trees whose links are words that the caller keeps. A place is a number, and the words of the place are at
+//! this index.
 //!
 //! ```text
 //! let mut last = NONE;
-//! list_calls::insert_at(table, list, Side::After, NONE, 7) // OK: 7 is the first member
-//! list_calls::pop(table, list, Side::Before, &mut last)    // OK, and last is 7
+//! list_calls::insert_at(table, list, GapSide::After, NONE, 7) // OK: 7 is the first member
+//! list_calls::pop(table, list, GapSide::Before, &mut last)    // OK, and last is 7
 //! ```
 //!
 //! The modules whose names end in `_calls` contain the calls for C, and `ic_ffi` gives each of them its C name. No call requires anything of its
 //! arguments. Each call tests every link that it follows or changes, returns a status, and changes nothing if the status is not [`OK`]. The status is
-//! that of the first fault: it tests the members that the caller names, in their order, then the keys, then the place to insert, and returns
-//! [`BROKEN`] if all these are right but the links do not fit together. [`NULL`] means that the caller named no place where one is needed, or that a
-//! search found none.
+//! that of the first fault. A call tests the members that the caller names, in their order, then the keys, and then the place to insert. The function
+//! returns [`BROKEN`] if all these are right but the links do not fit together. [`NULL`] means that the caller named no place where one is needed, or
+//! that a search found no member.
 #![tactic(auto)]
 
 mod chain;
@@ -45,7 +46,7 @@ mod words;
 pub mod xor_calls;
 mod xor_list;
 
-pub use gap::{Gap, Side};
+pub use gap::{Gap, GapSide};
 pub use marked_tree::MarkedTree;
 pub use number::{number_of, place_in, place_of};
 pub use search::Target;

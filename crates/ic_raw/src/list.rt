@@ -1,7 +1,7 @@
-//! The doubly linked list: what its calls test, and its edits over a view of the table.
+//! This module has what the calls of doubly linked lists test, and their edits over a view of the table.
 //!
 //! ```text
-//! let made = insert(&mut links, &mut list, Side::After, at, place);
+//! let made = insert(&mut links, &mut list, GapSide::After, at, place);
 //! ```
 
 ghost use Rattle.std.specs.Prelude.{◌≡◌, ◌≢◌, ◌++◌, ◌∷◌, [], List, Option, Some, None, true, false};
@@ -9,7 +9,7 @@ ghost use Rattle.ic_link_ops.specs.Prelude.{Place, Cut, join, first, last, at_ba
 ghost use Rattle.ic_link_ops.specs.Chains.{Ends};
 ghost use Rattle.ic_link_ops.specs.Edits.{Inserts, Removes, Replaces, Splices};
 ghost use Rattle.ic_raw.specs.declared.gap.Gap.{Gap};
-ghost use Rattle.ic_raw.specs.declared.gap.Side.TheVariants.{After, Before};
+ghost use Rattle.ic_raw.specs.declared.gap.GapSide.TheVariants.{After, Before};
 ghost use Rattle.ic_raw.specs.Gaps.{AllPutIn, IsBeside, IsCutBeside, PutIn, IsNoneOrLinked, StandBeside, TakenOut, before, gap_of, outermost};
 ghost use Rattle.ic_raw.specs.Tables.{IsFree};
 ghost use Rattle.ic_raw.specs.Touches.{Touches, sides};
@@ -17,7 +17,7 @@ ghost use Rattle.ic_link_ops.specs.LinkedList.{neighbors_at};
 ghost use Rattle.ic_raw.specs.Doubly.{Represents, SplitsBeside, TellsGap, around, gap_from, IsEnd, end_on, next_from, prev_from};
 ghost use Rattle.ic_raw.specs.LinkWords.{lent_table, neighbors};
 
-use crate::gap::{Gap, Side, begin_alike};
+use crate::gap::{Gap, GapSide, begin_alike};
 use crate::table::RawTable;
 use crate::words::ListWords;
 use ic_link_ops::LinkOps;
@@ -26,10 +26,10 @@ use ic_linked_list::LinkedList;
 use ic_unsafe_ref::Place;
 use std::mem;
 
-/// A list that belongs to the caller.
+/// A doubly linked list that belongs to the caller.
 pub type List = LinkedList<()>;
 
-// Returns the place after a place, or the first place of the list for `None`.
+// Returns the place after `place`, or the first place of the list if `place` is `None`.
 #[inline]
 fn next_of<W: ListWords>(
     links: &RawTable<'_, W>,
@@ -45,7 +45,7 @@ fn next_of<W: ListWords>(
     }
 }
 
-// Returns the place before a place, or the last place of the list for `None`.
+// Returns the place before `place`, or the last place of the list if `place` is `None`.
 #[inline]
 fn prev_of<W: ListWords>(
     links: &RawTable<'_, W>,
@@ -61,7 +61,7 @@ fn prev_of<W: ListWords>(
     }
 }
 
-// Returns whether `place` is linked or `None`, and `next` is the place after it.
+// Returns whether `place` is linked or `None`, and `next` is the place after it. If `place` is `None`, `next` has to be the first place of the list.
 #[inline]
 pub(crate) fn leads<W: ListWords>(
     links: &RawTable<'_, W>,
@@ -85,7 +85,7 @@ pub(crate) fn leads<W: ListWords>(
     }
 }
 
-// Returns whether `place` is linked or `None`, and `prev` is the place before it.
+// Returns whether `place` is linked or `None`, and `prev` is the place before it. If `place` is `None`, `prev` has to be the last place of the list.
 #[inline]
 pub(crate) fn follows<W: ListWords>(
     links: &RawTable<'_, W>,
@@ -104,13 +104,13 @@ pub(crate) fn follows<W: ListWords>(
     Place::to_word(prev_of(links, list, place)) == Place::to_word(prev)
 }
 
-/// Returns the gap beside a place, or the outermost gap of the list for `None`. The result is `None` if the links on its two sides do not lead to
-/// each other.
+/// Returns the gap on this side of the place `at`, or the outermost gap of the list if `at` is `None`. The result is `None` if the links on the two
+/// sides of the gap do not lead to each other.
 #[inline]
 pub fn gap_at<W: ListWords>(
     links: &RawTable<'_, W>,
     list: &List,
-    side: Side,
+    side: GapSide,
     at: Option<Place>,
 ) -> Option<Gap>
     ensures at { (gap : Gap) → result ≡ Some gap → IsNoneOrLinked W.is_linked (lent_table W.PrevPlace links.now) at }
@@ -123,14 +123,14 @@ pub fn gap_at<W: ListWords>(
         return None;
     }
     match side {
-        Side::After => {
+        GapSide::After => {
             let after = next_of(links, list, at);
             if !follows(links, list, after, at) {
                 return None;
             }
             Some(Gap { before: at, after })
         }
-        Side::Before => {
+        GapSide::Before => {
             let before = prev_of(links, list, at);
             if !leads(links, list, before, at) {
                 return None;
@@ -140,8 +140,8 @@ pub fn gap_at<W: ListWords>(
     }
 }
 
-/// Returns the places on both sides of a member, or the last and the first place of the list for `None`. The result is `None` if their links do not
-/// lead back to the member.
+/// Returns the places on both sides of the member `at`, or the last and the first place of the list if `at` is `None`. The result is `None` if the
+/// links of these two places do not lead back to `at`.
 #[inline]
 pub fn beside<W: ListWords>(links: &RawTable<'_, W>, list: &List, at: Option<Place>) -> Option<Gap>
     ensures at { (gap : Gap) → result ≡ Some gap → IsNoneOrLinked W.is_linked (lent_table W.PrevPlace links.now) at }
@@ -194,7 +194,7 @@ pub(crate) fn is_after<W: ListWords>(
     links.covers(place) && links.at(place).is_after(prev)
 }
 
-// Returns the places on both sides of a member that has one on each, if the words of all three have exactly the bits that a call writes. Otherwise it
+// Returns the two neighbors of a member, if it has both and their words name it with exactly the bits that a call writes. Otherwise the function
 // returns `None`.
 #[inline]
 pub(crate) fn between<W: ListWords>(links: &RawTable<'_, W>, member: Place) -> Option<Gap>
@@ -226,12 +226,13 @@ pub(crate) fn between<W: ListWords>(links: &RawTable<'_, W>, member: Place) -> O
     })
 }
 
-// Returns the gap at an end of the list, if the words of the member there have exactly the bits that a call writes. Otherwise it returns `None`.
+// Returns the gap at an end of the list, if the words of the member there have exactly the bits that a call writes. Otherwise the function returns
+// `None`.
 #[inline]
 pub(crate) fn gap_at_end<W: ListWords>(
     links: &RawTable<'_, W>,
     list: &List,
-    side: Side,
+    side: GapSide,
 ) -> Option<Gap>
     ensures links_back { (gap : Gap) → result ≡ Some gap → TellsGap W.PrevPlace side (lent_table W.PrevPlace links.now) list.now None }
     ensures stands { (gap : Gap) → result ≡ Some gap → StandBeside W.is_linked (lent_table W.PrevPlace links.now) gap }
@@ -240,7 +241,7 @@ pub(crate) fn gap_at_end<W: ListWords>(
     ensures shown { (gap : Gap) (s : List Place) → result ≡ Some gap → Represents W.PrevPlace (lent_table W.PrevPlace links.now) list.now s → gap ≡ gap_of (outermost side s) }
 {
     match side {
-        Side::After => {
+        GapSide::After => {
             let Some(first) = list.first() else {
                 return None;
             };
@@ -252,7 +253,7 @@ pub(crate) fn gap_at_end<W: ListWords>(
                 after: Some(first),
             })
         }
-        Side::Before => {
+        GapSide::Before => {
             let Some(last) = list.last() else {
                 return None;
             };
@@ -267,8 +268,8 @@ pub(crate) fn gap_at_end<W: ListWords>(
     }
 }
 
-// Inserts a place after the last member, if its words have exactly the bits that a call writes. Otherwise it changes nothing and returns that it did
-// not.
+// Inserts a place after the last member, if the words of the last member have exactly the bits that a call writes. Otherwise the function changes
+// nothing and returns `false`.
 #[inline]
 pub(crate) fn push_after_last<W: ListWords>(
     links: &mut RawTable<'_, W>,
@@ -286,7 +287,7 @@ pub(crate) fn push_after_last<W: ListWords>(
     ensures refused { result ≡ false → (links.new ≡ links.old) × (list.new ≡ list.old) }
     ensures extent { (lent_table W.PrevPlace links.new).extent ≡ (lent_table W.PrevPlace links.old).extent }
 {
-    let Some(gap) = gap_at_end(&*links, &*list, Side::Before) else {
+    let Some(gap) = gap_at_end(&*links, &*list, GapSide::Before) else {
         return false;
     };
     let Some(place) = links.acquire(place) else {
@@ -296,7 +297,8 @@ pub(crate) fn push_after_last<W: ListWords>(
     true
 }
 
-// Removes the first member, if a second one is after it and its words have exactly the bits that a call writes. Otherwise it changes nothing.
+// Removes the first member, if a second member is after it and the words of both have exactly the bits that a call writes. Otherwise the function
+// changes nothing and returns `None`.
 #[inline]
 pub(crate) fn pop_before_second<W: ListWords>(
     links: &mut RawTable<'_, W>,
@@ -333,8 +335,8 @@ pub(crate) fn pop_before_second<W: ListWords>(
     Some(first)
 }
 
-// Removes a member that has one on both sides, if their words have exactly the bits that a call writes. Otherwise it changes nothing and returns that
-// it did not.
+// Removes a member that has a neighbor on each side, if the words of both neighbors name it with exactly the bits that a call writes. Otherwise the
+// function changes nothing and returns `false`.
 #[inline]
 pub(crate) fn remove_between<W: ListWords>(
     links: &mut RawTable<'_, W>,
@@ -361,12 +363,12 @@ pub(crate) fn remove_between<W: ListWords>(
     true
 }
 
-// Inserts the place into the gap beside another one, and returns whether it did.
+// Inserts the place into the gap on this side of the place `at`, and returns whether it did.
 #[inline]
 pub(crate) fn insert<W: ListWords>(
     links: &mut RawTable<'_, W>,
     list: &mut List,
-    side: Side,
+    side: GapSide,
     at: Option<Place>,
     place: Option<Place>,
 ) -> bool
@@ -419,12 +421,12 @@ pub(crate) fn remove<W: ListWords>(
     true
 }
 
-// Returns the gap beside a member that has another member beyond the gap, if the words of both have exactly the bits that a call writes. Otherwise it
-// returns `None`.
+// Returns the gap on this side of the member `at`, if a second member is on the opposite side of the gap. The words of the second member have to name
+// `at` with exactly the bits that a call writes. Otherwise the function returns `None`.
 #[inline(always)]
 pub(crate) fn gap_inside<W: ListWords>(
     links: &RawTable<'_, W>,
-    side: Side,
+    side: GapSide,
     at: Option<Place>,
 ) -> Option<Gap>
     ensures at { (gap : Gap) → result ≡ Some gap → IsNoneOrLinked W.is_linked (lent_table W.PrevPlace links.now) at }
@@ -441,7 +443,7 @@ pub(crate) fn gap_inside<W: ListWords>(
         return None;
     }
     match side {
-        Side::After => {
+        GapSide::After => {
             let Some(after) = links.next(at) else {
                 return None;
             };
@@ -453,7 +455,7 @@ pub(crate) fn gap_inside<W: ListWords>(
                 after: Some(after),
             })
         }
-        Side::Before => {
+        GapSide::Before => {
             let Some(before) = links.prev(at) else {
                 return None;
             };
@@ -468,10 +470,10 @@ pub(crate) fn gap_inside<W: ListWords>(
     }
 }
 
-// Returns the member at the end that this side means, and the places on both sides of it. The result is `None` if the links at the end do not lead to
-// each other.
+// Returns the member at the end of the list that this side means, and the places on both sides of this member. The result is `None` if the links on
+// the two sides of one of these gaps do not lead to each other.
 #[inline]
-fn end_at<W: ListWords>(links: &RawTable<'_, W>, list: &List, side: Side) -> Option<(Place, Gap)>
+fn end_at<W: ListWords>(links: &RawTable<'_, W>, list: &List, side: GapSide) -> Option<(Place, Gap)>
     ensures shown { (front back : List Place) (p : Place) → Represents W.PrevPlace (lent_table W.PrevPlace links.now) list.now (front ++ p ∷ back)
         → IsEnd side front back → result ≡ Some (p, gap_of (record { front = front; back = back })) }
     ensures end { (p : Place) (gap : Gap) → result ≡ Some (p, gap) → end_on side list.now ≡ Some p }
@@ -482,14 +484,14 @@ fn end_at<W: ListWords>(links: &RawTable<'_, W>, list: &List, side: Side) -> Opt
     ensures sides { (p : Place) (gap : Gap) → result ≡ Some (p, gap) → gap ≡ around W.PrevPlace (lent_table W.PrevPlace links.now) list.now (Some p) }
 {
     match side {
-        Side::After => {
-            let Some(outer) = gap_at(links, list, Side::After, None) else {
+        GapSide::After => {
+            let Some(outer) = gap_at(links, list, GapSide::After, None) else {
                 return None;
             };
             let Some(first) = outer.after else {
                 return None;
             };
-            let Some(inner) = gap_at(links, list, Side::After, Some(first)) else {
+            let Some(inner) = gap_at(links, list, GapSide::After, Some(first)) else {
                 return None;
             };
             Some((
@@ -500,14 +502,14 @@ fn end_at<W: ListWords>(links: &RawTable<'_, W>, list: &List, side: Side) -> Opt
                 },
             ))
         }
-        Side::Before => {
-            let Some(outer) = gap_at(links, list, Side::Before, None) else {
+        GapSide::Before => {
+            let Some(outer) = gap_at(links, list, GapSide::Before, None) else {
                 return None;
             };
             let Some(last) = outer.before else {
                 return None;
             };
-            let Some(inner) = gap_at(links, list, Side::Before, Some(last)) else {
+            let Some(inner) = gap_at(links, list, GapSide::Before, Some(last)) else {
                 return None;
             };
             Some((
@@ -521,12 +523,12 @@ fn end_at<W: ListWords>(links: &RawTable<'_, W>, list: &List, side: Side) -> Opt
     }
 }
 
-// Removes the member at an end, and returns it.
+// Removes the member at an end of the list, and returns this member.
 #[inline]
 pub(crate) fn pop<W: ListWords>(
     links: &mut RawTable<'_, W>,
     list: &mut List,
-    side: Side,
+    side: GapSide,
 ) -> Option<Place>
     ensures popped { (front back : List Place) (p : Place) → Represents W.PrevPlace (lent_table W.PrevPlace links.old) list.old (front ++ p ∷ back)
         → IsEnd side front back → (result ≡ Some p)
@@ -550,7 +552,7 @@ pub(crate) fn pop<W: ListWords>(
     Some(member)
 }
 
-// Inserts the place where the member is, removes the member, and returns whether it did.
+// Inserts the place at the position of the member, removes the member, and returns whether it did.
 #[inline]
 pub(crate) fn replace<W: ListWords>(
     links: &mut RawTable<'_, W>,
@@ -583,12 +585,12 @@ pub(crate) fn replace<W: ListWords>(
     true
 }
 
-// Moves all members of the given list into the gap beside a place, and returns whether it did.
+// Moves all members of the list `given` into the gap on this side of the place `at`, and returns whether it did.
 #[inline]
 pub(crate) fn splice<W: ListWords>(
     links: &mut RawTable<'_, W>,
     list: &mut List,
-    side: Side,
+    side: GapSide,
     at: Option<Place>,
     given: List,
 ) -> bool
@@ -619,13 +621,14 @@ pub(crate) fn splice<W: ListWords>(
     true
 }
 
-// Moves all members of the given list to the end of the list that this side means, if both lists have members and the words of their ends have
-// exactly the bits that a call writes. Otherwise it changes nothing and returns that it did not.
+// Moves all members of the list `given` to an end of the list. The function changes nothing and returns `false` if `at` is a place, a list has no
+// members, or both begin with the same member. It also changes nothing if the words of the lists' ends do not have exactly the bits that a call
+// writes.
 #[inline(always)]
 pub(crate) fn splice_at_end<W: ListWords>(
     links: &mut RawTable<'_, W>,
     list: &mut List,
-    side: Side,
+    side: GapSide,
     at: Option<Place>,
     given: List,
 ) -> bool
@@ -649,10 +652,10 @@ pub(crate) fn splice_at_end<W: ListWords>(
     let Some(gap) = gap_at_end(&*links, &*list, side) else {
         return false;
     };
-    let Some(_) = gap_at_end(&*links, &given, Side::After) else {
+    let Some(_) = gap_at_end(&*links, &given, GapSide::After) else {
         return false;
     };
-    let Some(end) = gap_at_end(&*links, &given, Side::Before) else {
+    let Some(end) = gap_at_end(&*links, &given, GapSide::Before) else {
         return false;
     };
     if begin_alike(&*list, &given) {
@@ -662,12 +665,12 @@ pub(crate) fn splice_at_end<W: ListWords>(
     true
 }
 
-// Cuts the list at a gap, and returns the part on this side of the gap. The list keeps the other part.
+// Cuts the list at a gap, and returns the part on this side of the gap. The list keeps the part on the opposite side.
 #[inline]
 pub(crate) fn split<W: ListWords>(
     links: &mut RawTable<'_, W>,
     list: &mut List,
-    side: Side,
+    side: GapSide,
     gap: Gap,
 ) -> List
     requires gap { StandBeside W.is_linked (lent_table W.PrevPlace links.old) gap }
@@ -679,7 +682,7 @@ pub(crate) fn split<W: ListWords>(
 {
     let back = list.split_between(links, gap.before, gap.after);
     match side {
-        Side::After => back,
-        Side::Before => mem::replace(list, back),
+        GapSide::After => back,
+        GapSide::Before => mem::replace(list, back),
     }
 }

@@ -1,18 +1,18 @@
-//! The calls of doubly linked lists. A place is a number, and a list is two words.
+//! This module has the calls of doubly linked lists. A place is a number, and a list is two words.
 //!
 //! ```text
-//! insert_at(table, list, Side::After, NONE, 7) // OK: 7 is the first member
-//! pop(table, list, Side::Before, &mut last)    // OK, and last is the number of the last member
+//! insert_at(table, list, GapSide::After, NONE, 7) // OK: 7 is the first member
+//! pop(table, list, GapSide::Before, &mut last)    // OK, and last is the number of the last member
 //! ```
 
 ghost use Rattle.std.specs.Prelude.{◌≡◌, ◌≢◌, ◌↔◌, None};
-ghost use Rattle.ic_raw.specs.declared.gap.Side.TheVariants.{After, Before};
+ghost use Rattle.ic_raw.specs.declared.gap.GapSide.TheVariants.{After, Before};
 ghost use Rattle.ic_raw.specs.declared.status.TheConstants.{OK, NULL, BROKEN};
 ghost use Rattle.ic_raw.specs.Words.{place_of};
 ghost use Rattle.ic_raw.specs.Doubly.{end_on, ends_of, words_of};
 ghost use Rattle.ic_raw.specs.ListCalls.{ClearCall, InsertCall, PopCall, RemoveCall, ReplaceCall, SpliceCall, SplitCall};
 
-use crate::gap::Side;
+use crate::gap::GapSide;
 use crate::number::{number_of, place_in, place_of};
 use crate::status::{BROKEN, NONE, NULL, OK};
 use crate::table::RawTable;
@@ -38,15 +38,16 @@ pub fn write_back(words: &mut RawEnds, list: list::List)
     words.set(list.first(), list.last());
 }
 
-/// Inserts the place with that number into the gap on this side of the member `at`, or at the end that the side means if `at` is [`NONE`]. O(1).
+/// Inserts the place with the number `place` into the gap on this side of the member `at`, or at the end that the side means if `at` is [`NONE`].
+/// O(1).
 ///
-/// The place must belong to the table and must not be linked. A refused call changes no word. It returns the first fault of the two places, or else
-/// [`BROKEN`].
+/// The place must belong to the table and must not be linked. A refused call changes no word. The call returns the first fault of the two places, or
+/// else [`BROKEN`].
 #[inline]
 pub fn insert_at<W: ListWords>(
     table: &mut [W],
     list: &mut RawEnds,
-    side: Side,
+    side: GapSide,
     at: u32,
     place: u32,
 ) -> u32
@@ -61,12 +62,17 @@ pub fn insert_at<W: ListWords>(
     OK
 }
 
-/// Removes the first member, or the last one if the side is [`Side::Before`], and stores its number in `popped`. O(1).
+/// Removes the first member, or the last one if the side is [`GapSide::Before`], and stores the number of the removed member in `popped`. O(1).
 ///
-/// If there is none, it returns [`NULL`]. If the links beside the member do not lead back to it, it returns [`BROKEN`]. In both cases nothing
-/// changes.
+/// If the list has no member, the call returns [`NULL`]. If the links beside the member do not lead back to it, the call returns [`BROKEN`]. A
+/// refused call changes nothing.
 #[inline]
-pub fn pop<W: ListWords>(table: &mut [W], list: &mut RawEnds, side: Side, popped: &mut u32) -> u32
+pub fn pop<W: ListWords>(
+    table: &mut [W],
+    list: &mut RawEnds,
+    side: GapSide,
+    popped: &mut u32,
+) -> u32
     ensures { PopCall W.PrevPlace table.old table.new list.old list.new result side popped.old popped.new }
 {
     let mut links = RawTable::new(table);
@@ -82,14 +88,14 @@ pub fn pop<W: ListWords>(table: &mut [W], list: &mut RawEnds, side: Side, popped
 // Returns why no member is popped: the list is empty, or the links beside the member do not lead back to it.
 #[cold]
 #[inline(never)]
-fn refusal_to_pop(list: &RawEnds, side: Side) -> u32
+fn refusal_to_pop(list: &RawEnds, side: GapSide) -> u32
     ensures null { (result ≡ NULL) ↔ (end_on side (ends_of list.now) ≡ None) }
     ensures why { result ≢ NULL → result ≡ BROKEN }
     ensures refused { result ≢ OK }
 {
     let word = match side {
-        Side::After => list.head,
-        Side::Before => list.tail,
+        GapSide::After => list.head,
+        GapSide::Before => list.tail,
     };
     match place_in(word) {
         None => NULL,
@@ -97,7 +103,7 @@ fn refusal_to_pop(list: &RawEnds, side: Side) -> u32
     }
 }
 
-// Moves all members of the given list into the gap beside a place of any list, or returns the status of the refusal.
+// Moves all members of the list `given` into the gap beside a place of any list, or returns the status of the refusal.
 #[cold]
 #[inline(never)]
 fn splice_slow<W: ListWords>(
@@ -105,7 +111,7 @@ fn splice_slow<W: ListWords>(
     list: &mut RawEnds,
     at: u32,
     given: &mut RawEnds,
-    side: Side,
+    side: GapSide,
 ) -> u32
     ensures { SpliceCall W.PrevPlace table.old table.new list.old list.new result side (place_of at) given.old given.new }
 {
@@ -120,17 +126,18 @@ fn splice_slow<W: ListWords>(
     OK
 }
 
-/// Moves all members of `given` into the gap on this side of the member `at`, or to the end that the side means if `at` is [`NONE`], and leaves
-/// `given` empty. O(1).
+/// Moves all members of `given` into the gap on this side of the member `at`, or to the end that the side means if `at` is [`NONE`]. The list `given`
+/// is then empty. O(1).
 ///
-/// A refused call changes nothing. It returns the fault of the member, or else [`BROKEN`], for example if both lists begin with the same member.
+/// A refused call changes nothing. The call returns the fault of the member, or else [`BROKEN`], for example if both lists begin with the same
+/// member.
 #[inline(always)]
 pub fn splice_at<W: ListWords>(
     table: &mut [W],
     list: &mut RawEnds,
     at: u32,
     given: &mut RawEnds,
-    side: Side,
+    side: GapSide,
 ) -> u32
     ensures { SpliceCall W.PrevPlace table.old table.new list.old list.new result side (place_of at) given.old given.new }
 {
@@ -145,7 +152,8 @@ pub fn splice_at<W: ListWords>(
     splice_slow(links.entries, list, at, given, side)
 }
 
-// Cuts any list at the gap beside a place, and stores the part on that side of the gap in `rest`, or returns the status of the refusal.
+// Cuts any list at the gap on this side of the place `at`, or returns the status of the refusal. The part on this side of the gap becomes the list
+// `rest`.
 #[cold]
 #[inline(never)]
 fn split_slow<W: ListWords>(
@@ -153,7 +161,7 @@ fn split_slow<W: ListWords>(
     list: &mut RawEnds,
     at: u32,
     rest: &mut RawEnds,
-    side: Side,
+    side: GapSide,
 ) -> u32
     ensures { SplitCall W.PrevPlace table.old table.new list.old list.new result side (place_of at) rest.old rest.new }
 {
@@ -170,17 +178,17 @@ fn split_slow<W: ListWords>(
     links.refusal_at(at)
 }
 
-/// Cuts the list at the gap on this side of the member `at`, or at the end that the side means if `at` is [`NONE`], and moves the part on that side
-/// to `rest`. O(1).
+/// Cuts the list at the gap on this side of the member `at`, or at the end that the side means if `at` is [`NONE`]. The part on this side of the gap
+/// becomes the list `rest`. O(1).
 ///
-/// A refused call changes nothing. It returns the fault of the member, or else [`BROKEN`], for example if `rest` is not empty.
+/// A refused call changes nothing. The call returns the fault of the member, or else [`BROKEN`], for example if `rest` is not empty before.
 #[inline(always)]
 pub fn split_at<W: ListWords>(
     table: &mut [W],
     list: &mut RawEnds,
     at: u32,
     rest: &mut RawEnds,
-    side: Side,
+    side: GapSide,
 ) -> u32
     ensures { SplitCall W.PrevPlace table.old table.new list.old list.new result side (place_of at) rest.old rest.new }
 {
@@ -203,10 +211,10 @@ pub fn split_at<W: ListWords>(
 fn push_back_slow<W: ListWords>(table: &mut [W], list: &mut RawEnds, place: u32) -> u32
     ensures { InsertCall W.PrevPlace table.old table.new list.old list.new result Before None (place_of place) }
 {
-    insert_at(table, list, Side::Before, NONE, place)
+    insert_at(table, list, GapSide::Before, NONE, place)
 }
 
-/// Inserts a place at the back. O(1).
+/// Inserts a place at the back of the list. O(1).
 ///
 /// The place must belong to the table and must not be linked.
 #[inline]
@@ -228,7 +236,7 @@ pub fn push_back<W: ListWords>(table: &mut [W], list: &mut RawEnds, place: u32) 
 fn pop_front_slow<W: ListWords>(table: &mut [W], list: &mut RawEnds, popped: &mut u32) -> u32
     ensures { PopCall W.PrevPlace table.old table.new list.old list.new result After popped.old popped.new }
 {
-    pop(table, list, Side::After, popped)
+    pop(table, list, GapSide::After, popped)
 }
 
 /// Removes the first member and stores its number in `popped`, or returns [`NULL`] if there is none. O(1).
@@ -279,7 +287,7 @@ pub fn remove<W: ListWords>(table: &mut [W], list: &mut RawEnds, at: u32) -> u32
     remove_slow(links.entries, list, at)
 }
 
-/// Inserts a place where the member `at` is, and removes `at`, or returns [`NULL`] if `at` is [`NONE`]. O(1).
+/// Inserts a place at the position of the member `at`, and removes `at`, or returns [`NULL`] if `at` is [`NONE`]. O(1).
 ///
 /// The place must belong to the table and must not be linked.
 #[inline]
@@ -300,7 +308,7 @@ pub fn replace<W: ListWords>(table: &mut [W], list: &mut RawEnds, at: u32, place
 
 /// Removes and unlinks all members. O(n).
 ///
-/// It returns [`BROKEN`] if the links do not lead from the first member to the last one, and back.
+/// The call returns [`BROKEN`] if the links do not lead from the first member to the last one and back.
 #[inline]
 pub fn clear<W: ListWords>(table: &mut [W], list: &mut RawEnds) -> u32
     ensures { ClearCall W.PrevPlace table.old table.new list.old list.new result }

@@ -1,5 +1,5 @@
-//! A view of a tree's words as they are, for checks and for edits of a tree that a check has found valid. A place is linked if its words have the
-//! mark of a linked place, and each number names the place with that number.
+//! A view of a tree's words as they are, which serves checks, and edits of a tree that a check has found valid. A place is linked if its words have
+//! the mark of a linked place, and each number names the place with that number.
 //!
 //! ```text
 //! let links = MarkedTree::new(words);
@@ -17,8 +17,8 @@ use ic_link_ops::rbtree::RBTreeOps;
 use ic_link_ops::{Color, LinkOps, Words};
 use ic_unsafe_ref::Place;
 
-/// A view of a tree's words as they are. [`RawTable`](crate::RawTable), in contrast, treats every place of the table as linked, since it serves edits
-/// and searches of words that may represent no tree.
+/// A view of a tree's words as they are. [`RawTable`](crate::RawTable), in contrast, treats every place of the table as linked, because it serves
+/// edits and searches of words that may represent no tree.
 ///
 /// Checks use this view, and so do edits of a tree that a check has found valid.
 pub struct MarkedTree<'a> {

@@ -1,14 +1,14 @@
-//! The calls that move a member of a doubly linked list. The member stays linked.
+//! This module has the calls that move a member of a doubly linked list. The member stays linked.
 //!
 //! ```text
-//! move_to_end(table, list, Side::After, 7) // OK: 7 is the first member, whichever it was
-//! move_at(table, list, Side::After, 9, 7)  // OK: and now it is after 9
+//! move_to_end(table, list, GapSide::After, 7) // OK: 7 is the first member, whichever it was
+//! move_at(table, list, GapSide::After, 9, 7)  // OK: and now it is after 9
 //! ```
 
 ghost use Rattle.ic_raw.specs.Words.{place_of};
 ghost use Rattle.ic_raw.specs.ListCalls.{MoveCall, MoveToEndCall};
 
-use crate::gap::Side;
+use crate::gap::GapSide;
 use crate::list::{between, gap_at_end};
 use crate::list_calls::{list_of, write_back};
 use crate::moving;
@@ -17,13 +17,14 @@ use crate::status::{NONE, NULL, OK};
 use crate::table::RawTable;
 use crate::words::{ListWords, RawEnds};
 
-// Moves any member into the gap beside another one, or returns the status of the refusal. If the gap is beside the member itself, nothing changes.
+// Moves any member into the gap on this side of the place `at`, or returns the status of the refusal. If the member is already beside this gap,
+// nothing changes.
 #[cold]
 #[inline(never)]
 fn move_slow<W: ListWords>(
     table: &mut [W],
     list: &mut RawEnds,
-    side: Side,
+    side: GapSide,
     at: u32,
     place: u32,
 ) -> u32
@@ -48,13 +49,13 @@ fn move_slow<W: ListWords>(
 /// Moves the member `place` into the gap on this side of the member `at`, or to the end that the side means if `at` is [`NONE`]. The member stays
 /// linked during the call. O(1).
 ///
-/// If the member is already there, nothing changes. It returns [`NULL`] if `place` is [`NONE`], else the first fault of the two places, or else
-/// [`BROKEN`](crate::BROKEN). A refused call changes no word.
+/// If the member is already in this position, nothing changes. The call returns [`NULL`] if `place` is [`NONE`], else the first fault of the two
+/// places, or else [`BROKEN`](crate::BROKEN). A refused call changes no word.
 #[inline(always)]
 pub fn move_at<W: ListWords>(
     table: &mut [W],
     list: &mut RawEnds,
-    side: Side,
+    side: GapSide,
     at: u32,
     place: u32,
 ) -> u32
@@ -82,7 +83,7 @@ pub fn move_at<W: ListWords>(
 fn move_to_end_slow<W: ListWords>(
     table: &mut [W],
     list: &mut RawEnds,
-    side: Side,
+    side: GapSide,
     place: u32,
 ) -> u32
     ensures { MoveToEndCall W.PrevPlace table.old table.new list.old list.new result side (place_of place) }
@@ -102,12 +103,17 @@ fn move_to_end_slow<W: ListWords>(
     move_slow(links.entries, list, side, NONE, place)
 }
 
-/// Moves a member to the front, or to the back if the side is [`Side::Before`]. The member stays linked during the call. O(1).
+/// Moves a member to the front of its list, or to the back if the side is [`GapSide::Before`]. The member stays linked during the call. O(1).
 ///
-/// If the member is already there, nothing changes. It returns [`NULL`] at [`NONE`], and else the fault of the member, or [`BROKEN`](crate::BROKEN).
-/// A refused call changes no word.
+/// If the member is already at this end, nothing changes. The call returns [`NULL`] if `place` is [`NONE`], else the fault of the member, or else
+/// [`BROKEN`](crate::BROKEN). A refused call changes no word.
 #[inline(always)]
-pub fn move_to_end<W: ListWords>(table: &mut [W], list: &mut RawEnds, side: Side, place: u32) -> u32
+pub fn move_to_end<W: ListWords>(
+    table: &mut [W],
+    list: &mut RawEnds,
+    side: GapSide,
+    place: u32,
+) -> u32
     ensures { MoveToEndCall W.PrevPlace table.old table.new list.old list.new result side (place_of place) }
 {
     let Some(member) = place_of(place) else {

@@ -1,7 +1,8 @@
-//! Moves of a member of a doubly linked list. Before a move, a function finds the places beside the member and the gap to which it goes.
+//! The functions of this module move a member of a doubly linked list. Before a move, a function finds the places beside the member and the gap to
+//! which the member goes.
 //!
 //! ```text
-//! let Some((from, to)) = gaps_to_move(&links, &list, Side::After, at, member) else { .. };
+//! let Some((from, to)) = gaps_to_move(&links, &list, GapSide::After, at, member) else { .. };
 //! relocate(&mut links, &mut list, from, member, to);
 //! ```
 
@@ -10,26 +11,26 @@ ghost use Rattle.ic_link_ops.specs.Prelude.{Place, Cut, join, KeepsLinked};
 ghost use Rattle.ic_link_ops.specs.Chains.{Ends};
 ghost use Rattle.ic_link_ops.specs.Edits.{Inserts};
 ghost use Rattle.ic_raw.specs.declared.gap.Gap.{Gap};
-ghost use Rattle.ic_raw.specs.declared.gap.Side.TheVariants.{After, Before};
+ghost use Rattle.ic_raw.specs.declared.gap.GapSide.TheVariants.{After, Before};
 ghost use Rattle.ic_raw.specs.Gaps.{IsBeside, IsMoved, IsNoneOrLinked, StandBeside, gap_of, toward};
 ghost use Rattle.ic_raw.specs.Touches.{Touches, sides};
 ghost use Rattle.ic_raw.specs.Doubly.{Represents, TellsGap, around, end_on, gap_from};
 ghost use Rattle.ic_raw.specs.LinkWords.{lent_table};
 
-use crate::gap::{Gap, Side};
+use crate::gap::{Gap, GapSide};
 use crate::list::{List, beside, between, follows, gap_at, gap_inside, is_after, is_before, leads};
 use crate::table::RawTable;
 use crate::words::ListWords;
 use ic_link_ops::linked_list::LinkedListOps;
 use ic_unsafe_ref::Place;
 
-// Returns whether the member is at the end of the list that this side means, has a neighbor there, and the words of both have exactly the bits that a
-// call writes.
+// Returns whether the member is at the end of the list that this side means, and has a neighbor in the list. The tested words of both have to have
+// exactly the bits that a call writes.
 #[inline]
 pub(crate) fn is_at_end<W: ListWords>(
     links: &RawTable<'_, W>,
     list: &List,
-    side: Side,
+    side: GapSide,
     member: Place,
 ) -> bool
     ensures end { result ≡ true → end_on side list.now ≡ Some member }
@@ -40,7 +41,7 @@ pub(crate) fn is_at_end<W: ListWords>(
 {
     let at = Some(member);
     match side {
-        Side::After => {
+        GapSide::After => {
             if !leads(links, list, None, at) || !is_after(links, member, None) {
                 return false;
             }
@@ -49,7 +50,7 @@ pub(crate) fn is_at_end<W: ListWords>(
             };
             is_after(links, second, at)
         }
-        Side::Before => {
+        GapSide::Before => {
             if !follows(links, list, None, at) || !is_before(links, member, None) {
                 return false;
             }
@@ -61,13 +62,13 @@ pub(crate) fn is_at_end<W: ListWords>(
     }
 }
 
-// Returns the places on both sides of the member at the end opposite to this side, if the list has another member and the words of both have exactly
-// the bits that a call writes. Otherwise it returns `None`.
+// Returns the places on both sides of the member, if it is at the end opposite to this side and the list has another member. The tested words of both
+// have to have exactly the bits that a call writes. Otherwise the function returns `None`.
 #[inline]
 pub(crate) fn beside_other_end<W: ListWords>(
     links: &RawTable<'_, W>,
     list: &List,
-    side: Side,
+    side: GapSide,
     member: Place,
 ) -> Option<Gap>
     ensures member { (gap : Gap) → result ≡ Some gap → IsNoneOrLinked W.is_linked (lent_table W.PrevPlace links.now) (Some member) }
@@ -80,8 +81,8 @@ pub(crate) fn beside_other_end<W: ListWords>(
         → gap ≡ gap_of (record { front = front; back = back }) }
 {
     match side {
-        Side::After => {
-            if !is_at_end(links, list, Side::Before, member) {
+        GapSide::After => {
+            if !is_at_end(links, list, GapSide::Before, member) {
                 return None;
             }
             let Some(before) = links.prev(member) else {
@@ -92,8 +93,8 @@ pub(crate) fn beside_other_end<W: ListWords>(
                 after: links.next(member),
             })
         }
-        Side::Before => {
-            if !is_at_end(links, list, Side::After, member) {
+        GapSide::Before => {
+            if !is_at_end(links, list, GapSide::After, member) {
                 return None;
             }
             let Some(after) = links.next(member) else {
@@ -107,12 +108,12 @@ pub(crate) fn beside_other_end<W: ListWords>(
     }
 }
 
-// Returns what `gaps_to_move` returns, for a member that has a neighbor on each side and goes between two others, if all their words have exactly the
-// bits that a call writes. Otherwise it returns `None`.
+// Returns what `gaps_to_move` returns, if the member has a neighbor on each side and the gap beside `at` is between two members. The tested words
+// have to have exactly the bits that a call writes. Otherwise the function returns `None`.
 #[inline(always)]
 pub(crate) fn gaps_inside<W: ListWords>(
     links: &RawTable<'_, W>,
-    side: Side,
+    side: GapSide,
     at: Option<Place>,
     member: Place,
 ) -> Option<(Gap, Gap)>
@@ -138,13 +139,13 @@ pub(crate) fn gaps_inside<W: ListWords>(
     Some((from, to))
 }
 
-// Returns the places on both sides of a member, and the gap beside another member to which it is to go. The result is `None` if the links beside the
-// member do not lead back to it, or if those on the two sides of the gap do not lead to each other.
+// Returns the places on both sides of a member, and the gap to which the member is to go, which is beside the place `at`. The result is `None` if the
+// links beside the member do not lead back to it. It is also `None` if the links on the two sides of the gap do not lead to each other.
 #[inline]
 pub(crate) fn gaps_to_move<W: ListWords>(
     links: &RawTable<'_, W>,
     list: &List,
-    side: Side,
+    side: GapSide,
     at: Option<Place>,
     member: Place,
 ) -> Option<(Gap, Gap)>
@@ -170,7 +171,7 @@ pub(crate) fn gaps_to_move<W: ListWords>(
     Some((from, to))
 }
 
-// Moves a member from between these two places into a gap that is not beside it. The member stays linked.
+// Moves a member from between the two places of `from` into the gap `to`, which is not beside the member. The member stays linked.
 #[inline]
 pub(crate) fn relocate<W: ListWords>(
     links: &mut RawTable<'_, W>,

@@ -1,4 +1,4 @@
-//! The words of a tree as an edit of the tree reads them.
+//! An edit of a tree reads the words of the tree in the way that this module defines.
 //!
 //! ```text
 //! tree.unlink(&mut links, place); // whatever the words say, it writes to no place but those of the table
@@ -16,7 +16,7 @@ use ic_link_ops::{Color, Side};
 use ic_rbtree::NodeStore;
 use ic_unsafe_ref::Place;
 
-/// What an edit of a tree reads at a place: the words there, the place itself, and how many places the table has.
+/// An edit of a tree reads at a place the words there, the place itself, and how many places the table has.
 ///
 /// Only contracts use this type. No code makes a value of it.
 #[derive(Clone, Copy)]
@@ -27,8 +27,8 @@ pub struct Seen {
 }
 
 impl RawTable<'_, RawThree> {
-    // Returns the place that a word names, or `None` if the table has no such place. It compares the number in the word, which takes no shift. A
-    // number beyond the table counts as 0, so that one test finds both cases.
+    // Returns the place that a word names, or `None` if the table has no such place. The function compares the number in the word, so that it needs
+    // no shift. A number beyond the table is treated as 0, so that one test finds both cases.
     #[inline]
     pub(crate) fn named(&self, word: u64) -> Option<Place>
         ensures { result ≡ named_within (lent_table self.now).extent.places (place_in word) }
@@ -42,7 +42,8 @@ impl RawTable<'_, RawThree> {
         Place::from_word(within)
     }
 
-    // Returns whether a word names that place of the table. It compares the numbers: a number beyond the table differs from every place of the table.
+    // Returns whether a word names the place `place`. The function compares the numbers of the two places, because a number beyond the table differs
+    // from every place of the table.
     #[inline]
     fn is_named(&self, word: u64, place: Place) -> bool
         requires { has_place (lent_table self.now) place ≡ true }

@@ -1,4 +1,4 @@
-//! Places as words and as numbers that cross to C.
+//! This module reads a place from a word or from a number, and returns the number of a place that crosses to C.
 //!
 //! ```text
 //! place_of(7)   // the place with index 7
@@ -9,7 +9,7 @@ ghost use Rattle.ic_raw.specs.Words.{place_in, narrow_place_in, place_of, HasNum
 
 use ic_unsafe_ref::Place;
 
-/// Returns the place that a word names, whatever its bits are. It ignores the three lowest bits and all bits from `2^36` on.
+/// Returns the place that a word names, whatever the bits of the word are. The three lowest bits and all bits from `2^36` on are ignored.
 #[inline]
 pub fn place_in(word: u64) -> Option<Place>
     ensures { result ≡ place_in word }
@@ -17,7 +17,7 @@ pub fn place_in(word: u64) -> Option<Place>
     Place::from_word(word / 8 % 8_589_934_592 * 8)
 }
 
-/// Returns the place that a word of 4 bytes names, whatever its bits are. It ignores the three lowest bits.
+/// Returns the place that a word of 4 bytes names, whatever the bits of the word are. The three lowest bits are ignored.
 #[inline]
 pub fn narrow_place_in(word: u32) -> Option<Place>
     ensures { result ≡ narrow_place_in word }
@@ -25,7 +25,7 @@ pub fn narrow_place_in(word: u32) -> Option<Place>
     Place::from_word(u64::from(word / 8 % 536_870_912 * 8))
 }
 
-/// Returns the place with that index, or `None` for [`NONE`](crate::NONE).
+/// Returns the place with the index `index`, or `None` for [`NONE`](crate::NONE).
 #[inline]
 pub fn place_of(index: u32) -> Option<Place>
     ensures { result ≡ place_of index }

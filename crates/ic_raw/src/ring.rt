@@ -1,4 +1,4 @@
-//! Rings: what their calls test, and their edits over a view of the table. The arguments of a call are places, and never a ring.
+//! This module has what the calls of rings test, and their edits over a view of the table. The arguments of a call are places, and never a ring.
 //!
 //! ```text
 //! let made = remove(&mut links, place);
@@ -6,23 +6,23 @@
 
 ghost use Rattle.std.specs.Prelude.{◌≡◌, ◌≢◌, ◌∷◌, ◌++◌, List, [], Option, Some, None, IsSome, true, false};
 ghost use Rattle.ic_link_ops.specs.Prelude.{Place, IsAbsent, IsDisjoint, first, last, IsLinked, IsUnlinked, ChangesOnly, acquires, releases};
-ghost use Rattle.ic_raw.specs.declared.gap.Side.TheVariants.{After};
+ghost use Rattle.ic_raw.specs.declared.gap.GapSide.TheVariants.{After};
 ghost use Rattle.ic_raw.specs.LinkWords.{lent_table};
 ghost use Rattle.ic_raw.specs.Ring.{IsCircle, AreLinked, Makes, MakesTwo, around, beside, own_on, put_in};
 ghost use Rattle.ic_raw.specs.Tables.{IsFree};
 ghost use Rattle.ic_raw.specs.Touches.{Touches};
 
-use crate::gap::Side;
+use crate::gap::GapSide;
 use crate::table::RawTable;
 use ic_link_ops::linked_list::LinkedListOps;
 use ic_link_ops::{LinkOps, PrevPlace};
 use ic_ring::{bypass, turn_to};
 use ic_unsafe_ref::Place;
 
-/// Two places, of which the second is directly after the first.
+/// A pair of neighbors in a ring: the second place is directly after the first place.
 pub type Pair = (Place, Place);
 
-// Returns the two places, if both are linked, the first names the second as its next place, and the second names the first as its previous one.
+// Returns the two places, if both are linked, the first names the second as its next place, and the second names the first as its previous place.
 #[inline]
 fn pair<W: PrevPlace>(
     links: &RawTable<'_, W>,
@@ -51,7 +51,7 @@ fn pair<W: PrevPlace>(
 
 /// Returns a place and its neighbor on this side, if both are linked and name each other.
 #[inline]
-pub fn beside<W: PrevPlace>(links: &RawTable<'_, W>, side: Side, at: Place) -> Option<Pair>
+pub fn beside<W: PrevPlace>(links: &RawTable<'_, W>, side: GapSide, at: Place) -> Option<Pair>
     ensures links_back { (x : Place × Place) → result ≡ Some x → AreLinked W.PrevPlace (lent_table W.PrevPlace links.now) x.0 x.1 × (own_on side x ≡ at) }
     ensures tells { (x : Place × Place) → AreLinked W.PrevPlace (lent_table W.PrevPlace links.now) x.0 x.1 → own_on side x ≡ at → result ≡ Some x }
 {
@@ -59,21 +59,21 @@ pub fn beside<W: PrevPlace>(links: &RawTable<'_, W>, side: Side, at: Place) -> O
         return None;
     }
     match side {
-        Side::After => pair(links, Some(at), links.next(at)),
-        Side::Before => pair(links, links.prev(at), Some(at)),
+        GapSide::After => pair(links, Some(at), links.next(at)),
+        GapSide::Before => pair(links, links.prev(at), Some(at)),
     }
 }
 
-// Returns the two neighbors of a place, if both are linked and name it.
+// Returns the two neighbors of a place, if both neighbors are linked and name this place.
 #[inline]
 pub(crate) fn around<W: PrevPlace>(links: &RawTable<'_, W>, place: Place) -> Option<Pair>
     ensures links_back { (x : Place × Place) → result ≡ Some x → AreLinked W.PrevPlace (lent_table W.PrevPlace links.now) x.0 place × AreLinked W.PrevPlace (lent_table W.PrevPlace links.now) place x.1 }
     ensures tells { (r : List Place) → IsCircle W.PrevPlace (lent_table W.PrevPlace links.now) (place ∷ r) → IsSome result }
 {
-    let Some(before) = beside(links, Side::Before, place) else {
+    let Some(before) = beside(links, GapSide::Before, place) else {
         return None;
     };
-    let Some(after) = beside(links, Side::After, place) else {
+    let Some(after) = beside(links, GapSide::After, place) else {
         return None;
     };
     Some((before.0, after.1))
@@ -91,7 +91,7 @@ pub(crate) fn is_alone<W: PrevPlace>(links: &RawTable<'_, W>, place: Place) -> b
     true
 }
 
-// Makes a ring of the place alone, and returns it, if it belongs to the table and is not linked.
+// Makes a ring of the place alone, and returns the place, if it belongs to the table and is not linked.
 #[inline]
 pub(crate) fn close<W: PrevPlace>(
     links: &mut RawTable<'_, W>,
@@ -114,7 +114,7 @@ pub(crate) fn close<W: PrevPlace>(
 pub(crate) fn link_between<W: PrevPlace>(links: &mut RawTable<'_, W>, pair: Pair, place: Place)
     requires held { IsLinked W.is_linked (lent_table W.PrevPlace links.old) place }
     requires links_back { AreLinked W.PrevPlace (lent_table W.PrevPlace links.old) pair.0 pair.1 }
-    ensures inserted { (side : Side) (at : Place) (r : List Place) → own_on side pair ≡ at → IsCircle W.PrevPlace (lent_table W.PrevPlace links.old) (at ∷ r)
+    ensures inserted { (side : GapSide) (at : Place) (r : List Place) → own_on side pair ≡ at → IsCircle W.PrevPlace (lent_table W.PrevPlace links.old) (at ∷ r)
         → IsAbsent place (at ∷ r) → IsCircle W.PrevPlace (lent_table W.PrevPlace links.new) (put_in side at place r) }
     ensures others { (q : Place) → q ≢ place → q ≢ pair.0 → q ≢ pair.1 → (lent_table W.PrevPlace links.new).entry q ≡ (lent_table W.PrevPlace links.old).entry q }
     ensures extent { (lent_table W.PrevPlace links.new).extent ≡ (lent_table W.PrevPlace links.old).extent }
@@ -125,7 +125,7 @@ pub(crate) fn link_between<W: PrevPlace>(links: &mut RawTable<'_, W>, pair: Pair
     turn_to(links, pair.0, place, pair.1);
 }
 
-// Makes two linked places neighbors. The places that were between them are no longer in the ring, but stay linked.
+// Makes two linked places neighbors. Places that were between the two are no longer in the ring, but they stay linked.
 #[inline]
 pub(crate) fn close_gap<W: PrevPlace>(links: &mut RawTable<'_, W>, before: Place, after: Place)
     requires before { IsLinked W.is_linked (lent_table W.PrevPlace links.old) before }
@@ -142,7 +142,7 @@ pub(crate) fn close_gap<W: PrevPlace>(links: &mut RawTable<'_, W>, before: Place
     links.set_prev(after, Some(before));
 }
 
-// Exchanges the second places of two pairs of neighbors.
+// Exchanges the second places of two pairs of neighbors. Two rings become one ring, or one ring becomes two rings.
 #[inline]
 pub(crate) fn cross<W: PrevPlace>(links: &mut RawTable<'_, W>, first: Pair, second: Pair)
     requires first { AreLinked W.PrevPlace (lent_table W.PrevPlace links.old) first.0 first.1 }
@@ -183,11 +183,11 @@ pub(crate) fn remove<W: PrevPlace>(links: &mut RawTable<'_, W>, place: Place) ->
     true
 }
 
-// Inserts the place beside a place of a ring, and returns whether it did.
+// Inserts the place on this side of the place `at`, which is in a ring, and returns whether it did.
 #[inline]
 pub(crate) fn insert<W: PrevPlace>(
     links: &mut RawTable<'_, W>,
-    side: Side,
+    side: GapSide,
     at: Place,
     place: Option<Place>,
 ) -> bool
@@ -211,7 +211,7 @@ pub(crate) fn insert<W: PrevPlace>(
     true
 }
 
-// Exchanges the successors of two places in rings, and returns whether it did. Two rings become one, or one ring becomes two.
+// Exchanges the next places of two places in rings, and returns whether it did. Two rings become one ring, or one ring becomes two rings.
 #[inline]
 pub(crate) fn exchange<W: PrevPlace>(links: &mut RawTable<'_, W>, one: Place, other: Place) -> bool
     ensures joins { (r s : List Place) → IsCircle W.PrevPlace (lent_table W.PrevPlace links.old) r → IsCircle W.PrevPlace (lent_table W.PrevPlace links.old) s → IsDisjoint r s
@@ -226,10 +226,10 @@ pub(crate) fn exchange<W: PrevPlace>(links: &mut RawTable<'_, W>, one: Place, ot
     ensures refused { result ≡ false → links.new ≡ links.old }
     ensures extent { (lent_table W.PrevPlace links.new).extent ≡ (lent_table W.PrevPlace links.old).extent }
 {
-    let Some(first) = beside(&*links, Side::After, one) else {
+    let Some(first) = beside(&*links, GapSide::After, one) else {
         return false;
     };
-    let Some(second) = beside(&*links, Side::After, other) else {
+    let Some(second) = beside(&*links, GapSide::After, other) else {
         return false;
     };
     cross(links, first, second);

@@ -1,8 +1,9 @@
-//! The calls of rings: doubly linked lists whose head is a place of the table. The arguments of an edit are places, and never a ring.
+//! This module has the calls of rings. A ring is a doubly linked list whose head is a place of the table. The arguments of an edit are places, and
+//! never a ring.
 //!
 //! ```text
 //! init(table, 64)                    // OK: a ring with no members
-//! insert(table, Side::Before, 64, 7) // OK: before the head is the back
+//! insert(table, GapSide::Before, 64, 7) // OK: before the head is the back
 //! remove(table, 7)                   // OK, from whichever ring it is in
 //! ```
 
@@ -16,7 +17,7 @@ ghost use Rattle.ic_raw.specs.Tables.{member_fault};
 ghost use Rattle.ic_raw.specs.Words.{place_of};
 ghost use Rattle.ic_raw.specs.RingCalls.{ExchangeCall, InitCall, InsertCall, RemoveCall};
 
-use crate::gap::Side;
+use crate::gap::GapSide;
 use crate::number::{number_of, place_of};
 use crate::status::{NULL, OK};
 use crate::table::{RawTable, refusal_at_end};
@@ -40,10 +41,10 @@ pub fn init<W: PrevPlace>(table: &mut [W], head: u32) -> u32
 
 /// Inserts a place on this side of the place `at`, which is in a ring. O(1).
 ///
-/// The place must belong to the table and must not be linked. It returns [`NULL`] if `at` is [`NONE`](crate::NONE), else the first fault of the two
-/// places, or else [`BROKEN`](crate::BROKEN). A refused call changes no word.
+/// The place must belong to the table and must not be linked. The call returns [`NULL`] if `at` is [`NONE`](crate::NONE), else the first fault of the
+/// two places, or else [`BROKEN`](crate::BROKEN). A refused call changes no word.
 #[inline]
-pub fn insert<W: PrevPlace>(table: &mut [W], side: Side, at: u32, place: u32) -> u32
+pub fn insert<W: PrevPlace>(table: &mut [W], side: GapSide, at: u32, place: u32) -> u32
     ensures { InsertCall W.PrevPlace table.old table.new result side (place_of at) (place_of place) }
 {
     let Some(member) = place_of(at) else {
@@ -58,7 +59,7 @@ pub fn insert<W: PrevPlace>(table: &mut [W], side: Side, at: u32, place: u32) ->
 
 /// Removes a place from the ring in which it is. O(1).
 ///
-/// If the place is a head without members, it is unlinked, and its ring no longer exists.
+/// If the place is a head without members, it is unlinked, and the ring no longer exists.
 #[inline]
 pub fn remove<W: PrevPlace>(table: &mut [W], place: u32) -> u32
     ensures { RemoveCall W.PrevPlace table.old table.new result (place_of place) }
@@ -73,10 +74,11 @@ pub fn remove<W: PrevPlace>(table: &mut [W], place: u32) -> u32
     OK
 }
 
-/// Exchanges the successors of two places. If they are in two rings, the rings become one. If they are in one ring, it becomes two. O(1).
+/// Exchanges the next places of two places. If the two places are in two rings, the rings become one ring. If they are in one ring, the ring becomes
+/// two rings. O(1).
 ///
-/// For the last member of one ring and the head of another, it moves all members of the second ring to the back of the first. A second call with the
-/// same arguments undoes the first.
+/// If one argument is the last member of a ring and the second argument is the head of another ring, the call joins the rings. All members of the
+/// second ring are then at the back of the first. A second call with the same arguments undoes the first call.
 #[inline]
 pub fn exchange<W: PrevPlace>(table: &mut [W], one: u32, other: u32) -> u32
     ensures { ExchangeCall W.PrevPlace table.old table.new result (place_of one) (place_of other) }
@@ -94,7 +96,7 @@ pub fn exchange<W: PrevPlace>(table: &mut [W], one: u32, other: u32) -> u32
     OK
 }
 
-// Returns why nothing could be removed beside a head: it has no members, or its links and those of its neighbor do not lead to each other.
+// Returns why no place is removed beside a head: the head has no members, or the links of the head and of its neighbor do not lead to each other.
 #[cold]
 fn refusal_to_pop<W: PrevPlace>(links: &RawTable<'_, W>, head: Place) -> u32
     ensures null { (result ≡ NULL) ↔ AreLinked W.PrevPlace (lent_table W.PrevPlace links.now) head head }
@@ -107,11 +109,11 @@ fn refusal_to_pop<W: PrevPlace>(links: &RawTable<'_, W>, head: Place) -> u32
     links.refusal_of(head)
 }
 
-/// Removes the place on this side of a head, and stores its number in `popped`. O(1).
+/// Removes the place on this side of a head, and stores the number of the removed place in `popped`. O(1).
 ///
-/// It returns [`NULL`] if `head` is [`NONE`](crate::NONE) or has no members. A refused call changes neither the words nor the number.
+/// The call returns [`NULL`] if `head` is [`NONE`](crate::NONE) or has no members. A refused call changes neither the words nor the number.
 #[inline]
-pub fn pop<W: PrevPlace>(table: &mut [W], side: Side, head: u32, popped: &mut u32) -> u32
+pub fn pop<W: PrevPlace>(table: &mut [W], side: GapSide, head: u32, popped: &mut u32) -> u32
     ensures { PopCall W.PrevPlace table.old table.new result popped.old popped.new side (place_of head) }
 {
     let Some(place) = place_of(head) else {
@@ -125,9 +127,10 @@ pub fn pop<W: PrevPlace>(table: &mut [W], side: Side, head: u32, popped: &mut u3
     OK
 }
 
-/// Inserts `place` where `at` is in a ring, and removes `at`. O(1).
+/// Inserts `place` into a ring at the position of `at`, and removes `at`. O(1).
 ///
-/// `place` must belong to the table and must not be linked. It returns [`NULL`] if `at` is [`NONE`](crate::NONE). A refused call changes no word.
+/// `place` must belong to the table and must not be linked. The call returns [`NULL`] if `at` is [`NONE`](crate::NONE). A refused call changes no
+/// word.
 #[inline]
 pub fn replace<W: PrevPlace>(table: &mut [W], at: u32, place: u32) -> u32
     ensures { ReplaceCall W.PrevPlace table.old table.new result (place_of at) (place_of place) }
@@ -144,9 +147,10 @@ pub fn replace<W: PrevPlace>(table: &mut [W], at: u32, place: u32) -> u32
 
 /// Moves `place` to this side of `at`, out of any ring of the table. O(1).
 ///
-/// If both places are the same, nothing changes. It returns [`NULL`] if one of the two is [`NONE`](crate::NONE). A refused call changes no word.
+/// If both places are the same, nothing changes. The call returns [`NULL`] if one of the two places is [`NONE`](crate::NONE). A refused call changes
+/// no word.
 #[inline]
-pub fn move_beside<W: PrevPlace>(table: &mut [W], side: Side, at: u32, place: u32) -> u32
+pub fn move_beside<W: PrevPlace>(table: &mut [W], side: GapSide, at: u32, place: u32) -> u32
     ensures { MoveCall W.PrevPlace table.old table.new result side (place_of at) (place_of place) }
 {
     let Some(beside) = place_of(at) else {
@@ -164,10 +168,10 @@ pub fn move_beside<W: PrevPlace>(table: &mut [W], side: Side, at: u32, place: u3
 
 /// Moves all members of the ring with the head `head` to this side of `at`, which is in another ring. O(1).
 ///
-/// Their head is then without members. It returns [`NULL`] if one of the two is [`NONE`](crate::NONE), and [`BROKEN`](crate::BROKEN) if `at` is the
-/// head itself or its last member. A refused call changes no word.
+/// The head `head` is then without members. The call returns [`NULL`] if one of the two places is [`NONE`](crate::NONE), and
+/// [`BROKEN`](crate::BROKEN) if `at` is the head itself or its last member. A refused call changes no word.
 #[inline]
-pub fn splice<W: PrevPlace>(table: &mut [W], side: Side, at: u32, head: u32) -> u32
+pub fn splice<W: PrevPlace>(table: &mut [W], side: GapSide, at: u32, head: u32) -> u32
     ensures { SpliceCall W.PrevPlace table.old table.new result side (place_of at) (place_of head) }
 {
     let Some(beside) = place_of(at) else {

@@ -1,9 +1,9 @@
-//! Calls that consist of several edits of rings: pops, replacements, moves and splices over a view of the table. Each tests everything that it needs
-//! before it writes, so a refusal changes no word.
+//! The calls of this module consist of several edits of rings: pops, replacements, moves and splices over a view of the table. Each call tests
+//! everything that it needs before it writes, so that a refusal changes no word.
 //!
 //! ```text
-//! let popped = pop(&mut links, Side::After, head);
-//! let made = move_beside(&mut links, Side::Before, head, place);
+//! let popped = pop(&mut links, GapSide::After, head);
+//! let made = move_beside(&mut links, GapSide::Before, head, place);
 //! ```
 
 ghost use Rattle.std.specs.Prelude.{◌≡◌, ◌≢◌, ◌∷◌, ◌++◌, List, [], Option, Some, None, true, false};
@@ -13,29 +13,29 @@ ghost use Rattle.ic_raw.specs.Ring.{IsCircle, AreLinked, Makes, MakesTwo, around
 ghost use Rattle.ic_raw.specs.Tables.{IsFree};
 ghost use Rattle.ic_raw.specs.Touches.{Touches};
 
-use crate::gap::Side;
+use crate::gap::GapSide;
 use crate::ring::{Pair, around, beside, close_gap, cross, link_between, remove};
 use crate::table::RawTable;
 use ic_link_ops::linked_list::LinkedListOps;
 use ic_link_ops::{LinkOps, PrevPlace};
 use ic_unsafe_ref::Place;
 
-// Returns the one of two neighbors that is on this side of the other.
+// Returns the second place of a pair of neighbors if the side is `After`, and the first place if the side is `Before`.
 #[inline]
-fn neighbor_on(side: Side, pair: Pair) -> Place
+fn neighbor_on(side: GapSide, pair: Pair) -> Place
     ensures { result ≡ neighbor_on side pair }
 {
     match side {
-        Side::After => pair.1,
-        Side::Before => pair.0,
+        GapSide::After => pair.1,
+        GapSide::Before => pair.0,
     }
 }
 
-// Removes the place on this side of a head, and returns it. The result is `None` if the head is in no ring or has no members.
+// Removes the place on this side of a head, and returns this place. The result is `None` if the head is in no ring or has no members.
 #[inline]
 pub(crate) fn pop<W: PrevPlace>(
     links: &mut RawTable<'_, W>,
-    side: Side,
+    side: GapSide,
     head: Place,
 ) -> Option<Place>
     ensures popped { (p : Place) (r : List Place) → IsCircle W.PrevPlace (lent_table W.PrevPlace links.old) (put_in side head p r)
@@ -62,8 +62,7 @@ pub(crate) fn pop<W: PrevPlace>(
     Some(member)
 }
 
-// Returns the place that will be after `own` once `own` replaces `at`, whose next place is `next`. If `at` is alone in its ring, this is `own`
-// itself.
+// Returns the place that will be after `own` once `own` replaces `at`, whose next place is `next`. If `at` is alone in its ring, the result is `own`.
 #[inline]
 fn next_without(at: Place, next: Place, own: Place) -> Place
     ensures alone { next ≡ at → result ≡ own }
@@ -72,7 +71,7 @@ fn next_without(at: Place, next: Place, own: Place) -> Place
     if next == at { own } else { next }
 }
 
-// Inserts a place where another place is in a ring, removes that one, and returns whether it did.
+// Inserts a place into a ring at the position of the place `at`, removes `at`, and returns whether it did.
 #[inline]
 pub(crate) fn replace<W: PrevPlace>(
     links: &mut RawTable<'_, W>,
@@ -104,11 +103,11 @@ pub(crate) fn replace<W: PrevPlace>(
     true
 }
 
-// Moves a place to this side of another one, out of any ring of the table, and returns whether it did.
+// Moves a place to this side of the place `at`, out of any ring of the table, and returns whether it did.
 #[inline]
 pub(crate) fn move_beside<W: PrevPlace>(
     links: &mut RawTable<'_, W>,
-    side: Side,
+    side: GapSide,
     at: Place,
     place: Place,
 ) -> bool
@@ -143,12 +142,12 @@ pub(crate) fn move_beside<W: PrevPlace>(
     true
 }
 
-// Moves all members of a ring to this side of a place of another ring, and returns whether it did. It does not if that place is the head itself or
-// its last member.
+// Moves all members of the head `given` to this side of the place `at` of another ring, and returns whether it did. The function refuses if `at` is
+// the head itself or its last member.
 #[inline]
 pub(crate) fn splice<W: PrevPlace>(
     links: &mut RawTable<'_, W>,
-    side: Side,
+    side: GapSide,
     at: Place,
     given: Place,
 ) -> bool

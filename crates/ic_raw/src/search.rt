@@ -1,4 +1,4 @@
-//! Searches of a tree by keys, and inserts where a key belongs, over a view of the table.
+//! The functions of this module search a tree by keys, and insert a place where its key belongs, over a view of the table.
 //!
 //! ```text
 //! let member = find(&links, &tree, keys, key, Target::AtLeast);
@@ -16,10 +16,10 @@ ghost use Rattle.ic_rbtree.specs.Tree.{root_of};
 ghost use Rattle.ic_raw.specs.declared.status.TheConstants.{OK, NULL};
 ghost use Rattle.ic_raw.specs.Answers.{HandsOut, refusal};
 ghost use Rattle.ic_raw.specs.Gaps.{IsNoneOrLinked};
-ghost use Rattle.ic_raw.specs.declared.search.Way.{Way};
+ghost use Rattle.ic_raw.specs.declared.search.InsertPos.{InsertPos};
 ghost use Rattle.ic_raw.specs.Keys.{against, key_of, keys_fault, at_root, past, EndsIn, EndsBelow, HasTurned, IsTarget, Meets, NamesTarget, equals_of, SearchEnds};
 ghost use Rattle.ic_raw.specs.Seen.{seen, seen_node, named_within, has_place, StaysWithin, HandsOutReached};
-ghost use Rattle.ic_raw.specs.Surgery.{TellsOfInsertion};
+ghost use Rattle.ic_raw.specs.Surgery.{ReportsInsertion};
 ghost use Rattle.ic_raw.specs.Tables.{IsFree, place_fault};
 ghost use Rattle.ic_raw.specs.Tree.{Represents, IsInsertPos, lent_table};
 ghost use Rattle.ic_raw.specs.Words.{is_linked_three, place_in, place_of};
@@ -34,24 +34,24 @@ use ic_rbtree::NodeStore;
 use ic_unsafe_ref::{Place, Values};
 use std::cmp::Ordering;
 
-// The most turns of a search, of three comparisons each. In a valid red-black tree every way down is shorter.
+// A search takes at most this many turns, of three comparisons each. In a valid red-black tree every way down is shorter.
 const TURNS: u32 = 22;
 
 /// The member that a search returns.
 #[derive(Clone, Copy)]
 pub enum Target {
-    /// The first member with the key.
+    /// The search returns the first member with the key.
     Equal,
-    /// The first member whose key is at least the given one.
+    /// The search returns the first member whose key is at least the given key.
     AtLeast,
-    /// The last member whose key is at most the given one.
+    /// The search returns the last member whose key is at most the given key.
     AtMost,
 }
 
 /// The gap between two members that a search from the root has reached.
 #[derive(Drop)]
-pub struct Way {
-    // The member below which the gap is, or `None` in an empty tree, and the side of that member on which the gap is.
+pub struct InsertPos {
+    // The member that has the gap on one of its sides, or `None` in an empty tree, and the side of this member on which the gap is.
     parent: PlaceWord,
     side: Side,
     // The members before and after the gap.
@@ -59,7 +59,7 @@ pub struct Way {
     back: PlaceWord,
 }
 
-// The words for both children of a place, and the one of the two to which a search goes.
+// The words for both children of a place, and the word for the child to which a search goes.
 #[derive(Clone, Copy)]
 struct Children {
     left: u64,
@@ -94,7 +94,7 @@ fn refusal(links: &RawTable<'_, RawThree>, keys: &[u64]) -> u32
     BROKEN
 }
 
-// Returns why a place is not inserted by its key: the fault of the keys, else that of the place, or else [`BROKEN`].
+// Returns why a place is not inserted by its key: the fault of the keys, else the fault of the place, or else [`BROKEN`].
 #[cold]
 #[inline(never)]
 pub(crate) fn refusal_of(links: &RawTable<'_, RawThree>, keys: &[u64], place: u32) -> u32
@@ -108,7 +108,7 @@ pub(crate) fn refusal_of(links: &RawTable<'_, RawThree>, keys: &[u64], place: u3
     links.refusal(NONE, place)
 }
 
-// Compares a key with that of a place.
+// Compares the key `key` with the key of a place.
 #[inline]
 fn compare_at(keys: &[u64], key: u64, place: Place) -> Ordering
     requires { is_placed (at_indexes keys.now) place ≡ true }
@@ -117,7 +117,8 @@ fn compare_at(keys: &[u64], key: u64, place: Place) -> Ordering
     key.cmp(keys.value(place))
 }
 
-// Returns whether the search goes left at a member, by the result of its comparison. At equal keys it goes to this side.
+// Returns whether a search goes to the left at a member, by the result of the comparison of the keys. If the keys are equal, the search goes to the
+// side `equals`.
 #[inline]
 fn goes_left(order: Ordering, equals: Side) -> bool
     ensures { result ≡ goes_left equals order }
@@ -128,13 +129,13 @@ fn goes_left(order: Ordering, equals: Side) -> bool
     }
 }
 
-impl Way {
-    // The start of a search, at the root.
+impl InsertPos {
+    // Returns the way at the start of a search, which is at the root.
     #[inline]
-    fn new() -> Way
+    fn new() -> InsertPos
         ensures { result ≡ at_root }
     {
-        Way {
+        InsertPos {
             parent: PlaceWord::of(None),
             side: Side::Left,
             front: PlaceWord::of(None),
@@ -142,7 +143,7 @@ impl Way {
         }
     }
 
-    // Goes from a member down to one side of it.
+    // Goes from a member down to its left side if `left` is true, or else to its right side.
     #[inline]
     fn pass(&mut self, place: Place, left: bool)
         ensures { self.new ≡ past self.old place left }
@@ -157,7 +158,7 @@ impl Way {
         }
     }
 
-    // Returns whether a place can be inserted into the gap: it is below a linked place, or the tree has no root.
+    // Returns whether a place can be inserted into the gap: the gap is below a linked place, or the tree has no root.
     #[inline]
     fn is_open(&self, links: &RawTable<'_, RawThree>, tree: &Tree) -> bool
         requires { IsIn (has_place (lent_table links.now)) self.now.parent }
@@ -171,8 +172,8 @@ impl Way {
     }
 }
 
-// Compares the key with that of a place, and goes past this place. It picks the word for the child there without a branch. For keys at random a
-// processor would predict every second such branch wrongly.
+// Compares the key with that of the place `place`, and goes past this place. The word for the child is picked without a branch. If the keys are in
+// random order, a processor would predict every second such branch wrongly.
 #[inline]
 fn look_at(
     links: &RawTable<'_, RawThree>,
@@ -180,7 +181,7 @@ fn look_at(
     key: u64,
     equals: Side,
     place: Place,
-    way: &mut Way,
+    way: &mut InsertPos,
 ) -> Children
     requires keys { (lent_table links.now).extent.places ≤ length keys.now }
     requires here { has_place (lent_table links.now) place ≡ true }
@@ -201,10 +202,10 @@ fn look_at(
     }
 }
 
-// Returns the way at its end. The test never holds, but it reads the words for both children. Without it the compiler would load only one word, from
-// an address that depends on the comparison.
+// Returns the way of a search that has come to its end. The condition of the `if` is never true, but it reads the words for both children. Without
+// this test the compiler would load only one word, from an address that depends on the comparison.
 #[inline]
-fn end(children: Children, way: Way) -> Option<Way>
+fn end(children: Children, way: InsertPos) -> Option<InsertPos>
     requires { (children.picked ≡ children.left) ⊎ (children.picked ≡ children.right) }
     ensures { result ≡ Some way }
 {
@@ -215,9 +216,9 @@ fn end(children: Children, way: Way) -> Option<Way>
     Some(way)
 }
 
-// Goes down from the root to the gap where the key belongs, at equal keys to this side. [`RBTree::descend`](ic_rbtree::RBTree::descend) does so for
-// any probe in a table that represents the tree, and also keeps the last equal member, which takes more instructions for each comparison. The result
-// is `None` if the way is longer than in any valid tree.
+// Goes down from the root to the gap where the key belongs, at equal keys to the side `equals`. [`RBTree::descend`](ic_rbtree::RBTree::descend) does
+// this for any probe in a table that represents the tree. It also keeps the last equal member, which takes more instructions for each comparison. The
+// result is `None` if the way is longer than in any valid tree.
 #[inline]
 fn descend(
     links: &RawTable<'_, RawThree>,
@@ -225,18 +226,18 @@ fn descend(
     keys: &[u64],
     key: u64,
     equals: Side,
-) -> Option<Way>
+) -> Option<InsertPos>
     requires keys { (lent_table links.now).extent.places ≤ length keys.now }
     requires root { IsNoneOrLinked is_linked_three (lent_table links.now) (root_of tree.now) }
     ensures ends { (s : List Place) (h : trees.Represents seen_node (seen (lent_table links.now)) (root_of tree.now) s)
-        → (way : Way) × (result ≡ Some way) × EndsIn (lent_table links.now) (gap_in (λ p. goes_left equals (against key keys.now p)) h.tree) way }
+        → (way : InsertPos) × (result ≡ Some way) × EndsIn (lent_table links.now) (gap_in (λ p. goes_left equals (against key keys.now p)) h.tree) way }
     ensures down { result ≢ None
         → EndsBelow (seen (lent_table links.now)) (λ p. goes_left equals (against key keys.now p)) (root_of tree.now) }
     ensures turned { IfSome result (λ way. HasTurned (λ p. goes_left equals (against key keys.now p)) way) }
     ensures within { (S : Place → Bool) → IsClosed seen_node (seen (lent_table links.now)) (root_of tree.now) S
         → IfSome result (λ way. AreIn S (way.parent ∷ way.front ∷ way.back ∷ [])) }
 {
-    let mut way = Way::new();
+    let mut way = InsertPos::new();
     let Some(root) = tree.root() else {
         return Some(way);
     };
@@ -259,7 +260,7 @@ fn descend(
     None
 }
 
-// The side to which a search goes at equal keys.
+// Returns the side to which a search goes at a member whose key is equal to the searched key.
 #[inline]
 fn equals_of(target: Target) -> Side
     ensures { result ≡ equals_of target }
@@ -270,7 +271,7 @@ fn equals_of(target: Target) -> Side
     }
 }
 
-// Returns the member that the search is for, or `Some(None)` if there is none. It is `None` if the links lead to no end.
+// Returns the member that the target means for the key, or `Some(None)` if there is none. The result is `None` if the links lead to no end.
 #[inline]
 pub(crate) fn find(
     links: &RawTable<'_, RawThree>,
@@ -306,9 +307,9 @@ pub(crate) fn find(
     }
 }
 
-// Stores the number of the member that the search is for.
+// Stores in `found` the number of the member that the target means for the key.
 #[inline]
-pub(crate) fn look(
+pub(crate) fn store_found(
     links: &RawTable<'_, RawThree>,
     tree: &Tree,
     keys: &[u64],
@@ -355,7 +356,7 @@ pub(crate) fn insert<S: Surgery>(
     ensures within { result ≡ true
         → StaysWithin (lent_table links.old) (lent_table links.new) (root_of tree.old) (root_of tree.new) place None [] }
     ensures told { (p : Place) → place ≡ Some p → result ≡ true
-        → TellsOfInsertion S.Tells surgery.old surgery.new (lent_table links.old) (lent_table links.new) p }
+        → ReportsInsertion S.Reports surgery.old surgery.new (lent_table links.old) (lent_table links.new) p }
     ensures refused { result ≡ false → (links.new ≡ links.old) × (tree.new ≡ tree.old) }
     ensures extent { (lent_table links.new).extent ≡ (lent_table links.old).extent }
 {

@@ -1,4 +1,4 @@
-//! The calls of red-black trees that search and insert by keys. The keys are in a separate array with one key for each place.
+//! This module has the calls of red-black trees that search and insert by keys. The keys are in a separate array with one key for each place.
 //!
 //! ```text
 //! insert(table, keys, tree, 7)                                 // OK: in the order of keys[0], keys[1] ..
@@ -10,7 +10,7 @@ ghost use Rattle.ic_link_ops.specs.Prelude.{Place};
 ghost use Rattle.ic_raw.specs.declared.status.TheConstants.{OK};
 ghost use Rattle.ic_raw.specs.Words.{place_of};
 ghost use Rattle.ic_raw.specs.SearchCalls.{FindCall, PutCall};
-ghost use Rattle.ic_raw.specs.Surgery.{HoldsOfViews, TellsOfInsertion};
+ghost use Rattle.ic_raw.specs.Surgery.{HoldsOfViews, ReportsInsertion};
 
 use crate::number::place_of;
 use crate::search::{self, Target};
@@ -30,7 +30,8 @@ pub fn insert(table: &mut [RawThree], keys: &[u64], tree: &mut RawRoot, place: u
     insert_by(&mut Plain, table, keys, tree, place)
 }
 
-/// The same call, with an implementation of [`Surgery`] of the caller's, which sees which words the edit writes.
+/// Inserts a place by its key as `insert` does, with an implementation of [`Surgery`] that the caller passes and that sees which words the edit
+/// writes.
 #[inline]
 pub fn insert_by<S: Surgery>(
     by: &mut S,
@@ -41,7 +42,7 @@ pub fn insert_by<S: Surgery>(
 ) -> u32
     ensures call { PutCall keys.now table.old table.new result tree.old tree.new (place_of place) }
     ensures told { (p : Place) → place_of place ≡ Some p → result ≡ OK
-        → HoldsOfViews table.old table.new (λ old new. TellsOfInsertion S.Tells by.old by.new old new p) }
+        → HoldsOfViews table.old table.new (λ old new. ReportsInsertion S.Reports by.old by.new old new p) }
 {
     let mut links = RawTable::new(table);
     let mut edited = tree_of(&*tree);
@@ -52,12 +53,12 @@ pub fn insert_by<S: Surgery>(
     OK
 }
 
-/// Stores the number of the member that `target` names for this key in `found`, or returns [`NULL`](crate::NULL) if there is none. It writes nothing
-/// else. O(log n).
+/// Stores in `found` the number of the member that `target` means for this key, or returns [`NULL`](crate::NULL) if there is none. The call writes
+/// nothing else. O(log n).
 ///
-/// There must be a key for each place of the table, and the keys must not decrease from one member to the next. Otherwise it may find another member
-/// or none. Without a key for each it returns [`OUT_OF_RANGE`](crate::OUT_OF_RANGE), and where the words represent no tree it may return
-/// [`BROKEN`](crate::BROKEN).
+/// There must be a key for each place of the table, and the keys must not decrease from one member to the next. If they decrease, the call may find
+/// another member or none. If there is not a key for each place, the call returns [`OUT_OF_RANGE`](crate::OUT_OF_RANGE). If the words represent no
+/// tree, it may return [`BROKEN`](crate::BROKEN).
 #[inline]
 pub fn find_target(
     table: &mut [RawThree],
@@ -70,5 +71,5 @@ pub fn find_target(
     ensures { FindCall keys.now table.old table.new result tree.now key target found.old found.new }
 {
     let links = RawTable::new(table);
-    search::look(&links, &tree_of(tree), keys, key, target, found)
+    search::store_found(&links, &tree_of(tree), keys, key, target, found)
 }

@@ -1,4 +1,4 @@
-//! The singly linked list: what its calls test, and its edits over a view of the table.
+//! This module has what the calls of singly linked lists test, and their edits over a view of the table.
 //!
 //! ```text
 //! let made = insert(&mut links, &mut stack, at, place);
@@ -24,10 +24,10 @@ use ic_link_ops::singly_linked_list::SinglyLinkedListOps;
 use ic_singly_linked_list::SinglyLinkedList;
 use ic_unsafe_ref::Place;
 
-/// A list that belongs to the caller.
+/// A singly linked list that belongs to the caller.
 pub type Stack = SinglyLinkedList<()>;
 
-// Returns the place after a place, or the first place of the list for `None`.
+// Returns the place after `place`, or the first place of the list if `place` is `None`.
 #[inline]
 fn next_of(links: &RawTable<'_, RawOne>, list: &Stack, place: Option<Place>) -> Option<Place>
     requires { IsNoneOrLinked is_linked_one (lent_table links.now) place }
@@ -39,7 +39,8 @@ fn next_of(links: &RawTable<'_, RawOne>, list: &Stack, place: Option<Place>) -> 
     }
 }
 
-// Returns the gap after a place, or the gap before all members for `None`. The result is `None` if a place on one of its sides is not linked.
+// Returns the gap after the place `at`, or the gap before all members if `at` is `None`. The result is `None` if a place beside the gap is not
+// linked.
 #[inline]
 pub(crate) fn gap_after(
     links: &RawTable<'_, RawOne>,
@@ -63,7 +64,7 @@ pub(crate) fn gap_after(
     Some(Gap { before: at, after })
 }
 
-// Inserts the place into the gap after another one, and returns whether it did.
+// Inserts the place `place` into the gap after the place `at`, and returns whether it did.
 #[inline]
 pub(crate) fn insert(
     links: &mut RawTable<'_, RawOne>,
@@ -91,7 +92,7 @@ pub(crate) fn insert(
     true
 }
 
-// Removes the member after a place, or the first member for `None`.
+// Removes the member after the place `at`, or the first member if `at` is `None`.
 #[inline]
 pub(crate) fn remove(
     links: &mut RawTable<'_, RawOne>,
@@ -113,8 +114,8 @@ pub(crate) fn remove(
     links.release_link(member);
 }
 
-// Inserts the place where the member after another place is, or where the first member is for `None`, and removes that member. It returns whether it
-// did.
+// Inserts the place `place` at the position of the member after `at`, or of the first member if `at` is `None`, and removes this member. The function
+// returns whether it did.
 #[inline]
 pub(crate) fn replace(
     links: &mut RawTable<'_, RawOne>,
@@ -145,7 +146,8 @@ pub(crate) fn replace(
     true
 }
 
-/// Returns the last member of the list that begins with this place, if its links lead to an end within as many steps as the table has places.
+/// Returns the last member of the list that begins with the place `front`. The result is `None` if the links do not lead to an end within as many
+/// steps as the table has places.
 pub fn last_from(links: &RawTable<'_, RawOne>, front: Place) -> Option<Place>
     ensures ended { (end : Place) → result ≡ Some end
         → (s : List Place) × Represents (lent_table links.now) (list_from (Some front)) s × (Some end ≡ last s) }
@@ -166,7 +168,7 @@ pub fn last_from(links: &RawTable<'_, RawOne>, front: Place) -> Option<Place>
     None
 }
 
-// Moves all members of the given list into the gap after a place, and returns whether it did.
+// Moves all members of the list `given` into the gap after the place `at`, and returns whether it did.
 #[inline]
 pub(crate) fn splice(
     links: &mut RawTable<'_, RawOne>,
@@ -202,8 +204,8 @@ pub(crate) fn splice(
     true
 }
 
-// Cuts the list at the gap after a place, and returns whether it did. The list keeps the members before the gap, and the function returns the rest as
-// a list.
+// Cuts the list at the gap after the place `at`, and returns whether it did. The list keeps the members before the gap, and `rest` becomes the list
+// of the members after the gap.
 #[inline]
 pub(crate) fn split(
     links: &mut RawTable<'_, RawOne>,

@@ -1,4 +1,4 @@
-//! The calls of singly linked lists. A place is a number, and a list is one word.
+//! This module has the calls of singly linked lists. A place is a number, and a list is one word.
 //!
 //! ```text
 //! push_front(table, list, 7)        // OK
@@ -35,9 +35,9 @@ pub fn write_back(words: &mut RawFront, list: stack::Stack)
     words.set(list.first());
 }
 
-/// Inserts a place at the front. O(1).
+/// Inserts a place at the front of the list. O(1).
 ///
-/// The place must belong to the table and must not be linked. If the first member is not linked, it returns [`BROKEN`].
+/// The place must belong to the table and must not be linked. If the first member is not linked, the call returns [`BROKEN`].
 #[inline]
 pub fn push_front(table: &mut [RawOne], list: &mut RawFront, place: u32) -> u32
     ensures { InsertCall table.old table.new list.old list.new result None (place_of place) }
@@ -62,7 +62,7 @@ fn pop_front_slow(table: &mut [RawOne], list: &mut RawFront, popped: &mut u32) -
 
 /// Removes the first member and stores its number in `popped`, or returns [`NULL`] if there is none. O(1).
 ///
-/// If the first member is not linked, it returns [`BROKEN`].
+/// If the first member is not linked, the call returns [`BROKEN`].
 #[inline]
 pub fn pop_front(table: &mut [RawOne], list: &mut RawFront, popped: &mut u32) -> u32
     ensures { PopCall table.old table.new list.old list.new result popped.old popped.new }
@@ -82,7 +82,7 @@ pub fn pop_front(table: &mut [RawOne], list: &mut RawFront, popped: &mut u32) ->
 
 /// Inserts a place after the member `at`, or at the front if `at` is [`NONE`]. O(1).
 ///
-/// The place must belong to the table and must not be linked. If the place after `at` is not linked, it returns [`BROKEN`].
+/// The place must belong to the table and must not be linked. If the place after `at` is not linked, the call returns [`BROKEN`].
 #[inline]
 pub fn insert_after(table: &mut [RawOne], list: &mut RawFront, at: u32, place: u32) -> u32
     ensures { InsertCall table.old table.new list.old list.new result (place_of at) (place_of place) }
@@ -96,10 +96,10 @@ pub fn insert_after(table: &mut [RawOne], list: &mut RawFront, at: u32, place: u
     OK
 }
 
-/// Removes the member after `at`, or the first member if `at` is [`NONE`], and stores its number in `removed`, or returns [`NULL`] if there is none.
-/// O(1).
+/// Removes the member after `at`, or the first member if `at` is [`NONE`], and stores its number in `removed`. The call returns [`NULL`] if there is
+/// no such member. O(1).
 ///
-/// If the place after `at` is not linked, it returns [`BROKEN`].
+/// If the place after `at` is not linked, the call returns [`BROKEN`].
 #[inline]
 pub fn remove_after(table: &mut [RawOne], list: &mut RawFront, at: u32, removed: &mut u32) -> u32
     ensures { RemoveCall table.old table.new list.old list.new result (place_of at) removed.old removed.new }
@@ -118,10 +118,10 @@ pub fn remove_after(table: &mut [RawOne], list: &mut RawFront, at: u32, removed:
     OK
 }
 
-/// Inserts a place where the member after `at` is, or where the first member is if `at` is [`NONE`]. It removes that member and stores its number in
-/// `replaced`. It returns [`NULL`] if there is none. O(1).
+/// Inserts a place at the position of the member after `at`, or of the first member if `at` is [`NONE`]. The call removes this member and stores its
+/// number in `replaced`, or returns [`NULL`] if there is no such member. O(1).
 ///
-/// The place must belong to the table and must not be linked. If the place after `at` is not linked, it returns [`BROKEN`].
+/// The place must belong to the table and must not be linked. If the place after `at` is not linked, the call returns [`BROKEN`].
 #[inline]
 pub fn replace_after(
     table: &mut [RawOne],
@@ -150,8 +150,8 @@ pub fn replace_after(
 
 /// Moves all members of `given` after the member `at`, or to the front if `at` is [`NONE`], and leaves `given` empty.
 ///
-/// It reads one entry of the table for each member of `given`. If the place after `at` is not linked, it returns [`BROKEN`]. It also does if both
-/// lists begin with the same member, as if `given` is the list itself, or if the links of `given` lead to no end.
+/// The call reads one entry of the table for each member of `given`. If the place after `at` is not linked, the call returns [`BROKEN`]. It also
+/// returns [`BROKEN`] if both lists begin with the same member, for example if `given` is the list itself, or if the links of `given` lead to no end.
 #[inline]
 pub fn splice_after(table: &mut [RawOne], list: &mut RawFront, at: u32, given: &mut RawFront) -> u32
     ensures { SpliceCall table.old table.new list.old list.new result (place_of at) given.old given.new }
@@ -169,7 +169,7 @@ pub fn splice_after(table: &mut [RawOne], list: &mut RawFront, at: u32, given: &
 
 /// Moves all members after the member `at` to `rest`, or all members of the list if `at` is [`NONE`]. O(1).
 ///
-/// If `rest` is not empty, or the place after `at` is not linked, it returns [`BROKEN`].
+/// If `rest` is not empty, or the place after `at` is not linked, the call returns [`BROKEN`].
 #[inline]
 pub fn split_after(table: &mut [RawOne], list: &mut RawFront, at: u32, rest: &mut RawFront) -> u32
     ensures { SplitCall table.old table.new list.old list.new result (place_of at) rest.old rest.new }
@@ -188,7 +188,7 @@ pub fn split_after(table: &mut [RawOne], list: &mut RawFront, at: u32, rest: &mu
 
 /// Removes and unlinks all members. O(n).
 ///
-/// If the links lead to no end of the list, it returns [`BROKEN`].
+/// If the links lead to no end of the list, the call returns [`BROKEN`].
 #[inline]
 pub fn clear(table: &mut [RawOne], list: &mut RawFront) -> u32
     ensures { ClearCall table.old table.new list.old list.new result }

@@ -1,4 +1,4 @@
-//! The statuses that the calls return.
+//! Each call returns one of the statuses of this module.
 //!
 //! ```text
 //! if (ic_list_push_back(links, places, &list, place) != IC_OK) ..
@@ -19,8 +19,8 @@ pub const NOT_LINKED: u32 = 3;
 /// The caller named no place where one is needed, or there is no member of the kind that the call looks for.
 pub const NULL: u32 = 4;
 
-/// The links contradict one another or the arguments: for example, the named member is not a member of this list.
+/// The links contradict one another or the arguments. For example, the caller names a place that is not a member of the list.
 pub const BROKEN: u32 = 5;
 
-/// The number that stands for no place.
+/// The number that a caller passes to name no place.
 pub const NONE: u32 = 4_294_967_295;

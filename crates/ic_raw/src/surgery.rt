@@ -1,4 +1,4 @@
-//! Inserts and removals of tree members over a view of the table, with a trait by which a caller can see which words they write.
+//! This module inserts and removes members of a tree over a view of the table. By a trait, a caller can see which words an edit writes.
 //!
 //! ```text
 //! search_calls::insert_by(&mut Plain, table, keys, tree, 7) // as `insert`
@@ -22,8 +22,9 @@ use ic_unsafe_ref::Place;
 
 /// An implementation of insertions and removals in a tree, over a view of the table.
 pub trait Surgery {
-    // What the implementation, between two states of its own, has recorded about the words written between two states of the table.
-    ghost Tells: { Self → Self → Table RawThree → Table RawThree → Type 0 };
+    // `Reports a b old new` says what the implementation has recorded between its own states a and b. The record is about the words written between the
+    // states old and new of the table.
+    ghost Reports: { Self → Self → Table RawThree → Table RawThree → Type 0 };
 
     /// Inserts the place, as [`RBTree::attach`] does. O(log n).
     fn attach(
@@ -38,7 +39,7 @@ pub trait Surgery {
         ensures attached { Attaches seen_node (seen (lent_table links.old)) (seen (lent_table links.new)) (root_of tree.old) (root_of tree.new) parent side place }
         ensures safe { ClosesAt seen_node (seen (lent_table links.old)) (seen (lent_table links.new)) (root_of tree.old) (root_of tree.new) place (Some place ∷ parent ∷ []) }
         ensures keeps_links { KeepsMarks (lent_table links.old) (lent_table links.new) }
-        ensures told { Tells self.old self.new (lent_table links.old) (lent_table links.new) };
+        ensures told { Reports self.old self.new (lent_table links.old) (lent_table links.new) };
 
     /// Removes the member, as [`RBTree::unlink`] does. O(log n).
     fn unlink(&mut self, links: &mut RawTable<'_, RawThree>, tree: &mut RBTree<()>, place: Place)
@@ -46,15 +47,15 @@ pub trait Surgery {
         ensures taken { TakesAway seen_node (seen (lent_table links.old)) (seen (lent_table links.new)) (root_of tree.old) (root_of tree.new) place }
         ensures safe { StaysClosed seen_node (seen (lent_table links.old)) (seen (lent_table links.new)) (root_of tree.old) (root_of tree.new) (Some place ∷ []) [] }
         ensures keeps_links { KeepsMarks (lent_table links.old) (lent_table links.new) }
-        ensures told { Tells self.old self.new (lent_table links.old) (lent_table links.new) };
+        ensures told { Reports self.old self.new (lent_table links.old) (lent_table links.new) };
 }
 
-/// The plain insertions and removals, which record nothing.
+/// The implementation that inserts and removes members and records nothing.
 #[derive(Drop)]
 pub struct Plain;
 
 impl Surgery for Plain {
-    ghost Tells = { λ a b old new. Unit {0} };
+    ghost Reports = { λ a b old new. Unit {0} };
 
     #[inline(always)]
     fn attach(

@@ -1,4 +1,4 @@
-//! A table over words that a caller lends.
+//! A table has one entry for each place. The entries are words that a caller lends.
 //!
 //! ```text
 //! let mut links = RawTable::new(words);
@@ -26,7 +26,7 @@ use ic_unsafe_ref::Place;
 /// A view of the words of a table, with one element for each place.
 ///
 /// Words of 4 bytes can name only the first 536,870,911 places. Later places do not belong to the table. The view implements the link traits of the
-/// collections that its words can serve. `LentTable` of `ic_link_ops` does the same over a generic type of links, which C cannot pass.
+/// collections that its words can serve. `LentTable` of `ic_link_ops` is such a view over a generic type of links, which C cannot pass.
 pub struct RawTable<'a, W> {
     pub(crate) entries: &'a mut [W],
 }
@@ -64,7 +64,7 @@ impl<W: Words> RawTable<'_, W> {
     pub fn covers(&self, place: Place) -> bool
         ensures { IsTrue result ↔ IsCovered (nameable_table W.width W.unlinked self.now) place }
     {
-        // Indices begin at 0 and words at 1. Written like this, the test takes one instruction less.
+        // The comparison adds 1 to the index, because this takes one instruction less: indices begin at 0, and words at 1.
         place.index() + 1 <= self.places()
     }
 
@@ -90,7 +90,7 @@ impl<W: Words> RawTable<'_, W> {
         place.index()
     }
 
-    // The index of the words of a place that is linked.
+    // Returns the index at which the words of a linked place are.
     #[inline]
     fn slot_of_linked(&self, place: Place) -> usize
         requires linked { IsLinked W.is_linked (nameable_table W.width W.unlinked self.now) place }
@@ -178,7 +178,7 @@ impl<W: Words> RawTable<'_, W> {
 
     /// Returns why a call at this member is refused: the member's fault, or else [`BROKEN`]. O(1).
     ///
-    /// It takes a place, so that a caller that has one need not keep its number.
+    /// The argument is a place and not its number, so that a caller that has the place need not keep the number.
     #[cold]
     #[inline(never)]
     pub fn refusal_of(&self, member: Place) -> u32
@@ -225,7 +225,7 @@ impl<W: Words> RawTable<'_, W> {
         BROKEN
     }
 
-    /// Returns why `place` is not inserted at the member `at`: the fault of `at`, else that of `place`, or else [`BROKEN`]. O(1).
+    /// Returns why `place` is not inserted at the member `at`: the fault of `at`, else the fault of `place`, or else [`BROKEN`]. O(1).
     #[cold]
     #[inline(never)]
     pub fn refusal(&self, at: u32, place: u32) -> u32
@@ -245,9 +245,9 @@ impl<W: Words> RawTable<'_, W> {
     }
 }
 
-/// Returns why `place` is not inserted at an end: its fault, or else [`BROKEN`]. O(1).
+/// Returns why `place` is not inserted at an end of a list: the fault of `place`, or else [`BROKEN`]. O(1).
 ///
-/// It borrows the words instead of the view, so that the compiler keeps no view in memory for a refused call.
+/// The function borrows the words instead of the view, so that the compiler keeps no view in memory for a refused call.
 #[cold]
 #[inline(never)]
 pub(crate) fn refusal_at_end<W: Words>(words: &mut [W], place: u32) -> u32

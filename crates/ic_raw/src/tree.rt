@@ -1,4 +1,4 @@
-//! The red-black tree: what its calls test, and its edits over a view of the table.
+//! This module has what the calls of red-black trees test, and their edits over a view of the table.
 //!
 //! ```text
 //! let made = remove(&mut Plain, &mut links, &mut tree, member);
@@ -16,7 +16,7 @@ ghost use Rattle.ic_raw.specs.declared.status.TheConstants.{OK, NULL, BROKEN};
 ghost use Rattle.ic_raw.specs.Answers.{IsFound, refusal};
 ghost use Rattle.ic_raw.specs.Gaps.{IsNoneOrLinked, before};
 ghost use Rattle.ic_raw.specs.Seen.{IsWithin, StaysWithin, HandsOutStep, StepEndsIn, has_place};
-ghost use Rattle.ic_raw.specs.Surgery.{TellsOfInsertion, TellsOfRemoval};
+ghost use Rattle.ic_raw.specs.Surgery.{ReportsInsertion, ReportsRemoval};
 ghost use Rattle.ic_raw.specs.Tables.{IsFree, member_fault};
 ghost use Rattle.ic_raw.specs.Words.{is_linked_three, place_of, HasNumber};
 ghost use Rattle.ic_raw.specs.Tree.{Represents, IsInsertPos, TellsInsertPos, lent_table, node};
@@ -33,8 +33,8 @@ use ic_unsafe_ref::Place;
 /// A tree that belongs to the caller.
 pub(crate) type Tree = RBTree<()>;
 
-// Returns whether the root is a linked place of the table. It compares words, which takes no shift, and one test excludes both `None` and a place
-// beyond the table.
+// Returns whether the root is a linked place of the table. The function compares words, so that it needs no shift, and one test excludes both `None`
+// and a place beyond the table.
 #[inline]
 fn has_root(links: &RawTable<'_, RawThree>, tree: &Tree) -> bool
     ensures root { result ≡ true → IsNoneOrLinked is_linked_three (lent_table links.now) (root_of tree.now) }
@@ -49,7 +49,7 @@ fn has_root(links: &RawTable<'_, RawThree>, tree: &Tree) -> bool
     links.at(root).is_linked()
 }
 
-// Returns whether the place is `None`, or is linked and the root is linked, too.
+// Returns whether the place `at` and the root are linked. If `at` is `None`, the function returns whether the root is `None` or linked.
 #[inline]
 pub(crate) fn stand(links: &RawTable<'_, RawThree>, tree: &Tree, at: Option<Place>) -> bool
     ensures at { result ≡ true → IsNoneOrLinked is_linked_three (lent_table links.now) at }
@@ -68,8 +68,8 @@ pub(crate) fn stand(links: &RawTable<'_, RawThree>, tree: &Tree, at: Option<Plac
     }
 }
 
-// Returns whether the place may be a member of the tree: it and the root are linked, and it is the root if its words name no parent. This excludes
-// the root of another tree.
+// Returns whether the place may be a member of the tree: the place and the root are linked, and the place is the root if its words name no parent.
+// This test excludes the root of another tree.
 #[inline]
 fn may_hold(links: &RawTable<'_, RawThree>, tree: &Tree, member: Place) -> bool
     ensures at { result ≡ true → IsNoneOrLinked is_linked_three (lent_table links.now) (Some member) }
@@ -101,7 +101,7 @@ fn child(links: &RawTable<'_, RawThree>, place: Place, side: Side) -> Option<Pla
 
 // Returns whether a place can be inserted on this side of `at`: `at` has no child there, or `at` is `None` and the tree is empty.
 #[inline]
-fn is_hole(links: &RawTable<'_, RawThree>, tree: &Tree, side: Side, at: Option<Place>) -> bool
+fn is_insert_pos(links: &RawTable<'_, RawThree>, tree: &Tree, side: Side, at: Option<Place>) -> bool
     ensures at { result ≡ true → IsNoneOrLinked is_linked_three (lent_table links.now) at }
     ensures root { result ≡ true → IsNoneOrLinked is_linked_three (lent_table links.now) (root_of tree.now) }
     ensures links_back { result ≡ true → TellsInsertPos side (lent_table links.now) (root_of tree.now) at }
@@ -117,7 +117,7 @@ fn is_hole(links: &RawTable<'_, RawThree>, tree: &Tree, side: Side, at: Option<P
     }
 }
 
-// Marks the place as linked and returns it, if it belongs to the table and is not linked. Its words then name no other place.
+// Marks the place as linked and returns the place, if it belongs to the table and is not linked. The words of the place then name no other place.
 #[inline]
 fn acquire(links: &mut RawTable<'_, RawThree>, place: Option<Place>) -> Option<Place>
     ensures accepted { (p : Place) → place ≡ Some p → IsFree is_linked_three (lent_table links.old) p → result ≡ Some p }
@@ -139,8 +139,8 @@ fn acquire(links: &mut RawTable<'_, RawThree>, place: Option<Place>) -> Option<P
     Some(place)
 }
 
-// Inserts the place on this side of a place of the table, or as the root for `None`, if it belongs to the table and is not linked. It returns whether
-// it did.
+// Inserts the place on this side of the place `at` of the table, or as the root if `at` is `None`. The place must belong to the table and must not be
+// linked. The function returns whether it did.
 #[inline(always)]
 pub(crate) fn put<S: Surgery>(
     surgery: &mut S,
@@ -159,7 +159,7 @@ pub(crate) fn put<S: Surgery>(
     ensures within { result ≡ true
         → StaysWithin (lent_table links.old) (lent_table links.new) (root_of tree.old) (root_of tree.new) place None (at ∷ []) }
     ensures told { (p : Place) → place ≡ Some p → result ≡ true
-        → TellsOfInsertion S.Tells surgery.old surgery.new (lent_table links.old) (lent_table links.new) p }
+        → ReportsInsertion S.Reports surgery.old surgery.new (lent_table links.old) (lent_table links.new) p }
     ensures refused { result ≡ false → (links.new ≡ links.old) × (tree.new ≡ tree.old) }
     ensures extent { (lent_table links.new).extent ≡ (lent_table links.old).extent }
 {
@@ -170,7 +170,7 @@ pub(crate) fn put<S: Surgery>(
     true
 }
 
-// Inserts the place on this side of a member, or as the only member for `None`, and returns whether it did.
+// Inserts the place on this side of the member `at`, or as the only member if `at` is `None`, and returns whether it did.
 #[inline(always)]
 pub(crate) fn insert<S: Surgery>(
     surgery: &mut S,
@@ -191,11 +191,11 @@ pub(crate) fn insert<S: Surgery>(
     ensures within { result ≡ true
         → StaysWithin (lent_table links.old) (lent_table links.new) (root_of tree.old) (root_of tree.new) place None (at ∷ []) }
     ensures told { (p : Place) → place ≡ Some p → result ≡ true
-        → TellsOfInsertion S.Tells surgery.old surgery.new (lent_table links.old) (lent_table links.new) p }
+        → ReportsInsertion S.Reports surgery.old surgery.new (lent_table links.old) (lent_table links.new) p }
     ensures refused { result ≡ false → (links.new ≡ links.old) × (tree.new ≡ tree.old) }
     ensures extent { (lent_table links.new).extent ≡ (lent_table links.old).extent }
 {
-    if !is_hole(&*links, &*tree, side, at) {
+    if !is_insert_pos(&*links, &*tree, side, at) {
         return false;
     }
     put(surgery, links, tree, side, at, place)
@@ -218,7 +218,7 @@ pub(crate) fn remove<S: Surgery>(
     ensures unlinked { result ≡ true → Unlinks is_linked_three (lent_table links.old) (lent_table links.new) member }
     ensures within { result ≡ true → StaysWithin (lent_table links.old) (lent_table links.new) (root_of tree.old) (root_of tree.new) None (Some member)
         (Some member ∷ []) }
-    ensures told { result ≡ true → TellsOfRemoval S.Tells surgery.old surgery.new (lent_table links.old) (lent_table links.new) member }
+    ensures told { result ≡ true → ReportsRemoval S.Reports surgery.old surgery.new (lent_table links.old) (lent_table links.new) member }
     ensures refused { result ≡ false → (links.new ≡ links.old) × (tree.new ≡ tree.old) }
     ensures extent { (lent_table links.new).extent ≡ (lent_table links.old).extent }
 {
@@ -230,7 +230,7 @@ pub(crate) fn remove<S: Surgery>(
     true
 }
 
-// Inserts the place where the member is, removes the member, and returns whether it did.
+// Inserts the place at the position of the member, removes the member, and returns whether it did.
 #[inline]
 pub(crate) fn replace(
     links: &mut RawTable<'_, RawThree>,
@@ -264,7 +264,7 @@ pub(crate) fn replace(
     true
 }
 
-// Stores the number of the member, if there is one and it is linked, and returns whether it did.
+// Stores the number of the member in `found`, if there is a member and it is linked, and returns whether it did.
 #[inline(always)]
 fn tell(links: &RawTable<'_, RawThree>, member: Option<Place>, found: &mut u32) -> bool
     requires { IsIn (has_place (lent_table links.now)) member }
@@ -295,7 +295,7 @@ fn nothing_told(member: Option<Place>) -> u32
     }
 }
 
-// The same, not inlined, so that a walk uses no register for a status that calls seldom return.
+// Returns what `nothing_told` returns. The function is not inlined, so that a walk uses no register for a status that calls seldom return.
 #[cold]
 #[inline(never)]
 fn nothing_found(member: Option<Place>) -> u32
@@ -306,7 +306,7 @@ fn nothing_found(member: Option<Place>) -> u32
     nothing_told(member)
 }
 
-// Stores the number of the member, or returns the status of the refusal: there is none, or the place is not linked.
+// Stores the number of the member in `found`, or returns the status of the refusal: there is no member, or its place is not linked.
 #[inline]
 pub(crate) fn hand_out(
     links: &RawTable<'_, RawThree>,
@@ -326,9 +326,9 @@ pub(crate) fn hand_out(
     nothing_told(member)
 }
 
-// Stores the number of the outermost member on the side opposite to this one.
+// Stores in `found` the number of the outermost member on the side opposite to `side`.
 //
-// It is not inlined, so that a step from a member uses no register for it.
+// The function is not inlined, so that a step from a member uses no register for this case.
 #[inline(never)]
 fn step_from_none(links: &RawTable<'_, RawThree>, tree: &Tree, side: Side, found: &mut u32) -> u32
     ensures found { (cut : Cut) (member : Option Place) → Represents (lent_table links.now) (root_of tree.now) (join cut)
@@ -345,7 +345,7 @@ fn step_from_none(links: &RawTable<'_, RawThree>, tree: &Tree, side: Side, found
     hand_out(links, step_bounded(links, tree.root(), None, side), found)
 }
 
-// Stores the number of the member on this side of another one, or for `None` of the outermost member on the opposite side.
+// Stores in `found` the number of the member on this side of the member `at`, or of the outermost member on the opposite side if `at` is none.
 #[inline(always)]
 pub(crate) fn step(
     links: &RawTable<'_, RawThree>,

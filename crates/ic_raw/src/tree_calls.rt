@@ -1,4 +1,4 @@
-//! The calls of red-black trees without keys: edits and steps. A place is a number, and a tree is one word.
+//! This module has the calls of red-black trees without keys, which are edits and steps. A place is a number, and a tree is one word.
 //!
 //! ```text
 //! insert_at(table, tree, Side::Left, NONE, 7) // OK: the only member
@@ -10,7 +10,7 @@ ghost use Rattle.std.specs.Prelude.{◌≡◌, Some};
 ghost use Rattle.ic_link_ops.specs.Prelude.{Place};
 ghost use Rattle.ic_rbtree.specs.Tree.{root_of};
 ghost use Rattle.ic_raw.specs.declared.status.TheConstants.{OK};
-ghost use Rattle.ic_raw.specs.Surgery.{HoldsOfViews, TellsOfInsertion, TellsOfRemoval};
+ghost use Rattle.ic_raw.specs.Surgery.{HoldsOfViews, ReportsInsertion, ReportsRemoval};
 ghost use Rattle.ic_raw.specs.Words.{place_of};
 ghost use Rattle.ic_raw.specs.Tree.{root_in};
 ghost use Rattle.ic_raw.specs.TreeCalls.{ClearCall, InsertCall, RemoveCall, ReplaceCall, StepCall};
@@ -32,10 +32,12 @@ pub(crate) fn tree_of(words: &RawRoot) -> tree::Tree
     RBTree::from_root((), place_in(words.root))
 }
 
-/// Inserts the place with that number as the child on this side of the member `at`, or as the only member if `at` is [`NONE`](crate::NONE). O(log n).
+/// Inserts the place with the number `place` as the child on this side of the member `at`, or as the only member if `at` is [`NONE`](crate::NONE).
+/// O(log n).
 ///
-/// The place must belong to the table and must not be linked. A refused edit leaves the words as they are, and returns the first fault of the two, or
-/// else [`BROKEN`](crate::BROKEN), for example if the member already has such a child, or if `at` is none and the tree has members.
+/// The place must belong to the table and must not be linked. A refused edit leaves the words as they are, and returns the first fault of the two
+/// places, or else [`BROKEN`](crate::BROKEN). For example, the call returns [`BROKEN`](crate::BROKEN) if the member already has a child on this side,
+/// or if `at` is none and the tree has members.
 #[inline]
 pub fn insert_at(table: &mut [RawThree], tree: &mut RawRoot, side: Side, at: u32, place: u32) -> u32
     ensures { InsertCall table.old table.new tree.old tree.new result side (place_of at) (place_of place) }
@@ -43,7 +45,7 @@ pub fn insert_at(table: &mut [RawThree], tree: &mut RawRoot, side: Side, at: u32
     insert_at_by(&mut Plain, table, tree, side, at, place)
 }
 
-/// The same call, with an implementation of [`Surgery`] of the caller's, which sees which words the edit writes.
+/// Inserts a place as `insert_at` does, with an implementation of [`Surgery`] that the caller passes and that sees which words the edit writes.
 #[inline]
 pub fn insert_at_by<S: Surgery>(
     by: &mut S,
@@ -55,7 +57,7 @@ pub fn insert_at_by<S: Surgery>(
 ) -> u32
     ensures call { InsertCall table.old table.new tree.old tree.new result side (place_of at) (place_of place) }
     ensures told { (p : Place) → place_of place ≡ Some p → result ≡ OK
-        → HoldsOfViews table.old table.new (λ old new. TellsOfInsertion S.Tells by.old by.new old new p) }
+        → HoldsOfViews table.old table.new (λ old new. ReportsInsertion S.Reports by.old by.new old new p) }
 {
     let mut links = RawTable::new(table);
     let mut edited = tree_of(&*tree);
@@ -81,12 +83,12 @@ pub fn remove(table: &mut [RawThree], tree: &mut RawRoot, at: u32) -> u32
     remove_by(&mut Plain, table, tree, at)
 }
 
-/// The same call, with an implementation of [`Surgery`] of the caller's, which sees which words the edit writes.
+/// Removes a member as `remove` does, with an implementation of [`Surgery`] that the caller passes and that sees which words the edit writes.
 #[inline]
 pub fn remove_by<S: Surgery>(by: &mut S, table: &mut [RawThree], tree: &mut RawRoot, at: u32) -> u32
     ensures call { RemoveCall table.old table.new tree.old tree.new result (place_of at) }
     ensures told { (p : Place) → place_of at ≡ Some p → result ≡ OK
-        → HoldsOfViews table.old table.new (λ old new. TellsOfRemoval S.Tells by.old by.new old new p) }
+        → HoldsOfViews table.old table.new (λ old new. ReportsRemoval S.Reports by.old by.new old new p) }
 {
     let Some(member) = place_of(at) else {
         return NULL;
@@ -100,7 +102,7 @@ pub fn remove_by<S: Surgery>(by: &mut S, table: &mut [RawThree], tree: &mut RawR
     OK
 }
 
-/// Inserts a place where the member `at` is, and removes `at`, or returns [`NULL`](crate::NULL) if `at` is [`NONE`](crate::NONE). O(1).
+/// Inserts a place at the position of the member `at`, and removes `at`, or returns [`NULL`](crate::NULL) if `at` is [`NONE`](crate::NONE). O(1).
 ///
 /// The place must belong to the table and must not be linked.
 #[inline]
@@ -119,10 +121,10 @@ pub fn replace(table: &mut [RawThree], tree: &mut RawRoot, at: u32, place: u32) 
     OK
 }
 
-/// Stores the number of the member on this side of `at` in `found`. If `at` is [`NONE`](crate::NONE), this is the outermost member on the other side.
-/// It returns [`NULL`] if there is none. It writes nothing else. O(log n), and O(1) on average over a walk.
+/// Stores in `found` the number of the member on this side of `at`. If `at` is [`NONE`](crate::NONE), the member is the outermost one on the opposite
+/// side. The call returns [`NULL`] if there is no such member. The call writes nothing else. O(log n), and O(1) on average over a walk.
 ///
-/// It returns the fault of the member, or [`BROKEN`](crate::BROKEN) if the links lead to a place that is not linked.
+/// The call returns the fault of the member, or [`BROKEN`](crate::BROKEN) if the links lead to a place that is not linked.
 #[inline(always)]
 pub fn step_at(table: &mut [RawThree], tree: &RawRoot, side: Side, at: u32, found: &mut u32) -> u32
     ensures { StepCall table.old table.new tree.now result side (place_of at) found.old found.new }
@@ -133,7 +135,8 @@ pub fn step_at(table: &mut [RawThree], tree: &RawRoot, side: Side, at: u32, foun
 
 /// Removes and unlinks all members. O(n).
 ///
-/// If steps from the first member do not lead through linked places to an end, within as many steps as the table has places, it returns [`BROKEN`].
+/// If steps from the first member do not lead through linked places to an end, within as many steps as the table has places, the call returns
+/// [`BROKEN`].
 #[inline]
 pub fn clear(table: &mut [RawThree], tree: &mut RawRoot) -> u32
     ensures { ClearCall table.old table.new tree.old tree.new result }

@@ -1,4 +1,4 @@
-//! Removal of all members of a tree at once.
+//! This module removes all members of a tree at once.
 //!
 //! ```text
 //! clear(&mut links, &tree) // whether it could: each member is unlinked then
@@ -14,7 +14,7 @@ ghost use Rattle.ic_raw.specs.Calls.{Clears};
 ghost use Rattle.ic_raw.specs.Gaps.{IsNoneOrLinked};
 ghost use Rattle.ic_raw.specs.Seen.{seen, seen_node, has_place, StepEndsIn};
 ghost use Rattle.ic_raw.specs.Tree.{Represents, lent_table};
-ghost use Rattle.ic_raw.specs.WholeTree.{IsSeen, LeadsToEnd, OnlyUnmarks, unmarked};
+ghost use Rattle.ic_raw.specs.TreeShape.{IsSeen, LeadsToEnd, OnlyUnmarks, unmarked};
 ghost use Rattle.ic_raw.specs.Words.{is_linked_three};
 
 use crate::table::RawTable;
@@ -35,7 +35,8 @@ fn has(links: &RawTable<'_, RawThree>, place: Option<Place>) -> bool
     }
 }
 
-// Returns the member after a place, or the first member for `None`. The outer result is `None` if the place or the root does not belong to the table.
+// Returns the member after the place `at`, or the first member if `at` is `None`. The result is `None` if there is no such member, or if `at` or the
+// root does not belong to the table.
 #[inline]
 fn next_of(links: &RawTable<'_, RawThree>, tree: &Tree, at: Option<Place>) -> Option<Place>
     ensures leads { (gap : Cut) → IsSeen (lent_table links.now) (root_of tree.now) (join gap) → IsAfter gap at → IsBefore gap result }
@@ -73,7 +74,7 @@ fn leads_to_end(links: &RawTable<'_, RawThree>, tree: &Tree) -> bool
     at.is_none()
 }
 
-// Clears the mark of a linked place. Its words name the same places as before, so that steps still find their way.
+// Clears the mark of a linked place. The words of the place name the same places as before, so that steps can still follow them.
 #[inline]
 fn unmark(links: &mut RawTable<'_, RawThree>, place: Place)
     requires covered { IsCovered (lent_table links.old) place }
@@ -108,7 +109,7 @@ fn unmark_all(links: &mut RawTable<'_, RawThree>, tree: &Tree)
     }
 }
 
-// Removes all members, if steps lead from the first one to an end, and returns whether it did.
+// Removes all members, if steps lead from the first member to an end, and returns whether it did.
 pub(crate) fn clear(links: &mut RawTable<'_, RawThree>, tree: &Tree) -> bool
     ensures cleared { (s : List Place) → Represents (lent_table links.old) (root_of tree.now) s
         → (result ≡ true) × Clears is_linked_three (lent_table links.old) (lent_table links.new) s }

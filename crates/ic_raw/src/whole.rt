@@ -1,4 +1,4 @@
-//! Removal of all members of a list at once.
+//! This module removes all members of a list at once.
 //!
 //! ```text
 //! let made = clear_list(&mut links, &mut list);
@@ -40,8 +40,8 @@ pub(crate) fn clear_stack(links: &mut RawTable<'_, RawOne>, list: &mut Stack) ->
     true
 }
 
-// Returns whether the links lead from the first member to the last within as many steps as the table has places, and each member names the one before
-// it.
+// Returns whether the links lead from the first member to the last within as many steps as the table has places, and each member names the member
+// before it.
 fn leads_to_last<W: ListWords>(links: &RawTable<'_, W>, list: &List) -> bool
     ensures ended { result ≡ true → (s : List Place) × doubly.Represents W.PrevPlace (lent_table W.PrevPlace links.now) list.now s }
     ensures shown { (s : List Place) → doubly.Represents W.PrevPlace (lent_table W.PrevPlace links.now) list.now s → result ≡ true }

@@ -1,4 +1,4 @@
-//! The words that cross to C. Every pattern of bits is a value, and zeroed memory is a table of unlinked places, or an empty
+//! The words of a table, a list or a tree cross to C. Every pattern of bits is a value, and zeroed memory is a table of unlinked places, or an empty
 //! list or tree.
 //!
 //! ```text
@@ -26,15 +26,15 @@ use std::cmp::min;
 
 /// The words of a place in a table of singly linked lists or of XOR lists.
 ///
-/// The lowest bit says whether the place is linked. The others are the word for the next place, or the exclusive or of the words for
-/// both neighbors, where a place has the word `8 * (index + 1)` and none has 0.
+/// The lowest bit says whether the place is linked. In a singly linked list, the other bits are the word for the next place. In an XOR list, they are
+/// the exclusive or of the words for both neighbors. The word for a place is `8 * (index + 1)`, and the word for none is 0.
 #[repr(C)]
 #[derive(Clone, Copy)]
 pub struct RawOne {
     next: u64,
 }
 
-/// The words of a place in a table of doubly linked lists: that of [`RawOne`], and the word for the previous place.
+/// The words of a place in a table of doubly linked lists: the word of [`RawOne`] for the next place, and the word for the previous place.
 #[repr(C)]
 #[derive(Clone, Copy)]
 pub struct RawTwo {
@@ -42,7 +42,7 @@ pub struct RawTwo {
     prev: u64,
 }
 
-/// The words of a place in a table of doubly linked lists or of rings with words of 4 bytes. They are those of [`RawTwo`], and can name only places
+/// The words of a place in a table of doubly linked lists or of rings, with 4 bytes each. They are the words of [`RawTwo`], and can name only places
 /// with an index below 536,870,911. Later places are out of range.
 #[repr(C)]
 #[derive(Clone, Copy)]
@@ -51,9 +51,9 @@ pub struct RawNarrowTwo {
     prev: u32,
 }
 
-/// The words of a place in a table of trees: those for its children and for its parent.
+/// The words of a place in a table of trees: the words for its two children and for its parent.
 ///
-/// The lowest bit of the left child's word says whether the place is linked, and the lowest bit of the parent's word says whether it is black.
+/// The lowest bit of the left child's word says whether the place is linked, and the lowest bit of the parent's word says whether the place is black.
 #[repr(C)]
 #[derive(Clone, Copy)]
 pub struct RawThree {
@@ -62,36 +62,37 @@ pub struct RawThree {
     pub(crate) parent: u64,
 }
 
-/// A singly linked list: the word for its first place.
+/// A singly linked list is the word for its first place.
 #[repr(C)]
 #[derive(Clone, Copy)]
 pub struct RawFront {
-    /// The word for the first place, 0 for none.
+    /// The word for the first place. It is 0 if the list is empty.
     pub head: u64,
 }
 
-/// A doubly linked list or an XOR list: the words for its first place and for its last.
+/// A doubly linked list or an XOR list is two words: one for its first place and one for its last place.
 #[repr(C)]
 #[derive(Clone, Copy)]
 pub struct RawEnds {
-    /// The word for the first place, 0 for none.
+    /// The word for the first place. It is 0 if the list is empty.
     pub head: u64,
-    /// The word for the last place, 0 for none.
+    /// The word for the last place. It is 0 if the list is empty.
     pub tail: u64,
 }
 
-/// A red-black tree: the word for its root.
+/// A red-black tree is the word for its root.
 #[repr(C)]
 #[derive(Clone, Copy)]
 pub struct RawRoot {
-    /// The word for the root, 0 for none.
+    /// The word for the root. It is 0 if the tree is empty.
     pub root: u64,
 }
 
-/// Words of doubly linked lists, of either width. One comparison of a word tests whether a given place is linked beside this one.
+/// The words of a place in a doubly linked list, of 8 bytes or of 4 bytes. One comparison of a word tests whether the place is linked and has a given
+/// neighbor.
 ///
-/// The last two methods test for exactly the bits that a call writes. If they fail, a call tests the words again, ignoring the bits that have no
-/// meaning.
+/// The methods `is_before` and `is_after` test for exactly the bits that a call writes. If such a test fails, a call tests the words again and
+/// ignores the bits that have no meaning.
 pub trait ListWords: PrevPlace {
     ghost use Rattle.std.specs.Prelude.{◌≡◌, true};
     ghost use Rattle.ic_link_ops.specs.Prelude.{place_at};
@@ -447,7 +448,7 @@ impl Words for RawThree {
 }
 
 impl RawFront {
-    // Writes the word of this first place.
+    // Writes the word of the first place.
     #[inline]
     #[tactic(auto, using(crate::proofs::Entries::place_kept))]
     pub(crate) fn set(&mut self, first: Option<Place>)
@@ -459,7 +460,7 @@ impl RawFront {
 }
 
 impl RawEnds {
-    // Writes the word of this last place, and leaves that of the first as it is.
+    // Writes the word of the last place, and leaves the word of the first place as it is.
     #[inline]
     #[tactic(auto, using(crate::proofs::Entries::place_kept))]
     pub(crate) fn set_last(&mut self, last: Option<Place>)
@@ -469,7 +470,7 @@ impl RawEnds {
         self.tail = Place::to_word(last);
     }
 
-    // Writes the word of this first place, and leaves that of the last as it is.
+    // Writes the word of the first place, and leaves the word of the last place as it is.
     #[inline]
     #[tactic(auto, using(crate::proofs::Entries::place_kept))]
     pub(crate) fn set_first(&mut self, first: Option<Place>)
@@ -479,7 +480,7 @@ impl RawEnds {
         self.head = Place::to_word(first);
     }
 
-    // Writes the words of these ends.
+    // Writes the words of the first and the last place.
     #[inline]
     #[tactic(auto, using(crate::proofs::Entries::place_kept))]
     pub(crate) fn set(&mut self, first: Option<Place>, last: Option<Place>)
@@ -502,7 +503,7 @@ impl RawEnds {
 }
 
 impl RawRoot {
-    // Writes the word of this root.
+    // Writes the word of the root.
     #[inline]
     #[tactic(auto, using(crate::proofs::Entries::place_kept))]
     pub(crate) fn set(&mut self, root: Option<Place>)

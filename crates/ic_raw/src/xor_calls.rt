@@ -1,4 +1,5 @@
-//! The calls of XOR linked lists. A place is a number, a list is two words, and an edit names the neighbors between which it inserts or cuts.
+//! This module has the calls of XOR linked lists. A place is a number, and a list is two words. An edit names the neighbors between which it inserts
+//! or cuts.
 //!
 //! ```text
 //! push_back(table, list, 7)            // OK
@@ -9,7 +10,7 @@
 ghost use Rattle.std.specs.Prelude.{◌≡◌, ◌≢◌, ◌++◌, ◌∷◌, [], List, reverse, Some, None, true, false};
 ghost use Rattle.ic_link_ops.specs.Prelude.{Place, Cut, join, last, IsAfter, IsBefore, IsDisjoint, Table, acquires, releases};
 ghost use Rattle.ic_link_ops.specs.Chains.{no_members};
-ghost use Rattle.ic_raw.specs.declared.gap.Side.TheVariants.{After, Before};
+ghost use Rattle.ic_raw.specs.declared.gap.GapSide.TheVariants.{After, Before};
 ghost use Rattle.ic_raw.specs.declared.status.TheConstants.{OK, NULL};
 ghost use Rattle.ic_raw.specs.declared.words.RawOne.{RawOne};
 ghost use Rattle.ic_raw.specs.Gaps.{PutIn, TakenOut, Turns, gap_between};
@@ -66,7 +67,7 @@ fn refusal_with_both(links: &RawTable<'_, RawOne>, one: u32, other: u32, place: 
     links.refusal(other, place)
 }
 
-// Inserts the place between two neighbors, and returns whether it did. Always inlined, as the edit itself is.
+// Inserts the place between two neighbors, and returns whether it did. The function is always inlined, as the edit itself is.
 #[inline(always)]
 fn put(
     table: &mut [RawOne],
@@ -98,7 +99,7 @@ fn put(
 }
 
 // Returns whether `end` is a linked place with a linked neighbor, as both ends of a list of two members or more are. Calls that know this have little
-// else to test and write. The proof of what they do rests on their own tests, not on this one.
+// else to test and write. The proof of a call rests on the call's own tests, and not on this function.
 #[inline(always)]
 fn has_neighbor(table: &mut [RawOne], end: Option<Place>) -> bool
     ensures kept { table.new ≡ table.old }
@@ -116,7 +117,7 @@ fn has_neighbor(table: &mut [RawOne], end: Option<Place>) -> bool
     links.is_linked(neighbor)
 }
 
-// Inserts a place between the two neighbors that these words name, of which one is none, or returns the status of the refusal.
+// Inserts a place between the neighbors that the words `before` and `after` name, of which one is none, or returns the status of the refusal.
 #[cold]
 #[inline(never)]
 fn put_slow(table: &mut [RawOne], list: &mut RawEnds, place: u32, before: u64, after: u64) -> u32
@@ -134,9 +135,9 @@ fn put_slow(table: &mut [RawOne], list: &mut RawEnds, place: u32, before: u64, a
     OK
 }
 
-/// Inserts a place at the front. O(1).
+/// Inserts a place at the front of the list. O(1).
 ///
-/// The place must belong to the table and must not be linked. If the first member does not belong to the table, it returns [`BROKEN`].
+/// The place must belong to the table and must not be linked. If the first member does not belong to the table, the call returns [`BROKEN`].
 #[inline]
 pub fn push_front(table: &mut [RawOne], list: &mut RawEnds, place: u32) -> u32
     ensures { PushCall table.old table.new list.old list.new result None (ends_of list.old).head (place_of place) }
@@ -149,9 +150,9 @@ pub fn push_front(table: &mut [RawOne], list: &mut RawEnds, place: u32) -> u32
     put_slow(table, list, place, 0, word)
 }
 
-/// Inserts a place at the back. O(1).
+/// Inserts a place at the back of the list. O(1).
 ///
-/// The place must belong to the table and must not be linked. If the last member does not belong to the table, it returns [`BROKEN`].
+/// The place must belong to the table and must not be linked. If the last member does not belong to the table, the call returns [`BROKEN`].
 #[inline]
 pub fn push_back(table: &mut [RawOne], list: &mut RawEnds, place: u32) -> u32
     ensures { PushCall table.old table.new list.old list.new result (ends_of list.old).tail None (place_of place) }
@@ -229,7 +230,7 @@ fn pop_front_slow(table: &mut [RawOne], list: &mut RawEnds, popped: &mut u32) ->
 
 /// Removes the first member and stores its number in `popped`, or returns [`NULL`] if there is none. O(1).
 ///
-/// If the links beside the member do not lead back to it, it returns [`BROKEN`].
+/// If the links beside the member do not lead back to it, the call returns [`BROKEN`].
 #[inline]
 pub fn pop_front(table: &mut [RawOne], list: &mut RawEnds, popped: &mut u32) -> u32
     ensures { PopCall table.old table.new list.old list.new result After popped.old popped.new }
@@ -246,7 +247,7 @@ pub fn pop_front(table: &mut [RawOne], list: &mut RawEnds, popped: &mut u32) -> 
 
 /// Removes the last member and stores its number in `popped`, or returns [`NULL`] if there is none. O(1).
 ///
-/// If the links beside the member do not lead back to it, it returns [`BROKEN`].
+/// If the links beside the member do not lead back to it, the call returns [`BROKEN`].
 #[inline]
 pub fn pop_back(table: &mut [RawOne], list: &mut RawEnds, popped: &mut u32) -> u32
     ensures { PopCall table.old table.new list.old list.new result Before popped.old popped.new }
@@ -261,9 +262,9 @@ pub fn pop_back(table: &mut [RawOne], list: &mut RawEnds, popped: &mut u32) -> u
     OK
 }
 
-/// Inserts a place between the neighbors `before` and `after`, which are [`NONE`] beyond an end. O(1).
+/// Inserts a place between the neighbors `before` and `after`. One of them is [`NONE`] if the place goes to an end of the list. O(1).
 ///
-/// The place must belong to the table and must not be linked. If the two are not neighbors by their links, it returns [`BROKEN`].
+/// The place must belong to the table and must not be linked. If `before` and `after` are not neighbors by their links, the call returns [`BROKEN`].
 #[inline]
 pub fn insert_between(
     table: &mut [RawOne],
@@ -283,7 +284,7 @@ pub fn insert_between(
 
 /// Removes the member `at`, whose previous member is `before`, or returns [`NULL`] if `at` is [`NONE`]. O(1).
 ///
-/// If the links beside the member do not lead back to it, it returns [`BROKEN`].
+/// If the links beside the member do not lead back to it, the call returns [`BROKEN`].
 #[inline]
 pub fn remove(table: &mut [RawOne], list: &mut RawEnds, before: u32, at: u32) -> u32
     ensures { RemoveCall table.old table.new list.old list.new result (place_of before) (place_of at) }
@@ -297,9 +298,10 @@ pub fn remove(table: &mut [RawOne], list: &mut RawEnds, before: u32, at: u32) ->
     OK
 }
 
-/// Inserts a place where the member `at` is, whose previous member is `before`, and removes `at`, or returns [`NULL`] if `at` is [`NONE`]. O(1).
+/// Inserts a place at the position of the member `at`, whose previous member is `before`, and removes `at`. The call returns [`NULL`] if `at` is
+/// [`NONE`]. O(1).
 ///
-/// The place must belong to the table and must not be linked. If the links beside the member do not lead back to it, it returns [`BROKEN`].
+/// The place must belong to the table and must not be linked. If the links beside the member do not lead back to it, the call returns [`BROKEN`].
 #[inline]
 pub fn replace(table: &mut [RawOne], list: &mut RawEnds, before: u32, at: u32, place: u32) -> u32
     ensures { ReplaceCall table.old table.new list.old list.new result (place_of before) (place_of at) (place_of place) }
@@ -317,7 +319,7 @@ pub fn replace(table: &mut [RawOne], list: &mut RawEnds, before: u32, at: u32, p
     OK
 }
 
-// Moves all members of the given list between two neighbors, and returns whether it did.
+// Moves all members of the list `given` between two neighbors, and returns whether it did.
 #[inline]
 fn splice(
     table: &mut [RawOne],
@@ -355,8 +357,8 @@ fn splice(
 
 /// Moves all members of `given` between the neighbors `before` and `after`, and leaves `given` empty. O(1).
 ///
-/// If the two are not neighbors by their links, if the ends of `given` are not those of a list, or if both lists begin with the same member, it
-/// returns [`BROKEN`].
+/// If `before` and `after` are not neighbors by their links, the call returns [`BROKEN`]. It also returns [`BROKEN`] if the ends of `given` are not
+/// those of a list, or if both lists begin with the same member.
 #[inline]
 pub fn splice_between(
     table: &mut [RawOne],
@@ -375,8 +377,8 @@ pub fn splice_between(
 
 /// Moves all members of `given` to the back of the list, and leaves `given` empty. O(1).
 ///
-/// If both lists begin with the same member, as if `given` is the list itself, or if an end of one does not belong to the table, it returns
-/// [`BROKEN`].
+/// If both lists begin with the same member, for example if `given` is the list itself, the call returns [`BROKEN`]. It also returns [`BROKEN`] if an
+/// end of one list does not belong to the table.
 #[inline]
 pub fn append(table: &mut [RawOne], list: &mut RawEnds, given: &mut RawEnds) -> u32
     ensures { AppendCall table.old table.new list.old list.new result given.old given.new }
@@ -390,7 +392,7 @@ pub fn append(table: &mut [RawOne], list: &mut RawEnds, given: &mut RawEnds) -> 
 
 /// Cuts the list between the neighbors `before` and `after`, and moves the members from `after` on to `rest`. O(1).
 ///
-/// If the two are not neighbors by their links, or if `rest` is not empty, it returns [`BROKEN`].
+/// If `before` and `after` are not neighbors by their links, or if `rest` is not empty, the call returns [`BROKEN`].
 #[inline]
 pub fn split_between(
     table: &mut [RawOne],
@@ -415,7 +417,7 @@ pub fn split_between(
 
 /// Removes and unlinks all members. O(n).
 ///
-/// If the links do not lead from the first member to the last, it returns [`BROKEN`].
+/// If the links do not lead from the first member to the last, the call returns [`BROKEN`].
 #[inline]
 pub fn clear(table: &mut [RawOne], list: &mut RawEnds) -> u32
     ensures { ClearCall table.old table.new list.old list.new result }
@@ -428,7 +430,7 @@ pub fn clear(table: &mut [RawOne], list: &mut RawEnds) -> u32
     OK
 }
 
-/// Reverses the list. O(1): it reads no entry of the table, and always returns [`OK`].
+/// Reverses the list. O(1): the call reads no entry of the table, and always returns [`OK`].
 #[inline]
 pub fn reverse(list: &mut RawEnds) -> u32
     ensures ok { result ≡ OK }

@@ -1,4 +1,4 @@
-//! The XOR linked list: what its calls test, and its edits over a view of the table.
+//! This module has what the calls of XOR linked lists test, and their edits over a view of the table.
 //!
 //! ```text
 //! let made = insert(&mut links, &mut list, before, place, after);
@@ -24,10 +24,10 @@ use ic_link_ops::{LinkOps, Words};
 use ic_unsafe_ref::Place;
 use ic_xor_linked_list::XorLinkedList;
 
-/// A list that belongs to the caller.
+/// An XOR linked list that belongs to the caller.
 pub(crate) type List = XorLinkedList<()>;
 
-// Returns whether the place beyond `place` is linked. If there is none, it returns whether `place` is the end of the list.
+// Returns whether the place `beyond` is linked. If `beyond` is `None`, the function returns whether `place` is the end of the list.
 #[inline]
 fn goes_on(
     links: &RawTable<'_, RawOne>,
@@ -43,8 +43,8 @@ fn goes_on(
     }
 }
 
-// Returns whether `place` is linked and the list goes on beyond it, seen from `neighbor` on its other side. If there is no place, it returns whether
-// `neighbor` is the end of the list.
+// Returns whether `place` is linked and the list goes on beyond it, on the side opposite to `neighbor`. If `place` is `None`, the function returns
+// whether `neighbor` is the end of the list.
 #[inline]
 fn faces(
     links: &RawTable<'_, RawOne>,
@@ -64,7 +64,7 @@ fn faces(
     goes_on(links, end, place, links.next(place, neighbor))
 }
 
-// Returns whether two places are neighbors by their links. Beyond an end of the list the place is `None`.
+// Returns whether the places `before` and `after` are neighbors by their links. One of them is `None` at an end of the list.
 #[inline]
 pub(crate) fn is_gap(
     links: &RawTable<'_, RawOne>,
@@ -81,7 +81,7 @@ pub(crate) fn is_gap(
     faces(links, list.first(), before, after) && faces(links, list.last(), after, before)
 }
 
-// Returns whether, by the links, there is a member between two places. Beyond an end of the list the place is `None`.
+// Returns whether the place `member` is between `before` and `after` by their links. One of them is `None` if the member is at an end of the list.
 #[inline]
 fn is_between(
     links: &RawTable<'_, RawOne>,
@@ -100,8 +100,8 @@ fn is_between(
     faces(links, list.first(), before, at) && faces(links, list.last(), after, at)
 }
 
-// Inserts the place into the gap between two places, and returns whether it did. It is always inlined, because a call would make an insertion between
-// neighbors some 40 instructions longer.
+// Inserts the place into the gap between `before` and `after`, and returns whether it did. The function is always inlined, because a call would make
+// an insertion between neighbors some 40 instructions longer.
 #[inline(always)]
 pub(crate) fn insert(
     links: &mut RawTable<'_, RawOne>,
@@ -190,7 +190,7 @@ pub(crate) fn remove(
     take_out(links, list, before, member, after)
 }
 
-// Removes the first member, if two are after it. Otherwise it changes nothing.
+// Removes the first member, if two members are after it. Otherwise the function changes nothing and returns `None`.
 #[inline]
 pub(crate) fn pop_before_others(links: &mut RawTable<'_, RawOne>, list: &mut List) -> Option<Place>
     ensures removed { (p q : Place) (s : List Place) → result ≡ Some q → Represents (lent_table links.old) list.old (p ∷ s)
@@ -250,7 +250,7 @@ pub(crate) fn remove_last(links: &mut RawTable<'_, RawOne>, list: &mut List, mem
     take_out(links, list, before, member, None)
 }
 
-// Inserts the place where the member after `before` is, removes that member, and returns whether it did.
+// Inserts the place at the position of the member after `before`, removes this member, and returns whether it did.
 #[inline]
 pub(crate) fn replace(
     links: &mut RawTable<'_, RawOne>,
@@ -289,7 +289,7 @@ pub(crate) fn replace(
     true
 }
 
-// Returns whether the links at both ends are those of a list: each end is linked and nothing is beyond it, or both ends are `None`.
+// Returns whether the links at both ends are those of a list: each end is linked and has no place beyond it, or both ends are `None`.
 #[inline]
 fn has_ends(links: &RawTable<'_, RawOne>, list: &List) -> bool
     ensures links_back { result ≡ true → TellsEnds (lent_table links.now) list.now }
@@ -301,7 +301,7 @@ fn has_ends(links: &RawTable<'_, RawOne>, list: &List) -> bool
     faces(links, last, first, None) && faces(links, first, last, None)
 }
 
-// Moves all members of the given list into the gap between two places, and returns whether it did.
+// Moves all members of the list `given` into the gap between two places, and returns whether it did.
 #[inline]
 pub(crate) fn splice(
     links: &mut RawTable<'_, RawOne>,
@@ -340,8 +340,8 @@ pub(crate) fn splice(
     true
 }
 
-// Cuts the list at the gap between two places, and returns whether it did. The list keeps the members before the gap, and the function returns the
-// rest as a list.
+// Cuts the list at the gap between two places, and returns whether it did. The list keeps the members before the gap, and `rest` becomes the list of
+// the members after the gap.
 #[inline]
 pub(crate) fn split(
     links: &mut RawTable<'_, RawOne>,
@@ -392,7 +392,7 @@ fn leads_to_last(links: &RawTable<'_, RawOne>, list: &List) -> bool
     false
 }
 
-// Unlinks the place. Afterwards its word is that of a place that no call has linked.
+// Unlinks the place. The word of the place is then the word of a place that no call has linked.
 #[inline]
 fn unlink(links: &mut RawTable<'_, RawOne>, place: Place)
     requires linked { IsLinked is_linked_one (lent_table links.old) place }

@@ -1,4 +1,4 @@
--- Searches by sums: below a place, above it, and in a whole tree.
+-- Searches by sums: in the subtree below a place, in the tree above a place, and in a whole tree.
 use Rattle.std.proofs.Common.{◌≡◌, ◌≤◌, ◌<◌, ◌-◌, ℕ, Bool, true, false, Option, Some, None, List, [], ◌∷◌, ◌++◌, length, refl, sym, ap, ◌∙◌, subst, arith, append_assoc, append-nil}
 use Rattle.std.proofs.Math.Nat.{le-max_left, le-max_right}
 use Rattle.ic_link_ops.specs.Prelude.{Place, Cut, join, but_last, IsAfter, Table}
@@ -19,14 +19,14 @@ use Rattle.ic_raw_augmented.specs.Subtrees.{IsSubtree}
 use Rattle.ic_raw_augmented.proofs.Subtrees.{MemberSubtree, lower, member_subtree, subtree_left, subtree_parent, subtree_right}
 use Rattle.ic_raw.specs.declared.words.RawThree.{RawThree}
 use Rattle.ic_raw.specs.Seen.{seen, seen_node}
-use Rattle.ic_raw.specs.WholeTree.{IsSeen}
+use Rattle.ic_raw.specs.TreeShape.{IsSeen}
 use Rattle.ic_raw_augmented.specs.declared.sums.Kind.{Kind}
 use Rattle.ic_raw_augmented.specs.declared.sums.RawSum.{RawSum}
 use Rattle.ic_raw_augmented.specs.Find.{IsFirstBeyond}
 use Rattle.ic_raw_augmented.specs.Sums.{IsSummed, IsSummedTree, combined, next_end, sum_below, total, value_at}
 use Rattle.ic_raw_augmented.proofs.Totals.{sum_is, summed_all, summed_part, times_top, total_append, total_push}
 
--- THE FIRST BEYOND A BOUND is the first also if more members follow, and if others stand before
+-- THE FIRST MEMBER BEYOND A BOUND stays the first if more members follow, and if members before it are counted in advance
 module _ (kind : Kind) (value : Place → ℕ) where
   pub beyond_more : (done : List Place) (bound : ℕ) (s rest : List Place) (m : Place) → IsFirstBeyond kind value done bound s (Some m) → IsFirstBeyond kind value done bound (s ++ rest) (Some m)
   beyond_more done bound s rest m h = (h.0, h.1 ++ rest, ap (λ (y : List Place). y ++ rest) h.2 ∙ append_assoc h.0 (m ∷ h.1) rest, h.3, h.4)
@@ -48,7 +48,7 @@ module _ (kind : Kind) (t : Table RawThree) (sums : List RawSum) where
   abbrev value : Place → ℕ
   value = value_at sums
 
-  -- what a search below an end finds
+  -- a search in the subtree with the members u finds the first member beyond the bound, if the values of s come before u
   abbrev pub Found : List Place → ℕ → List Place → Option Place → Type 0
   Found s bound u result = (m : Place) × (result ≡ Some m) × IsFirstBeyond kind value s bound u (Some m)
 
@@ -60,7 +60,7 @@ module _ (kind : Kind) (t : Table RawThree) (sums : List RawSum) where
   FindsBelow o done bound turns result = (up : Option Place) (u : Tree) (s : List Place) → IsTree seen_node (seen t).entry up u → top u ≡ o → IsSummedTree kind t sums u → height u ≤ turns
       → done ≡ total kind value s → done ≤ bound → bound < total kind value (s ++ in_order u) → Found s bound (in_order u) result
 
-  -- at a place
+  -- the search below the place p: its left subtree, then p itself, and then its right subtree are searched
   module _ (p : Place) (left right : Option Place) (el : left ≡ (seen_node ((seen t).entry p)).left) (er : right ≡ (seen_node ((seen t).entry p)).right) (done bound turns : ℕ)
       (before_it with_it : ℕ) (eb : before_it ≡ combined kind done (sum_below sums left)) (ew : with_it ≡ combined kind before_it (value p)) where
     at_place : (up : Option Place) (result : Option Place) → ((c : Color) (a b : Tree) → FindsIn up (fork c a p b) done bound turns result) → (u : Tree) → top u ≡ Some p
@@ -120,12 +120,12 @@ module _ (kind : Kind) (t : Table RawThree) (sums : List RawSum) where
       last c a leaf s h r low ed lo hi = let here = with_place s up c a leaf h r ed in absurd (omega (arith, here, less, hi))
       last c a (fork d x q y) s h r low ed lo hi = absurd (none_not q (sym is ∙ (er ∙ h.0.right)))
 
-  -- where no turn is left there is no tree
+  -- if no turn of the loop is left, there is no subtree with the root p that is low enough
   pub below_spent : (p : Place) (done bound turns : ℕ) (result : Option Place) → turns ≡ 0 → FindsBelow (Some p) done bound turns result
   below_spent p done bound turns result none up leaf s h e r low ed lo hi = absurd (none_not p e)
   below_spent p done bound turns result none up (fork c a q b) s h e r low ed lo hi = absurd (omega (arith, none, low))
 
-  -- ABOVE A PLACE
+  -- A SEARCH ABOVE A PLACE finds the first member beyond the bound among the members after the subtree at p
   abbrev pub FindsAbove : Place → (done bound turns : ℕ) → Option (Option Place) → Type 0
   FindsAbove p done bound turns result = (fs : List Frame) (u : Tree) (s : List Place) → IsSubtree seen_node (seen t) fs u → top u ≡ Some p → IsSummedTree kind t sums (plug fs u) → length fs < turns
       → done ≡ total kind value s → done ≤ bound → (position : Option Place) × (result ≡ Some position) × IsFirstBeyond kind value s bound (after fs) position
@@ -143,7 +143,7 @@ module _ (kind : Kind) (t : Table RawThree) (sums : List RawSum) where
   pub sums_spent : (p : Place) (done turns : ℕ) (result : Option ℕ) → turns ≡ 0 → SumsAbove p done turns result
   sums_spent p done turns result none fs u s k e r less = no_turns fs turns none less
 
-  -- at the root
+  -- if p has no parent, no member comes after the subtree at p, so the search finds none
   pub above_none : (p : Place) (done bound turns : ℕ) → (seen_node ((seen t).entry p)).parent ≡ None → FindsAbove p done bound turns (Some None)
   above_none p done bound turns none [] u s k e r less ed lo = (None, refl, let same = ap (total kind value) (append-nil s) in omega (arith, same, ed, lo))
   above_none p done bound turns none (frame d c q b ∷ fs) u s k e r less ed lo = absurd (none_not q (sym none ∙ subtree_parent seen_node (seen t) (frame d c q b ∷ fs) u p k e))
@@ -153,7 +153,7 @@ module _ (kind : Kind) (t : Table RawThree) (sums : List RawSum) where
   sums_none p done turns none (frame d c q b ∷ fs) u s k e r less ed = absurd (none_not q (sym none ∙ subtree_parent seen_node (seen t) (frame d c q b ∷ fs) u p k e))
 
   module _ (p up : Place) (named : (seen_node ((seen t).entry p)).parent ≡ Some up) (turns : ℕ) where
-    -- ON WHICH SIDE of its parent the place stands
+    -- ON WHICH SIDE OF ITS PARENT a place is: the subtree at p is the left subtree of its parent `up`
     record IsLeft (fs : List Frame) (u : Tree) : Type 0 where
       c : Color
       b : Tree
@@ -229,7 +229,7 @@ module _ (kind : Kind) (t : Table RawThree) (sums : List RawSum) where
             let one : f.0 ≡ m = some_same (sym f.1 ∙ em) in
             (Some f.0, ap (λ (y : Place). Some (Some y)) (sym one), beyond_past kind value s (up ∷ []) bound (in_order b ++ after gs) (Some f.0) (beyond_more kind value (s ++ up ∷ []) bound (in_order b) (after gs) f.0 f.2)))
 
-        -- which fails of no tree
+        -- the search in the right subtree of the parent cannot fail if the words represent a tree with right sums
         pub above_fails : (next : Place) (result : Option Place) (r : Option (Option Place)) → right ≡ Some next → bound < with_right
             → FindsBelow (Some next) with_it bound 67 result → result ≡ None → FindsAbove p done bound turns r
         above_fails next result out is more found em = from_left out side (λ c b gs u s k e r less ed lo.
@@ -255,7 +255,7 @@ module _ (kind : Kind) (t : Table RawThree) (sums : List RawSum) where
             let f = found gs (fork c u up b) ((s ++ up ∷ []) ++ in_order b) (subtree_left seen_node (seen t) c up b gs u k) refl r (omega (arith, less)) (through s c u b gs k r ed) low in
             (f.0, f.1, beyond_past kind value s (up ∷ []) bound (in_order b ++ after gs) f.0 (beyond_past kind value (s ++ up ∷ []) (in_order b) bound (after gs) f.0 f.2)))
 
-    -- WHAT STANDS BEFORE
+    -- THE VALUES BEFORE A PLACE: the result is the values of all members before the subtree at p, combined with `done`
     module _ (done : ℕ) where
       abbrev SumsAt : List Frame → Option ℕ → Type 0
       SumsAt fs result = (u : Tree) (s : List Place) → IsSubtree seen_node (seen t) fs u → top u ≡ Some p → IsSummedTree kind t sums (plug fs u) → length fs < turns → done ≡ total kind value s
@@ -281,12 +281,12 @@ module _ (kind : Kind) (t : Table RawThree) (sums : List RawSum) where
           found x.gs (fork x.c x.b up u) (in_order x.b ++ up ∷ s) (subtree_right seen_node (seen t) x.c up x.b x.gs u k) refl r (omega (arith, less)) all
           ∙ ap (λ (y : List Place). Some (total kind value y)) (sym parts)) u s k e
 
-  -- IN A WHOLE TREE
+  -- IN A WHOLE TREE: if the sums are right at each member of the sequence, they are right in the tree
   module _ {root : Option Place} where
     whole_summed : (s : List Place) (h : IsSeen t root s) → IsSummed kind t sums s → IsSummedTree kind t sums h.tree
     whole_summed s h r = summed_all kind t sums s h.tree (λ q. sym (times_order q h.tree) ∙ ap (times_in q) h.held.order) r
 
-    -- from the root
+    -- a search from the root searches all members
     module _ (cut : Cut) (h : IsSeen t root (join cut)) (at : IsAfter cut None) (r : IsSummed kind t sums (join cut)) where
       first_part : cut.front ≡ []
       first_part = nothing_last cut.front at
@@ -309,7 +309,7 @@ module _ (kind : Kind) (t : Table RawThree) (sums : List RawSum) where
           (subst (λ (y : List Place). bound < total kind value y) (sym whole) (omega (arith, sum, more))) in
           (k.0, k.1, subst (λ (y : List Place). IsFirstBeyond kind value [] bound y (Some k.0)) whole k.2)
 
-    -- and from a member
+    -- a search from the member p searches the members after p
     module _ (front : List Place) (p : Place) (back : List Place) (h : IsSeen t root (front ++ p ∷ back)) (r : IsSummed kind t sums (front ++ p ∷ back)) where
       there : MemberSubtree seen_node (seen t) h.tree front p back
       there = member_subtree seen_node (seen t) root front p back h
@@ -344,7 +344,7 @@ module _ (kind : Kind) (t : Table RawThree) (sums : List RawSum) where
           found there.fs (fork there.c there.a p there.b) (in_order there.a) k refl there_summed (let low = there.low in omega (arith, low)) sum
           ∙ ap (λ (y : List Place). Some (total kind value y)) there.front_is
 
-    -- WHEREVER IT BEGINS
+    -- WHEREVER A SEARCH BEGINS, at the root or at a member, it finds the first member beyond the bound among the members from there on
     module _ (cut : Cut) where
       pub found_next : (at below : Option Place) → below ≡ next_end t root at → (bound : ℕ) (next : Place) (result : Option Place) → below ≡ Some next → bound < sum_below sums below
           → FindsBelow (Some next) 0 bound 67 result → IsSeen t root (join cut) → IsAfter cut at → IsSummed kind t sums (join cut) → Found [] bound cut.back result
@@ -365,12 +365,12 @@ module _ (kind : Kind) (t : Table RawThree) (sums : List RawSum) where
           → IsFirstBeyond kind value [] bound cut.back None
       none_on below eb bound less h at r = none_from_root cut h at r bound (subst (λ (o : Option Place). sum_below sums o ≤ bound) eb less)
 
-  -- what is found is the position
+  -- the member that a search below a place has found is the position that the search returns
   pub is_position : (bound : ℕ) (s : List Place) (result : Option Place) (m : Place) → Found [] bound s result → result ≡ Some m
       → (position : Option Place) × (Some (Some m) ≡ Some position) × IsFirstBeyond kind value [] bound s position
   is_position bound s result m f em = let one : f.0 ≡ m = some_same (sym f.1 ∙ em) in (Some f.0, ap (λ (y : Place). Some (Some y)) (sym one), f.2)
 
--- A SET out of which no link leads has the end at which a search begins
+-- A SET OUT OF WHICH NO LINK LEADS stays such a set if the root is not required in it. The set contains the end at which a search from its member `at` begins
 unfoldable pub unrooted : {t : Table RawThree} {root : Option Place} {S : Place → Bool} → IsClosed seen_node (seen t) root S → IsClosed seen_node (seen t) None S
 unrooted h = record { linked = h.linked; left = h.left; right = h.right; parent = h.parent; starts = tt }
 

@@ -1,4 +1,4 @@
--- A subtree of a represented tree: found by the sequence, read at its root, and left upward.
+-- A subtree of a represented tree: how it is found from the sequence, what its root's entry contains, and the next larger subtree around it.
 use Rattle.std.proofs.Common.{◌≡◌, ◌≤◌, ◌+◌, Option, Some, None, List, [], ◌∷◌, ◌++◌, length, sym, ap, ◌∙◌, subst, arith, append-nil}
 use Rattle.std.proofs.Math.Nat.{le-max_left, le-max_right}
 use Rattle.ic_link_ops.specs.Prelude.{Place, IsMember, Table}
@@ -17,26 +17,26 @@ use Rattle.ic_rbtree.specs.Height.{height}
 use Rattle.ic_rbtree.proofs.Climbed.{path_few}
 use Rattle.ic_raw_augmented.specs.Subtrees.{IsSubtree}
 
--- a way down is no longer than the tree is high
+-- the length of a way down and the height of the subtree below it together are at most the height of the tree
 pub no_longer : (fs : List Frame) (t : Tree) → length fs + height t ≤ height (plug fs t)
 no_longer [] t = omega arith
 no_longer (frame Left c p b ∷ fs) t = omega (arith, no_longer fs (fork c t p b), le-max_left (height t) (height b))
 no_longer (frame Right c p b ∷ fs) t = omega (arith, no_longer fs (fork c b p t), le-max_right (height b) (height t))
 
--- nor is a subtree higher
+-- a subtree is no higher than the whole tree
 pub lower : (fs : List Frame) (t : Tree) → height t ≤ height (plug fs t)
 lower [] t = omega arith
 lower (frame Left c p b ∷ fs) t = omega (arith, lower fs (fork c t p b), le-max_left (height t) (height b))
 lower (frame Right c p b ∷ fs) t = omega (arith, lower fs (fork c b p t), le-max_right (height b) (height t))
 
 module _ {E : Type 0} (n : E → Node) where
-  -- the entries of a tree are those around a subtree and those of it
+  -- the entries of a whole tree are the entries around a subtree and the entries of the subtree
   entries_below : (e : Place → E) (fs : List Frame) (t : Tree) → IsTree n e None (plug fs t) → IsAround n e fs (top t) × IsTree n e (above fs) t
   entries_below e [] t h = (tt, h)
   entries_below e (frame Left c p b ∷ fs) t h = let r = entries_below e fs (fork c t p b) h in ((r.1.0, r.1.2, r.0), r.1.1)
   entries_below e (frame Right c p b ∷ fs) t h = let r = entries_below e fs (fork c b p t) h in ((r.1.0, r.1.1, r.0), r.1.2)
 
-  -- FROM THE SEQUENCE to the subtree at a member
+  -- THE SUBTREE AT A MEMBER: its root is the member p, which is between `front` and `back` in the sequence of the tree
   pub record MemberSubtree (v : Table E) (tree : Tree) (front : List Place) (p : Place) (back : List Place) : Type 0 where
     pub fs : List Frame
     pub c : Color
@@ -81,7 +81,7 @@ module _ {E : Type 0} (n : E → Node) where
           low = path_few n h f.0 t (length f.0) f.4 (omega arith);
         }
 
-    -- the subtree at a member, of the tree that stands around it
+    -- each member of a represented sequence is the root of a subtree of the represented tree
     pub member_at : (root : Option Place) (s : List Place) (p : Place) → Represents n v root s → IsMember p s → MemberAt v s p
     member_at root s p h m =
         let cut = member_split p s m in
@@ -97,12 +97,12 @@ module _ {E : Type 0} (n : E → Node) where
           whole = λ q. ap (times q) x.same ∙ (sym (times_order q k.tree) ∙ (ap (times_in q) k.held.order ∙ ap (times_in q) (sym cut.2)));
         }
 
-    -- its root has this parent
+    -- the parent of the root of a subtree is the member right above the subtree
     pub subtree_parent : (fs : List Frame) (t : Tree) (p : Place) → IsSubtree n v fs t → top t ≡ Some p → (n (v.entry p)).parent ≡ above fs
     subtree_parent fs leaf p h e = absurd (none_not p e)
     subtree_parent fs (fork c a q b) p h e = subst (λ (y : Place). (n (v.entry y)).parent ≡ above fs) (some_same e) h.tree.0.parent
 
-    -- UPWARD
+    -- ONE STEP UP: a subtree, its parent, and the parent's other subtree together are a subtree
     pub subtree_left : (c : Color) (p : Place) (b : Tree) (fs : List Frame) (t : Tree) → IsSubtree n v (frame Left c p b ∷ fs) t → IsSubtree n v fs (fork c t p b)
     subtree_left c p b fs t h = record { around = h.around.2; tree = (h.around.0, h.tree, h.around.1); once = h.once; low = h.low; few = h.few }
 

@@ -1,4 +1,4 @@
--- A sum that is written.
+-- What changes if one sum is written.
 use Rattle.std.proofs.Common.{◌≡◌, ◌≢◌, ℕ, List, slice_set, ap}
 use Rattle.ic_link_ops.specs.Prelude.{Place, index_of}
 use Rattle.ic_link_ops.proofs.EntryLemmas.{others_same}

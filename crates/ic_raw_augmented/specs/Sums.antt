@@ -13,21 +13,21 @@ use Rattle.ic_raw_augmented.specs.declared.sums.Kind.{Kind}
 use Rattle.ic_raw_augmented.specs.declared.sums.Kind.TheVariants.{Sum, Greatest}
 use Rattle.ic_raw_augmented.specs.declared.sums.RawSum.{RawSum}
 
--- the kind of sums with that number
+-- the kind of sums that a number means: 0 means that values are added, and any other number means that the greatest value counts
 abbrev pub kind_of : ℕ → Kind
 kind_of number = cond (nat_eq number 0) Sum Greatest
 
--- two numbers combined: their sum, which is at most the greatest number of a 64-bit word, or the greater of the two
+-- two numbers combined: for the kind `Sum` their sum, but at most the greatest number of a 64-bit word, and for the kind `Greatest` the greater number
 abbrev pub combined : Kind → ℕ → ℕ → ℕ
 combined Sum a b = min (a + b) (2 ^ 64 - 1)
 combined Greatest a b = max a b
 
--- THE VALUES of s COMBINED: 0 if s is empty
+-- THE VALUES OF s COMBINED: the values of all places in s are combined, and the result is 0 if s is empty
 abbrev pub total : Kind → (value : Place → ℕ) → List Place → ℕ
 total kind value [] = 0
 total kind value (p ∷ s) = combined kind (value p) (total kind value s)
 
--- the value and the sum at a place, both 0 beyond the last place
+-- the value and the sum that `sums` has for the place p. Both are 0 if p is beyond the last place
 abbrev pub kept_at : List RawSum → Place → RawSum
 kept_at sums p = slice_index_or sums (index_of p) (record { value = 0; sum = 0 })
 
@@ -42,17 +42,17 @@ abbrev pub sum_below : List RawSum → Option Place → ℕ
 sum_below sums None = 0
 sum_below sums (Some p) = sum_at sums p
 
--- the value of p combined with the sums of its two children, as the words are read
+-- the value of p combined with the sums of its two children, where the children are those that the words of p name within the table
 abbrev pub joined_at : Kind → Table RawThree → List RawSum → Place → ℕ
 joined_at kind t sums p =
     combined kind (sum_below sums (seen_node ((seen t).entry p)).left)
     (combined kind (value_at sums p) (sum_below sums (seen_node ((seen t).entry p)).right))
 
--- THE SUM AT p IS RIGHT
+-- THE SUM AT p IS RIGHT: it is the value of p combined with the sums of the two children of p
 abbrev pub IsRightAt : Kind → Table RawThree → List RawSum → Place → Type 0
 IsRightAt kind t sums p = sum_at sums p ≡ joined_at kind t sums p
 
--- THE SUMS ARE RIGHT at each member of s, so that the sum of each is the combination of the values of its subtree
+-- THE SUMS ARE RIGHT at each member of s, so that the sum of a member combines all values of the subtree below this member
 abbrev pub IsSummed : Kind → Table RawThree → List RawSum → List Place → Type 0
 IsSummed kind t sums s = (q : Place) → IsMember q s → IsRightAt kind t sums q
 
@@ -60,21 +60,21 @@ IsSummed kind t sums s = (q : Place) → IsMember q s → IsRightAt kind t sums 
 abbrev pub IsSummedBut : Kind → Table RawThree → List RawSum → List Place → (but : Place → Bool) → Type 0
 IsSummedBut kind t sums s but = (q : Place) → IsMember q s → but q ≡ false → IsRightAt kind t sums q
 
--- true at this place only, or everywhere if there is none
+-- whether q is the given place. If no place is given, the result is true for every q
 abbrev pub is_there : Option Place → Place → Bool
 is_there None q = true
 is_there (Some p) q = is_end (Some p) q
 
--- ONLY SUMS ARE WRITTEN: there are as many as before, and each value is the same
+-- ONLY SUMS ARE WRITTEN: `new` has as many entries as `old`, and the value of each place is as in `old`
 pub record KeepsValues (old new : List RawSum) : Type 0 where
   pub count : length new ≡ length old
   pub values : (q : Place) → value_at new q ≡ value_at old q
 
--- only sums of certain places change: those in each set that has this end and out of which, as the words are read, no link leads
+-- A place may get another sum only if links lead to it from p. If a set S contains p and no link leads out of S, each place outside of S keeps its sum
 abbrev pub StaysBeside : Table RawThree → List RawSum → List RawSum → Place → Type 0
 StaysBeside t old new p = (S : Place → Bool) → IsClosed seen_node (seen t) None S → S p ≡ true → (q : Place) → S q ≡ false → sum_at new q ≡ sum_at old q
 
--- THE FAULT OF SUMS: `OUT_OF_RANGE` if there are fewer sums than places
+-- THE FAULT OF SUMS: the status is `OUT_OF_RANGE` if there are fewer sums than places, and otherwise `OK`
 abbrev pub sums_fault : (sums : List RawSum) → (places : ℕ) → ℕ
 sums_fault sums places = cond (nat_lt (length sums) places) OUT_OF_RANGE OK
 
@@ -83,19 +83,19 @@ abbrev pub IsSummedTree : Kind → Table RawThree → List RawSum → Tree → T
 IsSummedTree kind t sums leaf = Unit {0}
 IsSummedTree kind t sums (fork c a p b) = IsRightAt kind t sums p × IsSummedTree kind t sums a × IsSummedTree kind t sums b
 
--- in any tree that has the place, fewer members are above it than there are turns left
+-- in any tree that has the place p, fewer than `turns` members are above p
 abbrev pub IsNear : Table RawThree → (turns : ℕ) → Place → Type 0
 IsNear t turns p = (fs : List Frame) (u : Tree) → IsSubtree seen_node (seen t) fs u → top u ≡ Some p → length fs < turns
 
--- whether `above` names p as a child, as the words are read
+-- whether the words of the place `above` name p as its left or its right child
 abbrev pub is_child_of : Table RawThree → (above p : Place) → Bool
 is_child_of t above p = is_end (seen_node ((seen t).entry above)).left p || is_end (seen_node ((seen t).entry above)).right p
 
--- whether the index of a place is at least this number
+-- whether the index of the place q is at least i
 abbrev pub is_from : ℕ → Place → Bool
 is_from i q = nat_lt i (suc (index_of q))
 
--- the root of the subtree that begins after a place: its right child, as the words are read, or, for none, the root of the whole tree
+-- the root of the subtree whose members come right after `at`: the right child that its words name, or the root of the whole tree if `at` is none
 abbrev pub next_end : Table RawThree → (root at : Option Place) → Option Place
 next_end t root None = root
 next_end t root (Some p) = (seen_node ((seen t).entry p)).right

@@ -6,21 +6,21 @@ use Rattle.ic_raw.specs.Seen.{also, seen, seen_node}
 use Rattle.ic_raw.specs.Words.{place_in}
 use Rattle.ic_raw_augmented.specs.declared.written.Written.{Written}
 
--- these words name the place
+-- whether one of the words `ws` names the place q
 abbrev pub is_among : List ℕ → Place → Bool
 is_among [] q = false
 is_among (w ∷ ws) q = also (place_in w) (is_among ws) q
 
--- A PLACE IS RECORDED, or there was no room for one that may be this place
+-- A PLACE COUNTS AS RECORDED: a word of the record names the place q, or the record is full, so that there may have been no room for q
 abbrev pub is_noted : Written → Place → Bool
 is_noted w q = w.is_full || is_among w.words q
 
--- a place has the same children as before, as the words are read
+-- the words of the place q name the same left child and the same right child in `old` and in `new`
 pub record KeepsChildren (old new : Table RawThree) (q : Place) : Type 0 where
   pub left : (seen_node ((seen new).entry q)).left ≡ (seen_node ((seen old).entry q)).left
   pub right : (seen_node ((seen new).entry q)).right ≡ (seen_node ((seen old).entry q)).right
 
--- A PLACE THAT IS NOT RECORDED has the same children in both states of the table
+-- THE RECORD IS COMPLETE: each place that was recorded is still recorded, and each place that is not recorded has the same children in `old` and in `new`
 pub record Notes (was is : Written) (old new : Table RawThree) : Type 0 where
   pub noted : (q : Place) → is_noted was q ≡ true → is_noted is q ≡ true
   pub children : (q : Place) → is_noted is q ≡ false → KeepsChildren old new q

@@ -18,7 +18,7 @@ ghost use Rattle.ic_raw_augmented.specs.Subtrees.{IsSubtree};
 ghost use Rattle.ic_raw.specs.Keys.{key_of};
 ghost use Rattle.ic_raw.specs.Seen.{has_place, seen, seen_node};
 ghost use Rattle.ic_raw.specs.Tree.{lent_table};
-ghost use Rattle.ic_raw.specs.WholeTree.{IsSeen};
+ghost use Rattle.ic_raw.specs.TreeShape.{IsSeen};
 ghost use Rattle.ic_raw_augmented.specs.declared.sums.Kind.TheVariants.{Greatest};
 ghost use Rattle.ic_raw_augmented.specs.Ends.{EndsAbove, FindEnds, OverlapEnds};
 ghost use Rattle.ic_raw_augmented.specs.Find.{IsFirstBeyond, overlaps};
@@ -31,8 +31,9 @@ use ic_raw::{RawTable, RawThree};
 use ic_rbtree::NodeStore;
 use ic_unsafe_ref::Place;
 
-// Returns the first member of the subtree at a place at which the values up to it, combined with `done` for those before the subtree, exceed the
-// bound. The result is `None` if the sums are wrong, or the way down is longer than in any valid tree.
+// Returns the first member of the subtree at `place` at which the combined values exceed the bound. The combined values are those of the members up to the
+// result, and `done`, which is for the members before the subtree. The result is `None` if the sums are wrong, or if the way down is longer than in any valid
+// tree.
 fn first_below(
     links: &RawTable<'_, RawThree>,
     sums: &[RawSum],
@@ -67,8 +68,8 @@ fn first_below(
     None
 }
 
-// Returns the same among the members after the subtree at a place, with `done` for the values before these, or `Some(None)` if all values together do
-// not exceed the bound.
+// Returns the first member after the subtree at `place` at which the combined values exceed the bound. The combined values are `done`, which is for the members
+// that the search has passed, and those of the members after the subtree. The result is `Some(None)` if all values together do not exceed the bound.
 fn first_above(
     links: &RawTable<'_, RawThree>,
     sums: &[RawSum],
@@ -109,7 +110,7 @@ fn first_above(
     None
 }
 
-// Returns the root of the subtree that begins after `at`: its right child, or the root of the whole tree for `None`.
+// Returns the root of the subtree whose members come right after `at`: the right child of `at`, or the root of the whole tree if `at` is `None`.
 #[inline]
 fn next_end(links: &RawTable<'_, RawThree>, root: Option<Place>, at: Option<Place>) -> Option<Place>
     requires { IsIn (has_place (lent_table links.now)) at }
@@ -121,8 +122,8 @@ fn next_end(links: &RawTable<'_, RawThree>, root: Option<Place>, at: Option<Plac
     }
 }
 
-// Returns the first member after `at`, or of all members for `None`, at which the combined values of the members after `at` up to it exceed the
-// bound. It is `Some(None)` if there is no such member, and `None` if the links lead to no end.
+// Returns the first member after `at`, or of all members if `at` is `None`, at which the combined values of the members after `at` exceed the bound. The result
+// is `Some(None)` if there is no such member, and `None` if the sums or the links are wrong.
 pub(crate) fn find(
     links: &RawTable<'_, RawThree>,
     sums: &[RawSum],
@@ -180,8 +181,8 @@ pub(crate) fn overlap(
     Some(None)
 }
 
-// Returns the combined values of the members before the subtree at a place, followed by `done`. The result is `None` if the way up is longer than in
-// any valid tree.
+// Returns the combined values of the members before the subtree at `place`, combined with `done`. The result is `None` if the way up is longer than in any
+// valid tree.
 fn sum_above(
     links: &RawTable<'_, RawThree>,
     sums: &[RawSum],
@@ -210,7 +211,7 @@ fn sum_above(
     None
 }
 
-// Returns the combined values of the members before this one, or `None` if the links lead to no end.
+// Returns the combined values of the members before `member`, or `None` if the parents lead to no end.
 pub(crate) fn sum_before(
     links: &RawTable<'_, RawThree>,
     sums: &[RawSum],

@@ -8,7 +8,7 @@
 //! renew(table, sums, Kind::Sum, 7)                                    // OK: after the value of 7 was changed
 //! ```
 //!
-//! No call requires anything of its arguments. Each returns a status as the calls of `ic_raw` do, and changes nothing if the status is not `OK`.
+//! No call requires anything of its arguments. Each call returns a status as the calls of `ic_raw` do, and changes nothing if the status is not `OK`.
 #![tactic(auto)]
 
 pub mod edit_calls;

@@ -1,4 +1,4 @@
-//! A view of a table, for an edit, that records the nodes whose children the edit writes.
+//! A view of a table through which an edit runs, and which records the nodes whose children the edit writes.
 //!
 //! ```text
 //! let mut written = Written::new();
@@ -99,7 +99,7 @@ impl NodeStore for Noting<'_, '_> {
 impl Surgery for Written {
     ghost use Rattle.ic_raw_augmented.specs.Written.{Notes};
 
-    ghost Tells = { Notes };
+    ghost Reports = { Notes };
 
     #[inline]
     fn attach(

@@ -9,7 +9,7 @@ ghost use Rattle.std.specs.Prelude.{◌≡◌, ◌≤◌, ◌+◌, Bool, true, O
 ghost use Rattle.ic_link_ops.specs.Prelude.{Place, index_of};
 ghost use Rattle.ic_raw.specs.Seen.{also, has_place};
 ghost use Rattle.ic_raw.specs.Tree.{lent_table};
-ghost use Rattle.ic_raw.specs.WholeTree.{IsSeen};
+ghost use Rattle.ic_raw.specs.TreeShape.{IsSeen};
 ghost use Rattle.ic_raw_augmented.specs.Written.{is_noted};
 ghost use Rattle.ic_raw_augmented.specs.Sums.{IsSummed, IsSummedBut, KeepsValues, StaysBeside, is_child_of, is_from};
 
@@ -20,10 +20,10 @@ use ic_raw::{RawTable, RawThree, place_in};
 use ic_rbtree::NodeStore;
 use ic_unsafe_ref::Place;
 
-/// The number of turns of a loop that is enough for every climb and descent in a valid red-black tree.
+/// The greatest number of turns of a loop that goes up or down a tree. This number is enough for each valid red-black tree.
 pub(crate) const TURNS: u32 = 67;
 
-// Returns whether `above` names the place as a child.
+// Returns whether the words of the place `above` name `place` as a child.
 #[inline]
 fn is_below(links: &RawTable<'_, RawThree>, place: Place, above: Place) -> bool
     requires place { has_place (lent_table links.now) place ≡ true }
@@ -33,7 +33,8 @@ fn is_below(links: &RawTable<'_, RawThree>, place: Place, above: Place) -> bool
     links.is_child(place, above, Side::Left) || links.is_child(place, above, Side::Right)
 }
 
-// Computes the sum at a place again, and then those above it as long as one changes. If the words represent no tree, some sums may stay wrong.
+// Computes the sum at a place again, and then the sums of the members above it, until a sum doesn't change. If the words represent no tree, some sums may stay
+// wrong.
 pub(crate) fn recompute_up(
     links: &RawTable<'_, RawThree>,
     sums: &mut [RawSum],
@@ -77,7 +78,7 @@ pub(crate) fn recompute_all(links: &RawTable<'_, RawThree>, sums: &mut [RawSum],
     }
 }
 
-// Returns the place with that index.
+// Returns the place with the given index.
 #[inline]
 fn place_at(index: usize) -> Option<Place>
     ensures { (q : Place) → index_of q ≡ index → result ≡ Some q }
@@ -85,7 +86,7 @@ fn place_at(index: usize) -> Option<Place>
     place_in((index as u64).wrapping_add(1).wrapping_mul(8))
 }
 
-// Computes the sums again from a place up, if there is one and the table has it.
+// Computes the sums again from a place up. If the place is `None` or not in the table, the call does nothing.
 fn recompute_from(
     links: &RawTable<'_, RawThree>,
     sums: &mut [RawSum],
@@ -106,7 +107,7 @@ fn recompute_from(
     recompute_up(links, sums, kind, place);
 }
 
-// Computes the sums again from the place with that index up.
+// Computes the sums again from the place with the given index up.
 fn recompute_index(links: &RawTable<'_, RawThree>, sums: &mut [RawSum], kind: Kind, index: usize)
     requires enough { (lent_table links.now).extent.places ≤ length sums.old }
     ensures right { (root : Option Place) (s : List Place) → IsSeen (lent_table links.now) root s
@@ -116,7 +117,7 @@ fn recompute_index(links: &RawTable<'_, RawThree>, sums: &mut [RawSum], kind: Ki
     recompute_from(links, sums, kind, place_at(index));
 }
 
-// Computes the sums again from each place up whose children were written.
+// Computes the sums again from each place up whose children an edit has written.
 pub(crate) fn recompute_written(
     links: &RawTable<'_, RawThree>,
     sums: &mut [RawSum],

@@ -1,4 +1,4 @@
-//! The calls of trees with sums that search a tree, and those that compute its sums again.
+//! The calls of trees with sums that search a tree, and the calls that compute its sums again.
 //!
 //! ```text
 //! find(table, sums, Kind::Sum, tree, NONE, 3, &mut found)      // OK: the member at position 3, if each value is 1
@@ -32,7 +32,7 @@ use ic_raw::{
 };
 use ic_unsafe_ref::Place;
 
-// Returns whether there is a sum for each place, and both ends are `None` or linked.
+// Returns whether there is a sum for each place, and the root and the member `at` are each `None` or a linked place.
 #[inline]
 fn is_searchable(
     links: &RawTable<'_, RawThree>,
@@ -52,7 +52,7 @@ fn is_searchable(
     links.stands(at) && links.stands(root)
 }
 
-// Returns why a tree is not searched: the fault of the member, else that of the sums, or else [`BROKEN`].
+// Returns why a tree is not searched: the fault of the member, else the fault of the sums if there are fewer of them than places, or else [`BROKEN`].
 #[cold]
 #[inline(never)]
 fn refusal(links: &RawTable<'_, RawThree>, sums: &[RawSum], at: u32) -> u32
@@ -70,7 +70,8 @@ fn refusal(links: &RawTable<'_, RawThree>, sums: &[RawSum], at: u32) -> u32
     BROKEN
 }
 
-// Returns the same, or the fault of the starts if there are fewer of them than places.
+// Returns why a tree is not searched for an interval: the fault of the member, else [`OUT_OF_RANGE`] if there are fewer starts or sums than places, or else
+// [`BROKEN`].
 #[cold]
 #[inline(never)]
 fn refusal_of_starts(
@@ -96,9 +97,9 @@ fn refusal_of_starts(
     BROKEN
 }
 
-// Stores the number of the first member after `at` beyond a bound.
+// Stores the number of the first member after `at` at which the combined values exceed a bound.
 #[inline]
-fn look(
+fn store_found(
     links: &RawTable<'_, RawThree>,
     sums: &[RawSum],
     kind: Kind,
@@ -138,7 +139,7 @@ fn look(
 
 // Stores the number of the first member after `at` whose interval overlaps `[from, to)`.
 #[inline]
-fn look_overlap(
+fn store_overlap(
     links: &RawTable<'_, RawThree>,
     starts: &[u64],
     sums: &[RawSum],
@@ -182,7 +183,7 @@ fn look_overlap(
     OK
 }
 
-// Stores the combined values of the members before a place.
+// Stores the combined values of the members before the member `at`.
 #[inline]
 fn look_before(
     links: &RawTable<'_, RawThree>,
@@ -216,10 +217,11 @@ fn look_before(
     OK
 }
 
-/// Stores in `found` the number of the first member after `at`, or of all members if `at` is [`NONE`](ic_raw::NONE), at which the combined values of
-/// the members after `at` up to it exceed `bound`. It returns [`NULL`] if there is no such member. It writes nothing else. O(log n).
+/// Stores in `found` the number of the first member after `at`, or of all members if `at` is [`NONE`](ic_raw::NONE), at which the combined values exceed
+/// `bound`. The values are those of the members after `at` up to this member. The call returns [`NULL`] if there is no such member. The call writes nothing
+/// else. O(log n).
 ///
-/// There must be a sum for each place of the table. If the sums of the tree are not right, it may find another member, or return [`BROKEN`].
+/// There must be a sum for each place of the table. If the sums of the tree are not right, the call may find another member, or return [`BROKEN`].
 #[inline]
 pub fn find(
     table: &mut [RawThree],
@@ -233,13 +235,13 @@ pub fn find(
     ensures { FindCall kind sums.now table.old table.new result tree.now (place_of at) bound found.old found.new }
 {
     let links = RawTable::new(table);
-    look(&links, sums, kind, tree, at, bound, found)
+    store_found(&links, sums, kind, tree, at, bound, found)
 }
 
-/// Stores the combined values of the members before `at` in `sum`, or returns [`NULL`] if `at` is [`NONE`](ic_raw::NONE). It writes nothing else.
-/// O(log n).
+/// Stores the combined values of the members before `at` in `sum`, or returns [`NULL`] if `at` is [`NONE`](ic_raw::NONE). The call writes nothing else. O(log
+/// n).
 ///
-/// There must be a sum for each place of the table. If the links lead from the member to no root, it returns [`BROKEN`].
+/// There must be a sum for each place of the table. If the links lead from the member to no root, the call returns [`BROKEN`].
 #[inline]
 pub fn before(table: &mut [RawThree], sums: &[RawSum], kind: Kind, at: u32, sum: &mut u64) -> u32
     ensures { BeforeCall kind sums.now table.old table.new result (place_of at) sum.old sum.new }
@@ -248,8 +250,8 @@ pub fn before(table: &mut [RawThree], sums: &[RawSum], kind: Kind, at: u32, sum:
     look_before(&links, sums, kind, at, sum)
 }
 
-/// Stores in `found` the number of the first member after `at`, or of all members if `at` is [`NONE`](ic_raw::NONE), whose interval overlaps `[from,
-/// to)`, or returns [`NULL`] if there is none. The interval starts at the start of its place and ends at its value, which it does not contain. It
+/// Stores in `found` the number of the first member after `at`, or of all members if `at` is [`NONE`](ic_raw::NONE), whose interval overlaps `[from, to)`. If
+/// there is none, the call returns [`NULL`]. The interval of a place begins at its start and ends at its value, which the interval does not contain. The call
 /// writes nothing else. O(log n).
 ///
 /// There must be a start and a sum for each place of the table. The sums must be those of [`Kind::Greatest`], and the starts must not decrease from
@@ -268,11 +270,11 @@ pub fn overlap(
     ensures { OverlapCall starts.now sums.now table.old table.new result tree.now (place_of at) from to found.old found.new }
 {
     let links = RawTable::new(table);
-    look_overlap(&links, starts, sums, tree, at, from, to, found)
+    store_overlap(&links, starts, sums, tree, at, from, to, found)
 }
 
-/// Computes the sum at the member `at` and the sums above it again, after its value has changed. If `at` is [`NONE`](ic_raw::NONE), it computes all
-/// sums of the table. O(log n), and for all sums O(p log p) for p places.
+/// Computes the sum at the member `at` and the sums of the members above it again, after the value of `at` has changed. If `at` is [`NONE`](ic_raw::NONE), the
+/// call computes all sums of the table. O(log n), and for all sums O(p log p) for p places.
 ///
 /// There must be a sum for each place of the table.
 pub fn renew(table: &mut [RawThree], sums: &mut [RawSum], kind: Kind, at: u32) -> u32

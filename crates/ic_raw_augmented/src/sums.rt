@@ -1,4 +1,4 @@
-//! The sums that a caller keeps beside the places of a table, and how two of them are combined.
+//! The sums that a caller keeps beside the places of a table, and how two values are combined.
 //!
 //! ```text
 //! struct ic_sum { uint64_t value, sum; };
@@ -14,28 +14,28 @@ use ic_raw::{RawTable, RawThree};
 use ic_rbtree::NodeStore;
 use ic_unsafe_ref::Place;
 
-/// What a caller keeps for each place beside its link: a value, which the caller writes, and the combination of the values of the place and of all
-/// members below it, which the calls write.
+/// What a caller keeps for each place beside its link: a value and a sum. The caller writes the value. The calls write the sum, which combines the values of
+/// the place and of all members below it.
 #[repr(C)]
 #[derive(Clone, Copy)]
 pub struct RawSum {
-    /// The value of the place. The caller writes it, and no call changes it.
+    /// The value of the place. The caller writes the value, and no call changes the value.
     pub value: u64,
-    /// The combined values of the place and of all members below it. The calls write it.
+    /// The combined values of the place and of all members below it. The calls write the sum.
     pub sum: u64,
 }
 
-/// How values are combined.
+/// How the values of a tree's members are combined.
 #[derive(Clone, Copy)]
 pub enum Kind {
-    /// They are added, up to at most `u64::MAX`. With the value 1 at each place, the sum counts members.
+    /// The values are added, up to at most `u64::MAX`. With the value 1 at each place, the sum counts members.
     Sum,
-    /// The greatest of them is taken.
+    /// The greatest of the values is taken.
     Greatest,
 }
 
 impl Kind {
-    /// Returns the kind with that number: [`Kind::Sum`] for 0, and [`Kind::Greatest`] for any other. O(1).
+    /// Returns the kind with the given number: [`Kind::Sum`] for 0, and [`Kind::Greatest`] for any other number. O(1).
     #[inline]
     pub fn of(number: u32) -> Kind
         ensures { result ≡ kind_of number }
@@ -47,7 +47,7 @@ impl Kind {
         }
     }
 
-    // Returns two numbers combined.
+    // Returns two numbers combined: their sum up to `u64::MAX`, or the greater number.
     #[inline]
     pub(crate) fn combine(self, a: u64, b: u64) -> u64
         ensures { result ≡ combined self a b }
@@ -67,7 +67,7 @@ fn greater(a: u64, b: u64) -> u64
     if a < b { b } else { a }
 }
 
-// Returns the value at a place, or 0 beyond the last place.
+// Returns the value at a place, or 0 if the place is beyond the last entry.
 #[inline]
 pub(crate) fn value_at(sums: &[RawSum], place: Place) -> u64
     ensures { result ≡ value_at sums.now place }

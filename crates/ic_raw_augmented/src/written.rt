@@ -1,4 +1,4 @@
-//! The places whose children an edit has written. The nodes over which the edit runs record them.
+//! The places whose children an edit has written. The view of the table through which the edit runs records these places.
 //!
 //! ```text
 //! let mut written = Written::of(None);
@@ -12,22 +12,22 @@ ghost use Rattle.ic_raw_augmented.specs.Written.{is_noted};
 
 use ic_unsafe_ref::Place;
 
-// Room for the places at which one edit of a tree writes children: at most 10 at an insertion and 13 at a removal, of which one may occur more than
-// once.
+// The number of places for which the record has room. An edit of a tree writes the children of at most 10 places at an insertion and 13 at a removal. One of
+// these places may occur more than once.
 const ROOM: usize = 14;
 
 /// Places whose children were written, in the order of the writes.
 #[derive(Drop)]
 pub struct Written {
-    // The word of each place, 0 for none.
+    // The word of each recorded place, or 0 for none.
     pub(crate) words: [u64; 14],
     count: usize,
-    // Whether there was no room for a place, which may be any place.
+    // Whether the record had no room for a place, so that any place may be missing.
     pub(crate) is_full: bool,
 }
 
 impl Written {
-    /// Makes a record with this place, or with none. O(1).
+    /// Makes a record that contains the given place, or no place. O(1).
     #[inline]
     pub(crate) fn of(place: Option<Place>) -> Written
         ensures { (q : Place) → place ≡ Some q → is_noted result q ≡ true }

@@ -1,4 +1,4 @@
--- The members of a chain, as they are turned round, and then moved to other buckets.
+-- How the members of a chain are reversed and then moved to other buckets.
 use Rattle.std.proofs.Common.{◌≡◌, ◌<◌, ◌≤◌, ◌-◌, ◌%◌, ℕ, true, inl, inr, Option, Some, None, List, [], ◌∷◌, ◌++◌, drop, reverse, length, slice_set, refl, sym, ap, ◌∙◌, subst, arith, append_assoc, append-nil}
 use Rattle.std.specs.List.{AllByRecursion}
 use Rattle.std.proofs.Math.Nat.{mod-lt}
@@ -29,7 +29,7 @@ use Rattle.ic_raw.proofs.Views.{frame_back, represented_back, viewed}
 use Rattle.ic_raw_keyed.specs.Growth.{LeadsToLinked, StaysOrGets, leading_to, slot_for}
 use Rattle.ic_raw_keyed.specs.Spreading.{Spreads, spread_over}
 
--- A PLACE IS TURNED to the first member of a list, and begins that list now
+-- A PLACE IS PUT AT THE FRONT: the place p is linked to the first member of a list, and p is the first member now
 module _ {u v : Table RawOne} {p : Place} (only : ChangesOnly u v p) where
   same_chain : (s : List Place) → IsAbsent p s → IsChain (IsFollowed successor) u.entry None s None → IsChain (IsFollowed successor) v.entry None s None
   same_chain s out chain =
@@ -47,17 +47,17 @@ module _ {u v : Table RawOne} {p : Place} (only : ChangesOnly u v p) where
     tail = refl;
   }
 
-  -- and what was after it is a list as before
+  -- the members that were after the place p are still a list
   pub turned_rest : (r : List Place) → Represents u (list_from (Some p)) (p ∷ r) → Represents v (list_from (successor_at successor u p).next) r
   turned_rest r shown =
       let rest = represented_after [] p r shown in record { distinct = rest.distinct; chain = same_chain r shown.distinct.0 rest.chain; head = rest.head; tail = refl }
 
--- a list to which no step is left
+-- a list with at most 0 members has no first member
 none_left : (w : List Place) → length w ≤ 0 → first w ≡ None
 none_left [] few = refl
 none_left (x ∷ w) few = absurd (omega (arith, few))
 
--- THE MEMBERS OF s ARE TURNED ROUND up to `at`: those before it stand from `back` on, the last first
+-- THE MEMBERS OF s ARE REVERSED UP TO `at`: the members before `at` are a list from `back` on, the last of them first
 pub record Reverses (t u : Table RawOne) (s : List Place) (back at : Option Place) (left : ℕ) : Type 0 where
   pub ahead : List Place
   pub rest : List Place
@@ -112,13 +112,13 @@ reverse_done {u = u} {s} {back} k none =
     let all : s ≡ reverse k.ahead = k.parts ∙ ap (λ (l : List Place). reverse k.ahead ++ l) nothing ∙ append-nil (reverse k.ahead) in
     subst (λ (l : List Place). Represents u (list_from back) l) (sym (reverse-reverse k.ahead) ∙ ap (λ (l : List Place). reverse l) (sym all)) k.turned
 
--- one more member is spread last
+-- if one more member is moved after the members of d, it comes to the front of the chain to which its hash leads
 spread_push : (hashes : List ℕ) (n : ℕ) (chains : ℕ → List Place) (d : List Place) (p : Place)
     → spread_over hashes n chains (d ++ p ∷ []) ≡ with_at (spread_over hashes n chains d) (slot_for hashes n p) (p ∷ spread_over hashes n chains d (slot_for hashes n p))
 spread_push hashes n chains [] p = refl
 spread_push hashes n chains (x ∷ d) p = spread_push hashes n (with_at chains (slot_for hashes n x) (x ∷ chains (slot_for hashes n x))) d p
 
--- ALL MEMBERS OF A SEQUENCE TURNED ROUND come to their chains in its own order
+-- THE MEMBERS OF A REVERSED SEQUENCE come, one after the other, to the front of their chains, so that they have the order of the sequence there
 pub spread_reversed : (hashes : List ℕ) (n : ℕ) (chains : ℕ → List Place) (s : List Place) (i : ℕ)
     → spread_over hashes n chains (reverse s) i ≡ leading_to hashes n i s ++ chains i
 spread_reversed hashes n chains [] i = refl
@@ -131,14 +131,14 @@ spread_reversed hashes n chains (p ∷ s) i =
       | inr m ↦ rw m.0 (spread_reversed hashes n chains s i)
     ]
 
--- buckets hold chains however these are named
+-- if two functions give the same chain for each number, buckets that hold the chains of one hold the chains of the other
 pub holds_as : {words : List RawOne} {buckets : List RawFront} {c d : ℕ → List Place} → ((i : ℕ) → c i ≡ d i) → HoldsChains words buckets c → HoldsChains words buckets d
 holds_as {words} {buckets} {c} {d} same h = record {
   shown = λ i fits. subst (RepresentsList words (bucket_at buckets i)) (same i) (h.shown i fits);
   apart = λ i j fits fits' differ. subst (IsDisjoint (d i)) (same j) (subst (λ (l : List Place). IsDisjoint l (c j)) (same i) (h.apart i j fits fits' differ));
 }
 
--- and where entries change that are none of their members'
+-- if only entries of places change that are members of no chain, the buckets hold the same chains as before
 pub holds_beside : {es fs : List RawOne} {buckets : List RawFront} {chains : ℕ → List Place} (s : List Place) → HoldsChains es buckets chains
     → ChangesOnlyIn (table_of es) (table_of fs) s → ((i : ℕ) → i < length buckets → IsDisjoint (chains i) s) → HoldsChains fs buckets chains
 holds_beside s h frame away = record { shown = λ i fits. represents_frame s (h.shown i fits) (away i fits) frame.others; apart = h.apart }
@@ -146,7 +146,7 @@ holds_beside s h frame away = record { shown = λ i fits. represents_frame s (h.
 pub apart_reversed : (s t : List Place) → IsDisjoint s t → IsDisjoint s (reverse t)
 apart_reversed s t apart = absent_swap s t apart (reverse t) (λ q out. absent_reverse q t out)
 
--- THE MEMBERS OF r ARE SPREAD up to `at`
+-- THE MEMBERS OF r ARE SPREAD UP TO `at`: the members before `at` are in their buckets, and the members from `at` on are still a list
 pub record SpreadsTo (hashes : List ℕ) (t u : RawTable RawOne) (b c : List RawFront) (r : List Place) (at : Option Place) (left : ℕ) : Type 0 where
   pub done : List Place
   pub rest : List Place
@@ -196,7 +196,7 @@ module _ {hashes : List ℕ} {t u : RawTable RawOne} (v : RawTable RawOne) {b c 
     fits_b : i < length b
     fits_b = subst (λ (n : ℕ). i < n) count fits
 
-    -- the chain in the bucket begins with the place,
+    -- after the place p was moved to bucket i, the chain in this bucket is p and then the members that were there
     begins : RepresentsList (raw_entries v) (chain_of (slice_set c i (word_of_front (Some p))) (key_of hashes p)) (p ∷ chains i)
     begins =
         let old : Represents (lent_table u) (list_from (front_of (bucket_at c i))) (chains i) = viewed no_word kept u refl (now.shown i fits) in
@@ -205,7 +205,7 @@ module _ {hashes : List ℕ} {t u : RawTable RawOne} (v : RawTable RawOne) {b c 
         (represented_back no_word kept v refl (turned_represents only (chains i) set old (away i fits_b).0)) in
         subst (λ (w : RawFront). RepresentsList (raw_entries v) w (p ∷ chains i)) (sym (chain_written c (key_of hashes p) i slot (word_of_front (Some p)) fits)) new
 
-    -- and the others stay
+    -- after the place p was moved to bucket i, the buckets hold the chains with p in front of chain i, and the other chains as before
     spread_one : HoldsChains (raw_entries v) (slice_set c i (word_of_front (Some p))) (with_at chains i (p ∷ chains i))
     spread_one =
         let only_p : ChangesOnlyIn (lent_table u) (lent_table v) (p ∷ []) = record { extent = only.extent; others = λ q out. only.others q out.0 } in
@@ -241,7 +241,7 @@ module _ {hashes : List ℕ} {t u : RawTable RawOne} (v : RawTable RawOne) {b c 
         elim (k.own j) [ inl same ↦ inl (stays ∙ same) | inr gets ↦ inr (gets.0, gets.1, gets.2, stays ∙ gets.3) ]
   ]
 
-  -- ONE MEMBER MORE
+  -- ONE MEMBER MORE: after the next member was moved to its bucket, the members up to the member after it are spread
   pub spread_more : SpreadsTo hashes t v b (slice_set c i (word_of_front (Some p))) r next (left - 1)
   spread_more =
       let less = fewer k.rest p k.after.head in
@@ -291,7 +291,7 @@ stand_front : {t : Table RawOne} {list : Front} (s : List Place) → Represents 
 stand_front [] shown q e = absurd (none_not q (sym shown.head ∙ e))
 stand_front {t} (x ∷ s) shown q e = subst (λ (z : Place). is_linked_one (t.entry z) ≡ true) (some_same (sym shown.head ∙ e)) shown.chain.0.linked
 
--- so each bucket begins with none or a linked place
+-- if the buckets hold chains, the hash of each place leads to a bucket that is empty or begins with a linked place
 pub all_stand : (hashes : List ℕ) (t : RawTable RawOne) {buckets : List RawFront} {chains : ℕ → List Place} → HoldsChains (raw_entries t) buckets chains → 1 ≤ length buckets
     → (s : List Place) → AllByRecursion (LeadsToLinked (lent_table t) hashes buckets) s
 all_stand hashes t holds any [] = tt
@@ -299,16 +299,16 @@ all_stand hashes t {buckets} {chains} holds any (p ∷ s) =
     let within : slot_for hashes (length buckets) p < length buckets = mod-lt (key_of hashes p) (omega (arith, any)) in
     (stand_front (chains (slot_for hashes (length buckets) p)) (viewed no_word kept t refl (holds.shown (slot_for hashes (length buckets) p) within)), all_stand hashes t holds any s)
 
--- what changes when a list is turned round, and its members are spread, are their entries
+-- if a list is reversed and its members are spread, only entries of its members change
 pub both_frames : {t u v : Table RawOne} (s : List Place) → ChangesOnlyIn t u s → ChangesOnlyIn u v (reverse s) → ChangesOnlyIn t v s
 both_frames s one other = record { extent = other.extent ∙ one.extent; others = λ q out. other.others q (absent_reverse q s out) ∙ one.others q out }
 
--- a bucket's word, by the members turned round
+-- what holds for a bucket's word after the reversed members were moved holds after the members were moved
 pub own_reversed : (hashes : List ℕ) (buckets buckets' : List RawFront) (s : List Place) (i : ℕ) → StaysOrGets hashes buckets buckets' (reverse s) i
     → StaysOrGets hashes buckets buckets' s i
 own_reversed hashes buckets buckets' s i k = elim k [ inl same ↦ inl same | inr gets ↦ inr (gets.0, (λ out. gets.1 (absent_reverse gets.0 s out)), gets.2, gets.3) ]
 
--- what is so of a view is so of the words
+-- if only entries of s change in a view of the words, only entries of s change in the words
 pub frame_words : (a b : RawTable RawOne) {es fs : List RawOne} {s : List Place} → raw_entries a ≡ es → fs ≡ raw_entries b → ChangesOnlyIn (lent_table a) (lent_table b) s
     → ChangesOnlyIn (table_of es) (table_of fs) s
 frame_words a b {s = s} e f frame = let back : ChangesOnlyIn (table_of (raw_entries a)) (table_of (raw_entries b)) s = frame_back no_word a b frame in rw (← e, f) back

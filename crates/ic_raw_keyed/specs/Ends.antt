@@ -11,33 +11,35 @@ use Rattle.ic_raw.specs.Seen.{seen, seen_node, StepEndsIn}
 use Rattle.ic_raw.specs.Words.{place_in, is_linked_three}
 use Rattle.ic_raw_keyed.specs.declared.ends.RawTreeEnds.{RawTreeEnds}
 
--- the member at an end, by its word: the first one for the left side, the last one for the right
+-- the member that the word of an end names: the first member for the left side, the last member for the right side
 abbrev pub end_in : Side → RawTreeEnds → Option Place
 end_in Left ends = place_in ends.first
 end_in Right ends = place_in ends.last
 
--- the words of these ends, as a call writes them: 0 for none
+-- the two words that a call writes if the tree has these ends. The word of an end is 0 if there is none
 abbrev pub words_of : (first last : Option Place) → RawTreeEnds
 words_of first last = record { first = word_of first; last = word_of last }
 
--- the words of both ends have exactly the bits that a call writes
+-- the words of both ends have exactly the bits that a call writes for the places which these words name
 abbrev pub IsWritten : RawTreeEnds → Type 0
 IsWritten ends = ends ≡ words_of (place_in ends.first) (place_in ends.last)
 
--- THE WORDS NAME THE ENDS of s: its first and its last member, or none if it is empty
+-- THE WORDS NAME THE ENDS OF s: one word names the first member of s and the other the last member, or both name none if s is empty
 abbrev pub SaysEnds : RawTreeEnds → List Place → Type 0
 SaysEnds ends s = (side : Side) → end_in side ends ≡ end_on side s
 
--- an end after a place was inserted: as it was before, or that place if, as the words are read, no step leads from it further to this side
+-- the end on the side `side` after `place` was inserted: the end is as before, or it is `place`. In the second case no step leads from `place` further to this
+-- side, as the words are read
 abbrev pub EndWith : Table RawThree → (root : Option Place) → Side → (place was is : Option Place) → Type 0
 EndWith t root side place was is = (is ≡ was) ⊎ ((is ≡ place) × StepEndsIn t root side place)
 
--- the place to which a step inwards leads from the end `out` on a side, as the words are read: another linked place, or none
+-- A step inwards from the end `out` leads, as the words are read, to the given place, which is linked and not `out`. If no place is given, no step leads
+-- inwards from `out`
 abbrev pub IsNextEnd : Table RawThree → (root : Option Place) → Side → (out : Place) → Option Place → Type 0
 IsNextEnd t root side out None = StepEndsIn t root (across side) (Some out)
 IsNextEnd t root side out (Some q) = StepsTo seen_node (seen t) root (across side) (Some out) q × IsLinked is_linked_three t q × (q ≢ out)
 
--- AN END AFTER THE MEMBER `out` WAS REMOVED: as it was before, or the next member inwards if `out` was that end
+-- AN END AFTER THE MEMBER `out` WAS REMOVED: if `out` was the end on this side, the next member inwards is the end now. Otherwise the end is as before
 pub record LosesEnd (t : Table RawThree) (root : Option Place) (side : Side) (out : Place) (was is : Option Place) : Type 0 where
   pub next : was ≡ Some out → IsNextEnd t root side out is
   pub other : was ≢ Some out → is ≡ was

@@ -12,10 +12,11 @@ use Rattle.ic_raw.specs.Singly.{RepresentsList, table_of, word_of_front}
 use Rattle.ic_raw.specs.Words.{is_linked_one}
 use Rattle.ic_raw_keyed.specs.Growth.{LeadsToLinked, StaysOrGets, leading_to}
 
--- `hashes`: the hash of each place. `old`, `new`: the words of the table before the call and after it. `chain`, `chain'`, `buckets`, `buckets'`: the
--- words of the chain, and of the buckets to which its members move. `status`: the status that the call returns
+-- `hashes` has the hash of each place. `old` and `new` are the words of the table before and after the call. `chain` and `chain'` are the words of the chain
+-- before and after it, and `buckets` and `buckets'` the words of the buckets to which the members of the chain move. `status` is the status that the call
+-- returns
 module _ (hashes : List ℕ) (old new : List RawOne) (chain chain' : RawFront) (buckets buckets' : List RawFront) (status : ℕ) where
-  -- ALL MEMBERS OF A CHAIN MOVE, each to the front of the bucket to which its hash leads. Members that come into one bucket keep their order
+  -- ALL MEMBERS OF A CHAIN MOVE: each member moves to the front of the bucket to which its hash leads. Members that come into one bucket keep their order
   pub record MoveChainCall : Type 0 where
     pub moved : (s : List Place) (chains : ℕ → List Place) → length old ≤ length hashes → 1 ≤ length buckets → RepresentsList old chain s
         → HoldsChains old buckets chains → ((i : ℕ) → i < length buckets → IsDisjoint (chains i) s)

@@ -16,17 +16,17 @@ use ic_link_ops::Side;
 use ic_raw::place_in;
 use ic_unsafe_ref::Place;
 
-/// The first and the last member of a red-black tree: the words for both. Zeroed memory is right for an empty tree.
+/// The words of the first and of the last member of a red-black tree. Zeroed memory is right for an empty tree.
 #[repr(C)]
 #[derive(Clone, Copy)]
 pub struct RawTreeEnds {
-    /// The word for the first member, 0 for none.
+    /// The word of the first member, or 0 if the tree has no member.
     pub first: u64,
-    /// The word for the last member, 0 for none.
+    /// The word of the last member, or 0 if the tree has no member.
     pub last: u64,
 }
 
-// Returns whether the end is that place. It compares words.
+// Returns whether the end `end` is the place `place`. The function compares their words.
 #[inline]
 pub(crate) fn is_at(end: Option<Place>, place: Place) -> bool
     ensures { result ≡ is_end end place }
@@ -34,7 +34,7 @@ pub(crate) fn is_at(end: Option<Place>, place: Place) -> bool
     Place::to_word(end) == Place::to_word(Some(place))
 }
 
-// Returns the end after `new` has replaced the member `out`.
+// Returns the end that was `end` after `new` has replaced the member `out`.
 #[inline]
 fn end_for(out: Place, new: Option<Place>, end: Option<Place>) -> Option<Place>
     ensures { (p : Place) → new ≡ Some p → result ≡ end_for out p end }
@@ -43,7 +43,7 @@ fn end_for(out: Place, new: Option<Place>, end: Option<Place>) -> Option<Place>
 }
 
 impl RawTreeEnds {
-    // Returns the words of these ends.
+    // Returns the words for the first and the last member.
     #[inline]
     #[tactic(auto, using(ic_raw::proofs::Entries::place_kept))]
     pub(crate) fn of(first: Option<Place>, last: Option<Place>) -> RawTreeEnds
@@ -57,7 +57,7 @@ impl RawTreeEnds {
         }
     }
 
-    // Returns the end on this side: the first member for the left, the last one for the right.
+    // Returns the end on the given side: the first member for the left, the last member for the right.
     #[inline]
     pub(crate) fn end(&self, side: Side) -> Option<Place>
         ensures { result ≡ end_in side self.now }
@@ -68,7 +68,7 @@ impl RawTreeEnds {
         }
     }
 
-    // Returns the ends after `new` was inserted on this side of the member `at`, or as the only member for `None`.
+    // Returns the ends of the tree after `new` was inserted on the given side of the member `at`, or as the only member if `at` is `None`.
     #[inline]
     pub(crate) fn with(&self, side: Side, at: Option<Place>, new: Option<Place>) -> RawTreeEnds
         ensures own { (p : Place) → new ≡ Some p → (d : Side) → end_in d result ≡ end_with d at side p (end_in d self.now) }
@@ -85,7 +85,7 @@ impl RawTreeEnds {
         }
     }
 
-    // Returns the ends after `new` has replaced the member `out`.
+    // Returns the ends of the tree after `new` has replaced the member `out`.
     #[inline]
     pub(crate) fn replaced(&self, out: Place, new: Option<Place>) -> RawTreeEnds
         ensures own { (p : Place) → new ≡ Some p → (d : Side) → end_in d result ≡ end_for out p (end_in d self.now) }

@@ -1,4 +1,4 @@
-//! Moves of the members of a chain to other buckets, over a view of the table.
+//! How the members of a chain move to other buckets, over a view of the table.
 //!
 //! ```text
 //! let back = reverse(&mut links, front);       // so that those of one bucket keep their order
@@ -30,7 +30,7 @@ fn slot_for(hashes: &[u64], count: usize, place: Place) -> usize
     (hashes[place.index()] % count as u64) as usize
 }
 
-// Returns the first member of a bucket.
+// Returns the first member of the chain in a bucket.
 #[inline]
 fn front_at(buckets: &[RawFront], slot: usize) -> Option<Place>
     requires { slot < length buckets.now }
@@ -39,7 +39,7 @@ fn front_at(buckets: &[RawFront], slot: usize) -> Option<Place>
     place_in(buckets[slot].head)
 }
 
-// Makes this member the first of a bucket.
+// Makes the place `first` the first member of the chain in a bucket.
 #[inline]
 fn set_front(buckets: &mut [RawFront], slot: usize, first: Place)
     requires { slot < length buckets.old }
@@ -50,7 +50,7 @@ fn set_front(buckets: &mut [RawFront], slot: usize, first: Place)
     };
 }
 
-// Sets the place after a linked place, and returns the one that was there before.
+// Links a linked place to the place `after`, and returns the place to which it was linked before.
 #[inline]
 fn turn(links: &mut RawTable<'_, RawOne>, place: Place, after: Option<Place>) -> Option<Place>
     requires { IsLinked is_linked_one (lent_table links.old) place }
@@ -64,7 +64,7 @@ fn turn(links: &mut RawTable<'_, RawOne>, place: Place, after: Option<Place>) ->
     next
 }
 
-// Returns whether the links from `front` on lead to an end, and the bucket of each place on the way is empty or begins with a linked place.
+// Returns whether the links from `front` on lead to an end, and each place on the way belongs in a bucket that is empty or begins with a linked place.
 pub(crate) fn can_move(
     links: &RawTable<'_, RawOne>,
     hashes: &[u64],
@@ -118,7 +118,7 @@ pub(crate) fn reverse(links: &mut RawTable<'_, RawOne>, front: Option<Place>) ->
     back
 }
 
-// Moves each member of a list, one after the other, to the front of its bucket.
+// Moves the members of a list, one after the other, each to the front of the bucket to which its hash leads.
 pub(crate) fn spread(
     links: &mut RawTable<'_, RawOne>,
     hashes: &[u64],

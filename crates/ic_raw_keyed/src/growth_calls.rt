@@ -9,11 +9,11 @@ ghost use Rattle.ic_raw_keyed.specs.GrowthCalls.{MoveChainCall};
 use crate::growth::{can_move, reverse, spread};
 use ic_raw::{BROKEN, OK, OUT_OF_RANGE, RawFront, RawOne, RawTable, place_in};
 
-/// Moves each member of a chain to the front of bucket `hash % buckets` of another array, and leaves the chain empty. Each place stays linked, and
-/// members that go to the same bucket keep their order. It reads three entries of the table for each member.
+/// Moves each member of a chain to the front of bucket `hash % buckets` of another array, and leaves the chain empty. Each place stays linked, and members that
+/// go to the same bucket keep their order. The call reads three entries of the table for each member.
 ///
-/// There must be a hash for each place of the table, and at least one bucket. It returns [`BROKEN`] if the links of the chain lead to no end or out
-/// of the table, or if the bucket of a member begins with a place that is not linked.
+/// There must be a hash for each place of the table, and at least one bucket. The call returns [`BROKEN`] if the links of the chain lead to no end or out of
+/// the table. The call also returns [`BROKEN`] if the bucket of a member begins with a place that is not linked.
 pub fn move_chain(
     table: &mut [RawOne],
     hashes: &[u64],

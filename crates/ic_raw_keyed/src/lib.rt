@@ -1,5 +1,4 @@
-//! Calls for C that are built on `ic_raw`: those of red-black trees that keep their first and their last member, and the call by which a hash table
-//! grows.
+//! Calls for C that are built on `ic_raw`: the calls of red-black trees that keep their first and their last member, and the call by which a hash table grows.
 //!
 //! ```text
 //! ends_calls::insert(table, keys, tree, ends, 7)       // OK, and `ends` says the first member and the last one
@@ -7,7 +6,7 @@
 //! growth_calls::move_chain(table, hashes, &mut old[3], new) // OK: the members of old[3] are in the buckets of `new`
 //! ```
 //!
-//! No call requires anything of its arguments. Each returns a status as the calls of `ic_raw` do, and changes nothing if the status is not `OK`.
+//! No call requires anything of its arguments. Each call returns a status as the calls of `ic_raw` do, and changes nothing if the status is not `OK`.
 #![tactic(auto)]
 
 mod ends;

@@ -1,4 +1,4 @@
--- A walk around a ring of whose words nobody vouches: each place that it passes leads to the next one, which leads back.
+-- A walk around a ring whose words may contain anything. Each passed place leads to the next place, which leads back.
 use Rattle.std.proofs.Common.{◌≡◌, ◌≢◌, ℕ, ◌+◌, ◌<◌, Option, Some, None, List, [], ◌∷◌, ◌++◌, length, length-append, append_assoc, append-nil, true, refl, sym, ap, subst, ◌∙◌, arith}
 use Rattle.ic_link_ops.specs.Prelude.{Place, IsAbsent, IsDistinct, first_or, last_or, last, Table, IsCovered}
 use Rattle.ic_link_ops.specs.LinkedList.{Neighbors, neighbors_at, IsBetween, IsChain}
@@ -9,7 +9,7 @@ use Rattle.ic_ring.specs.Rings.{IsCircle}
 use Rattle.ic_raw_lists.specs.RingOrders.{IsNotAmong}
 
 module _ {E : Type 0} (n : E → Neighbors) where
-  -- a place that leads back to the last of a chain is none of those after its first
+  -- a place that leads back to the last place of a chain is not among the places of the chain after the first
   next_absent : (t : Place → E) (y x : Place) (s : List Place) → IsChain n t (Some y) s (Some x) → (n (t x)).prev ≡ last_or (Some y) s → IsDistinct (y ∷ s) → IsAbsent x s
   next_absent t y x [] c back d = tt
   next_absent t y x (z ∷ s) c back d = (
@@ -17,7 +17,7 @@ module _ {E : Type 0} (n : E → Neighbors) where
     next_absent t z x s c.1 back d.1,
   )
 
-  -- THE WALK HAS PASSED `count` places, from the head on, and has come to `at`
+  -- THE WALK HAS PASSED `count` places, from the head on, and has come to the place `at`
   pub record Passes (t : Table E) (head at : Place) (count : ℕ) : Type 0 where
     pub passed : List Place
     pub chain : IsChain n t.entry (neighbors_at n t head).prev passed (Some at)
@@ -27,20 +27,20 @@ module _ {E : Type 0} (n : E → Neighbors) where
     pub counted : count ≡ length passed
     pub leads : (s : List Place) → IsCircle n t.entry (head ∷ s) → (rest : List Place) × (head ∷ s ≡ passed ++ at ∷ rest)
 
-  -- at first it has passed none
+  -- at the beginning the walk is at the head and has passed no place
   pub passes_none : (t : Table E) (head : Place) → (k : Passes t head head 0) × (k.passed ≡ [])
   passes_none t head =
       (record { passed = []; chain = tt; starts = refl; comes = refl; distinct = (tt, tt); counted = refl; leads = λ s c. (s, refl) }, refl)
 
   module _ {t : Table E} {head at : Place} {count : ℕ} (k : Passes t head at count) where
-    -- HOW THE PLACE STANDS in any circle: before the rest, and after the last of that the head stands again
+    -- THE PLACE IN ANY CIRCLE: the walk's place `at` leads to the first place of the rest of the circle, or to the head if nothing is left
     pub stands_there : (s : List Place) (c : IsCircle n t.entry (head ∷ s)) → (neighbors_at n t at).next ≡ first_or (k.leads s c).0 (Some head)
     stands_there s c =
         let parts = (k.leads s c).1 in
         let whole = subst (λ r. IsChain n t.entry (last (head ∷ s)) r (Some head)) parts c.chain in
         (chain_cut (IsBetween n) t.entry (last (head ∷ s)) k.passed (at ∷ (k.leads s c).0) (Some head) whole).1.0.next
 
-    -- no circle has more places than the table
+    -- if the words contain a circle with this head, the walk has passed fewer places than the table has
     pub few_passed : ((q : Place) → (neighbors_at n t q).linked ≡ true → IsCovered t q) → (s : List Place) → IsCircle n t.entry (head ∷ s) → count < t.extent.places
     few_passed covered s c =
         let few = stretch_length {between = IsBetween n} t (λ q b a h. covered q h.linked) {b = last (head ∷ s)} {from = Some head} {to = last (head ∷ s)} {a = Some head} {w = head ∷ s}
@@ -48,7 +48,7 @@ module _ {E : Type 0} (n : E → Neighbors) where
         let l = k.leads s c in
         omega (arith, few, k.counted, ap length l.1, length-append k.passed (at ∷ l.0))
 
-    -- `next`: the place after it, which leads back to it
+    -- `next` is the place to which the walk's place `at` leads, and `next` leads back to `at`
     module _ {next : Place} (linked : (neighbors_at n t at).linked ≡ true) (leads : (neighbors_at n t at).next ≡ Some next) (back : (neighbors_at n t next).prev ≡ Some at) where
       chain_on : IsChain n t.entry (neighbors_at n t head).prev (k.passed ++ at ∷ []) (Some next)
       chain_on =
@@ -65,7 +65,7 @@ module _ {E : Type 0} (n : E → Neighbors) where
       new_place [] d c e starts other = tt
       new_place (y ∷ w) d c e starts other = ((λ h. other (h ∙ sym (some_same starts))), next_absent t.entry y next w c.1 e d)
 
-      -- THE WALK GOES ON to another place than the head
+      -- THE WALK GOES ON to the place `next` if this is not the head
       pub passes_more : next ≢ head → {more : ℕ} → more ≡ count + 1 → (l : Passes t head next more) × (l.passed ≡ k.passed ++ at ∷ [])
       passes_more other {more} is = (
         record {
@@ -87,7 +87,7 @@ module _ {E : Type 0} (n : E → Neighbors) where
         goes_on s c (x ∷ rest) parts stands =
             let same : x ≡ next = some_same (sym stands ∙ leads) in (rest, parts ∙ ap (λ p. k.passed ++ at ∷ p ∷ rest) same ∙ sym (append_assoc k.passed (at ∷ []) (next ∷ rest)))
 
-      -- AND WHERE IT COMES BACK to the head, the places are a circle
+      -- THE WALK COMES BACK to the head: the head and the other passed places are a circle
       pub passes_all : next ≡ head → (s : List Place) × IsCircle n t.entry (head ∷ s) × (length s ≡ count)
       passes_all same =
           let ends : (neighbors_at n t head).prev ≡ last (k.passed ++ at ∷ []) =
@@ -104,7 +104,7 @@ module _ {E : Type 0} (n : E → Neighbors) where
                 let circle : IsCircle n t.entry (y ∷ w) = record { distinct = d; chain = chain } in
                 (w, subst (λ q. IsCircle n t.entry (q ∷ w)) first_is circle, omega (arith, long))
 
--- A PLACE THAT IS NOT AMONG those that are passed
+-- A PLACE THAT IS NOT AMONG THE PASSED PLACES: as long as no place is passed, the place `apart` is not among them
 pub none_of_nothing : (apart : Option Place) → IsNotAmong apart []
 none_of_nothing None = tt
 none_of_nothing (Some p) = tt
@@ -117,7 +117,7 @@ pub is_among : (apart : Option Place) (s : List Place) (at : Place) (rest : List
 is_among None s at rest same out = let no : None ≡ Some at = same in cc
 is_among (Some p) s at rest same out = (absent_right p s (at ∷ rest) out).0 (some_same same)
 
--- where the rest has no member, all are passed
+-- if one more place was passed than s has, all places are passed, and the place `apart` is not among them
 pub none_of_all : (apart : Option Place) (w s : List Place) (at : Place) (rest : List Place) → w ≡ s ++ at ∷ rest → length w ≡ length s + 1 → IsNotAmong apart (s ++ at ∷ []) → IsNotAmong apart w
 none_of_all apart w s at [] parts long out = rw parts out
 none_of_all apart w s at (x ∷ rest) parts long out = absurd (omega (arith, long, ap length parts, length-append s (at ∷ x ∷ rest)))

@@ -1,4 +1,4 @@
--- A member of one list that goes into another one: no other member of either is touched but the neighbors.
+-- How a member moves from one list into another. Of the other members of both lists, only the neighbors of the member are changed.
 use Rattle.std.proofs.Common.{◌≡◌, ◌≢◌, Option, Some, List, [], ◌∷◌, ◌++◌, refl, ◌∙◌}
 use Rattle.ic_link_ops.specs.Prelude.{Place, Cut, join, insert, first, last, IsAbsent, IsAfter, IsBefore, IsDisjoint, Table}
 use Rattle.ic_link_ops.specs.Chains.{Ends}
@@ -12,12 +12,12 @@ use Rattle.ic_raw.proofs.Lists.{kept}
 use Rattle.ic_raw.proofs.LinkViews.{frame_back}
 use Rattle.ic_raw_lists.specs.TransferCalls.{Transfers}
 
--- no member of a list is one of another list
+-- if two lists share no member, a member p of the first list is not in the second
 pub apart_at : (front : List Place) (p : Place) (back u : List Place) → IsDisjoint (front ++ p ∷ back) u → IsAbsent p u
 apart_at [] p back u apart = apart.0
 apart_at (x ∷ front) p back u apart = apart_at front p back u apart.1
 
--- the neighbors of p are turned to each other, and then p is put where the other list is cut
+-- first the neighbors of p are linked to each other, and then p is linked into the other list at the position where it is cut
 pub transferred : {W : Type 0} (words : LinkWords W) {Names : Type 0} {old mid new : Table W} {list list' given given' : Ends} (cut : Cut) (front : List Place) (p : Place) (back : List Place)
     {b a before following : Option Place} → b ≡ last front → a ≡ first back → IsAfter cut before → IsBefore cut following
     → Represents words old list (join cut) → Represents words old given (front ++ p ∷ back) → IsDisjoint (front ++ p ∷ back) (join cut)
@@ -47,7 +47,7 @@ transferred words {old = old} {mid} {new} {list} {given' = given'} cut front p b
       };
     }
 
--- what is done to the view is done to the words, once both lists are kept
+-- if a transfer was made in a view of the words and the words of both lists were stored, the transfer was made in the words
 pub transfers_back : {W : Type 0} (words : LinkWords W) (a b : RawTable W) {es fs : List W} {h h' g g' : Ends} {cut : Cut} {front : List Place} {p : Place} {back : List Place}
     → raw_entries a ≡ es → fs ≡ raw_entries b → h' ≡ h → g' ≡ g → Transfers words (lent_table words a) (lent_table words b) h g cut front p back
     → Transfers words (table_of words es) (table_of words fs) h' g' cut front p back

@@ -8,9 +8,9 @@ use Rattle.ic_raw.specs.Answers.{IsStatus, refusal}
 use Rattle.ic_raw.specs.LinkWords.{fault_at, wide_words}
 use Rattle.ic_raw_lists.specs.RingOrders.{RepresentsRing}
 
--- `old`, `new`: the words of the table before the call and after it
+-- `old` and `new` are the words of the table before and after the call
 module _ (old new : List RawTwo) (status : ℕ) where
-  -- THE MEMBERS OF A HEAD ARE COUNTED, not counting the head, if the words represent a ring with it, and their number replaces `was`
+  -- THE MEMBERS OF A RING ARE COUNTED: if the words represent a ring with the head `head`, the number of its members replaces `was`. The head is not counted
   pub record RingCheckCall (head : Option Place) (was members : ℕ) : Type 0 where
     pub shown : status ≡ OK → IsRepresented (RepresentsRing old head) members
     pub not_represented : status ≢ OK → RepresentsNone (RepresentsRing old head)

@@ -1,8 +1,8 @@
--- The words of a singly linked list, as the contracts that serve every kind of lists need them.
+-- The words of a singly linked list, as contracts for lists of any kind use them.
 use Rattle.ic_link_ops.specs.SinglyLinkedList.{Front}
 use Rattle.ic_raw.specs.declared.words.RawFront.{RawFront}
 use Rattle.ic_raw.specs.Singly.{word_of_front}
 
--- the word of a list, as a call writes it
+-- the word that a call writes for a singly linked list
 abbrev pub word_of : Front → RawFront
 word_of list = word_of_front list.head

@@ -1,9 +1,9 @@
--- WHAT A CALL DOES THAT MOVES A MEMBER OF ONE DOUBLY LINKED LIST INTO ANOTHER: the record is the whole contract of a call.
+-- WHAT A CALL DOES THAT MOVES A MEMBER OF ONE DOUBLY LINKED LIST INTO ANOTHER: the last record is the whole contract of the call.
 use Rattle.std.specs.Prelude.{◌≡◌, ◌≢◌, ◌↔◌, ◌++◌, ◌∷◌, ℕ, List, [], Option, Some, None}
 use Rattle.ic_link_ops.specs.Prelude.{Place, Cut, join, insert, IsDisjoint, Table, ChangesOnlyIn, KeepsLinked}
 use Rattle.ic_link_ops.specs.Chains.{Ends}
-use Rattle.ic_raw.specs.declared.gap.Side.{Side}
-use Rattle.ic_raw.specs.declared.gap.Side.TheVariants.{After, Before}
+use Rattle.ic_raw.specs.declared.gap.GapSide.{GapSide}
+use Rattle.ic_raw.specs.declared.gap.GapSide.TheVariants.{After, Before}
 use Rattle.ic_raw.specs.declared.status.TheConstants.{OK, NULL}
 use Rattle.ic_raw.specs.declared.words.RawEnds.{RawEnds}
 use Rattle.ic_raw.specs.Answers.{IsAccepted, IsStatus, refusal}
@@ -12,24 +12,25 @@ use Rattle.ic_raw.specs.Gaps.{IsApart, IsBeside, PutIn, TakenOut}
 use Rattle.ic_raw.specs.LinkWords.{LinkWords, table_of, fault_at}
 use Rattle.ic_raw.specs.Touches.{Touches, sides}
 
--- p is inserted at the cut of the list, and the given list keeps the members that were on both sides of p. Only entries of members of the two lists
--- have changed
+-- In the table `new`, `list` has p at the position where `cut` divides it, and `given` has the members that were before and after p. Only entries of members of
+-- the two lists have changed
 pub record Transfers {W : Type 0} (link : LinkWords W) (old new : Table W) (list given : Ends) (cut : Cut) (front : List Place) (p : Place) (back : List Place) : Type 0 where
   pub shows : Represents link new list (insert cut p)
   pub keeps : Represents link new given (front ++ back)
   pub frame : ChangesOnlyIn old new (insert cut p ++ (front ++ back))
 
--- `link`: how the words of a place are read. `old`, `new`: the words of the table before the call and after it. `list`, `list'`, `given`, `given'`:
--- the words of the two lists before and after. `status`: the status that the call returns
+-- `link` says how the words of a place are read. `old` and `new` are the words of the table before and after the call. `list` and `list'`, and `given` and
+-- `given'`, are the words of the two lists before and after the call. `status` is the status that the call returns
 module _ {W : Type 0} (link : LinkWords W) (old new : List W) (list list' : RawEnds) (status : ℕ) where
-  -- p moves from a list that shares no member with this one to the position at which this one is cut
+  -- p moves from the list `given` to the position at which `cut` divides the list `list`, if the two lists share no member
   abbrev pub Transferred : (given given' : RawEnds) → Cut → (front : List Place) → Place → (back : List Place) → Type 0
   Transferred given given' cut front p back =
       RepresentsList link old list (join cut) → RepresentsList link old given (front ++ p ∷ back) → IsDisjoint (front ++ p ∷ back) (join cut)
       → IsAccepted status (Transfers link (table_of link old) (table_of link new) (ends_of list') (ends_of given') cut front p back)
 
-  -- A MEMBER OF THE GIVEN LIST MOVES INTO THE GAP on this side of the member `at`, or to an end of the list if `at` is none
-  pub record TransferCall (side : Side) (at : Option Place) (given given' : RawEnds) (place : Option Place) : Type 0 where
+  -- A MEMBER MOVES INTO A GAP OF ANOTHER LIST: the member `place` of the list `given` moves into the gap of `list` on the side `side` of the member `at`. If
+  -- `at` is none, `place` moves to an end of `list`
+  pub record TransferCall (side : GapSide) (at : Option Place) (given given' : RawEnds) (place : Option Place) : Type 0 where
     pub moved : (cut : Cut) (front back : List Place) (p : Place) → IsBeside side cut at → place ≡ Some p → Transferred given given' cut front p back
     pub null : (status ≡ NULL) ↔ (place ≡ None)
     pub stands : status ≡ OK → IsNoneOrLinkedIn link old at

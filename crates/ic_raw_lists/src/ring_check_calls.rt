@@ -11,11 +11,11 @@ use crate::ring_walk::count_members;
 use ic_raw::number::place_of;
 use ic_raw::{NULL, OK, RawTable, RawTwo};
 
-/// Checks that the words represent a ring with this head, and stores the number of its members, not counting the head, in `members`, or returns
-/// [`BROKEN`](ic_raw::BROKEN) if they do not represent one. O(n).
+/// Checks that the words represent a ring with the head `head`, and stores the number of its members, without the head, in `members`. If the words do not
+/// represent such a ring, the call returns [`BROKEN`](ic_raw::BROKEN). O(n).
 ///
-/// It writes nothing else. It returns [`NULL`] if `head` is [`NONE`](ic_raw::NONE). If it returns [`OK`], every other call does with this ring what
-/// its own comment says.
+/// The call writes nothing else. The call returns [`NULL`] if `head` is [`NONE`](ic_raw::NONE). If the result is [`OK`], every other call does with this ring
+/// what the comment of that call says.
 #[inline]
 pub fn check(table: &mut [RawTwo], head: u32, members: &mut u64) -> u32
     ensures { RingCheckCall table.old table.new result (place_of head) members.old members.new }

@@ -1,4 +1,4 @@
-//! A walk around a ring whose words may be anything.
+//! A walk around a ring, where the words may contain anything.
 //!
 //! ```text
 //! let Some(members) = count_members(&links, head, None) else { .. }; // the links lead around no circle back to the head
@@ -10,11 +10,11 @@ ghost use Rattle.ic_raw.specs.LinkWords.{lent_table, wide_words};
 ghost use Rattle.ic_raw_lists.specs.RingOrders.{RingApart};
 
 use ic_raw::ring::beside;
-use ic_raw::{RawTable, RawTwo, Side};
+use ic_raw::{GapSide, RawTable, RawTwo};
 use ic_unsafe_ref::Place;
 
-// Returns how many members the ring with this head has, or `None` if the words represent no such ring, or one that contains the place `apart`. It
-// makes at most as many steps as the table has places.
+// Returns how many members the ring with the head `head` has. The result is `None` if the words represent no ring with this head, or a ring that contains the
+// place `apart`. The walk makes at most as many steps as the table has places.
 pub(crate) fn count_members(
     links: &RawTable<'_, RawTwo>,
     head: Place,
@@ -28,7 +28,7 @@ pub(crate) fn count_members(
         if Place::to_word(apart) == Place::to_word(Some(at)) {
             return None;
         }
-        let Some(pair) = beside(links, Side::After, at) else {
+        let Some(pair) = beside(links, GapSide::After, at) else {
             return None;
         };
         if pair.1 == head {

@@ -1,14 +1,14 @@
-//! Moves of a member of one doubly linked list into another one: what is tested of both lists, and the edit over a view of the table.
+//! How a member of one doubly linked list moves into another list: what is tested of both lists, and the edit over a view of the table.
 //!
 //! ```text
-//! let Some((from, to)) = gaps_to_transfer(&links, &list, Side::After, at, &given, member) else { .. };
+//! let Some((from, to)) = gaps_to_transfer(&links, &list, GapSide::After, at, &given, member) else { .. };
 //! relocate(&mut links, &mut list, &mut given, from, member, to);
 //! ```
 
 ghost use Rattle.std.specs.Prelude.{◌≡◌, ◌≢◌, ◌++◌, ◌∷◌, [], List, Option, Some, None};
 ghost use Rattle.ic_link_ops.specs.Prelude.{Place, Cut, join, IsDisjoint, KeepsLinked};
 ghost use Rattle.ic_raw.specs.declared.gap.Gap.{Gap};
-ghost use Rattle.ic_raw.specs.declared.gap.Side.TheVariants.{After, Before};
+ghost use Rattle.ic_raw.specs.declared.gap.GapSide.TheVariants.{After, Before};
 ghost use Rattle.ic_raw.specs.Doubly.{Represents, TellsGap, around, gap_from};
 ghost use Rattle.ic_raw.specs.Gaps.{IsApart, IsBeside, PutIn, IsNoneOrLinked, StandBeside, TakenOut, gap_of};
 ghost use Rattle.ic_raw.specs.LinkWords.{lent_table};
@@ -17,17 +17,17 @@ ghost use Rattle.ic_raw_lists.specs.TransferCalls.{Transfers};
 
 use ic_raw::gap::begin_alike;
 use ic_raw::list::{List, beside, gap_at};
-use ic_raw::{Gap, ListWords, RawTable, Side};
+use ic_raw::{Gap, GapSide, ListWords, RawTable};
 use ic_unsafe_ref::Place;
 
-// Returns the places on both sides of a member of the given list, and the gap beside a member of the list to which it is to go. The result is `None`
-// if the links beside the member do not lead back to it, if those on the two sides of the gap do not lead to each other, if the member is beside the
-// gap, or if both lists begin with the same member.
+// Returns the places on both sides of a member of the list `given`, and the gap of the list `list` to which this member is to move. The result is `None` if the
+// neighbors of the member are not linked back to it, or if the sides of the gap are not linked to each other. The result is also `None` if the member is beside
+// the gap, or if both lists begin with the same member.
 #[inline]
 pub(crate) fn gaps_to_transfer<W: ListWords>(
     links: &RawTable<'_, W>,
     list: &List,
-    side: Side,
+    side: GapSide,
     at: Option<Place>,
     given: &List,
     member: Place,
@@ -62,7 +62,7 @@ pub(crate) fn gaps_to_transfer<W: ListWords>(
     Some((from, to))
 }
 
-// Moves a member of the given list from between these two places into a gap of the list that is not beside it. The member stays linked.
+// Moves a member of the list `given` from between its two neighbors into a gap of the list `list` that is not beside the member. The member stays linked.
 #[inline]
 pub(crate) fn relocate<W: ListWords>(
     links: &mut RawTable<'_, W>,

@@ -1,7 +1,7 @@
 //! The call that moves a member of one doubly linked list into another one of the same table.
 //!
 //! ```text
-//! transfer_at(table, list, Side::After, NONE, given, 7) // OK: 7 is the first member of `list`, and no longer one of `given`
+//! transfer_at(table, list, GapSide::After, NONE, given, 7) // OK: 7 is the first member of `list`, and no longer one of `given`
 //! ```
 
 ghost use Rattle.ic_raw.specs.Words.{place_of};
@@ -10,18 +10,18 @@ ghost use Rattle.ic_raw_lists.specs.TransferCalls.{TransferCall};
 use crate::transfer::{gaps_to_transfer, relocate};
 use ic_raw::list_calls::{list_of, write_back};
 use ic_raw::number::place_of;
-use ic_raw::{ListWords, NULL, OK, RawEnds, RawTable, Side};
+use ic_raw::{GapSide, ListWords, NULL, OK, RawEnds, RawTable};
 
-/// Moves the member `place` of the given list into the gap on this side of the member `at` of the list, or to the end that the side means if `at` is
-/// [`NONE`](ic_raw::NONE). The member stays linked during the call. O(1).
+/// Moves the member `place` of the list `given` into the gap on the given side of the member `at` of the list `list`. If `at` is [`NONE`](ic_raw::NONE),
+/// `place` moves to the end of `list` that the side means. The member stays linked during the call. O(1).
 ///
-/// It returns [`NULL`] if `place` is [`NONE`](ic_raw::NONE), else the first fault of the two places, or else [`BROKEN`](ic_raw::BROKEN), for example
-/// if both lists begin with the same member. A refused call changes no word.
+/// The call returns [`NULL`] if `place` is [`NONE`](ic_raw::NONE), else the first fault of the two places, or else [`BROKEN`](ic_raw::BROKEN). For example, it
+/// returns [`BROKEN`](ic_raw::BROKEN) if both lists begin with the same member. A refused call changes no word.
 #[inline]
 pub fn transfer_at<W: ListWords>(
     table: &mut [W],
     list: &mut RawEnds,
-    side: Side,
+    side: GapSide,
     at: u32,
     given: &mut RawEnds,
     place: u32,

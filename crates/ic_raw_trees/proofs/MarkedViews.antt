@@ -1,4 +1,4 @@
--- What holds of a view of a tree's words holds of the words that were lent.
+-- If a statement holds of a view of a tree's words, it holds of the words that the caller lent.
 use Rattle.std.proofs.Common.{◌≡◌, true, false, cond, is_some, nat_lt, List, [], ◌∷◌, ◌++◌, Option, Some, None, refl, sym, ap, ◌∙◌}
 use Rattle.ic_link_ops.specs.Prelude.{Place, index_of, Cut, ChangesOnlyIn, HasMember, LinkStep, TraceIs}
 use Rattle.ic_link_ops.specs.Edits.{Inserts, Splits}
@@ -17,7 +17,7 @@ use Rattle.ic_raw.specs.Words.{is_linked_three, no_tree_words}
 use Rattle.ic_raw.proofs.Runs.{free_of}
 use Rattle.ic_raw.proofs.Trees.{kept}
 
--- a view of these words represents what they represent, and the other way round
+-- a view of the words represents a sequence exactly if the words represent it
 module _ (a : MarkedTree) {es : List RawThree} (e : marked_entries a ≡ es) where
   pub viewed : {root : Option Place} {s : List Place} → Represents (table_of es) root s → Represents (marked_table a) root s
   viewed shown = kept _ _ _ _ shown (λ q. ap (λ words. entry_at no_tree_words words q) e)
@@ -37,7 +37,7 @@ module _ (a : MarkedTree) {es : List RawThree} (e : marked_entries a ≡ es) whe
   pub member_back : {root : Option Place} {p : Place} → HasMember (Represents (marked_table a) root) p → HasMember (Represents (table_of es) root) p
   member_back has = record { front = has.front; back = has.back; shown = represented_back has.shown }
 
--- what an edit does to the view it does to the words
+-- an edit of a view is an edit of the words that the caller lent
 module _ (a b : MarkedTree) {es fs : List RawThree} (e : marked_entries a ≡ es) (f : fs ≡ marked_entries b) where
   frame_back : {s : List Place} → ChangesOnlyIn (marked_table a) (marked_table b) s → ChangesOnlyIn (table_of es) (table_of fs) s
   frame_back {s} keeps =
@@ -63,7 +63,7 @@ module _ (a b : MarkedTree) {es fs : List RawThree} (e : marked_entries a ≡ es
       let back : TraceIs is_linked_three (table_of (marked_entries a)) (table_of (marked_entries b)) steps = trace_within is_linked_three _ _ steps _ _ makes in
       rw (← e, f) back
 
--- the fault of a place in a view of the table is that among the words
+-- the fault of a place in a view of the table is its fault in the words that the caller lent
 module _ (t : RawTable RawThree) {es : List RawThree} (e : raw_entries t ≡ es) where
   pub fault_of_back : (place : Option Place) → place_fault is_linked_three (lent_table t) place ≡ fault_of es place
   fault_of_back None = refl
@@ -73,21 +73,21 @@ module _ (t : RawTable RawThree) {es : List RawThree} (e : raw_entries t ≡ es)
   fault_at_back None = refl
   fault_at_back (Some p) = rw (← e) refl
 
--- a place with no fault is free, and not linked in the view
+-- a place without a fault belongs to the table and is not linked, and it is not linked in a view of the words
 pub free_in : (es : List RawThree) (p : Place) → fault_of es (Some p) ≡ 0 → FreeIn es p
 free_in es p none = let found = free_of is_linked_three (table_of es) (Some p) none in rw (some_same found.1) found.2
 
 pub unlinked_viewed : (a : MarkedTree) {es : List RawThree} (p : Place) → marked_entries a ≡ es → FreeIn es p → is_linked_three ((marked_table a).entry p) ≡ false
 unlinked_viewed a p same free = ap (λ words. is_linked_three (entry_at no_tree_words words p)) same ∙ free.unlinked
 
--- a member has no fault
+-- a member of a tree has no fault
 pub member_faultless : (es : List RawThree) {root : Option Place} (front : List Place) (p : Place) (back : List Place) → Represents (table_of es) root (front ++ p ∷ back)
     → fault_at es (Some p) ≡ 0
 member_faultless es front p back shown =
     let linked : is_linked_three ((table_of es).entry p) ≡ true = holds_linked shown.held (split_member front p back) in
     ap (λ is. cond is 0 (cond (nat_lt (index_of p) (table_of es).extent.places) 3 1)) linked
 
--- what is not some is none
+-- an option that has no value is none
 pub none_of : {A : Type 0} (o : Option A) → is_some o ≡ false → o ≡ None
 none_of None e = refl
 none_of (Some x) e = cc

@@ -1,5 +1,6 @@
--- WHAT THE CALLS DO THAT MAKE ONE RED-BLACK TREE OF TWO, AND TWO OF ONE: each record is the whole contract of a call. A call is accepted exactly if
--- the table represents its trees, and its place fits. So a call never edits links that represent no tree.
+-- WHAT THE CALLS DO THAT MAKE ONE RED-BLACK TREE OF TWO, AND TWO OF ONE: each record is the whole contract of one call. A call is accepted exactly if
+-- the table represents the trees of the call, and the place that the caller names fits. Because of this, a call never edits links that represent no
+-- tree.
 use Rattle.std.specs.Prelude.{◌≡◌, ◌≢◌, ◌↔◌, ◌++◌, ◌∷◌, ℕ, List, [], Option, Some, None}
 use Rattle.ic_link_ops.specs.Prelude.{Place, Cut, KeepsLinked, LinksAlso, HasMember}
 use Rattle.ic_link_ops.specs.Edits.{Inserts, Splits}
@@ -11,14 +12,16 @@ use Rattle.ic_raw.specs.Answers.{IsStatus, IsAccepted, refusal}
 use Rattle.ic_raw.specs.Tree.{Represents, RepresentsTree, FreeIn, IsWritten, root_in, word_of_root, table_of, fault_at, fault_of}
 use Rattle.ic_raw.specs.Words.{is_linked_three}
 
--- THE WORDS REPRESENT TWO TREES that share no member: the first has the members `front`, and the second `back`
+-- THE WORDS REPRESENT TWO TREES that share no member: the tree `tree` has the members before the cut, and the tree `given` has the members after the
+-- cut
 abbrev pub RepresentsBoth : List RawThree → (tree given : RawRoot) → Cut → Type 0
 RepresentsBoth words tree given = RepresentsParts Represents (table_of words) (root_in tree) (root_in given)
 
--- `old`, `new`: the words of the table before the call and after it. `tree`, `tree'`: the word of the tree before and after. `status`: the status
--- that the call returns
+-- `old` and `new` are the words of the table before the call and after it. `tree` and `tree'` are the word of the tree before the call and after it.
+-- `status` is the status that the call returns
 module _ (old new : List RawThree) (tree tree' : RawRoot) (status : ℕ) where
-  -- ALL MEMBERS OF ANOTHER TREE MOVE AFTER those of this one. `given`, `given'`: the word of the other tree
+  -- ALL MEMBERS OF THE TREE `given` MOVE AFTER all members of the tree `tree`. `given` and `given'` are the word of the given tree before the call
+  -- and after it
   pub record AppendCall (given given' : RawRoot) : Type 0 where
     pub appended : (gap : Cut) → RepresentsBoth old tree given gap → IsAccepted status (Appends Represents (table_of old) (table_of new) (root_in tree') gap)
     pub shown : status ≡ OK → (gap : Cut) × RepresentsBoth old tree given gap
@@ -29,7 +32,7 @@ module _ (old new : List RawThree) (tree tree' : RawRoot) (status : ℕ) where
     pub why : status ≢ OK → status ≡ BROKEN
     pub is_status : IsStatus status
 
-  -- A PLACE IS INSERTED AFTER all members of this tree, and all members of another one move after it
+  -- A PLACE IS INSERTED AFTER all members of the tree `tree`, and all members of the tree `given` move after the place
   pub record JoinCall (place : Option Place) (given given' : RawRoot) : Type 0 where
     pub joined : (gap : Cut) (p : Place) → place ≡ Some p → RepresentsBoth old tree given gap → FreeIn old p
         → IsAccepted status (Inserts Represents (table_of old) (table_of new) (root_in tree') gap p)
@@ -43,8 +46,8 @@ module _ (old new : List RawThree) (tree tree' : RawRoot) (status : ℕ) where
     pub why : status ≢ OK → status ≡ refusal (fault_of old place ∷ [])
     pub is_status : IsStatus status
 
-  -- THE TREE IS CUT before the member `at`: it keeps the members before `at`, and `at` and all members after it become the tree `rest`, which has to
-  -- be empty before. `rest`, `rest'`: the word of that tree
+  -- THE TREE IS CUT before the member `at` and keeps the members before `at`. The member `at` and all members after it become the tree `rest`, which
+  -- has to be empty before the call. `rest` and `rest'` are the word of this tree before the call and after it
   pub record SplitCall (at : Option Place) (rest rest' : RawRoot) : Type 0 where
     pub split : (front back : List Place) (p : Place) → at ≡ Some p → RepresentsTree old tree (front ++ p ∷ back) → root_in rest ≡ None
         → IsAccepted status (Splits Represents (table_of old) (table_of new) (root_in tree') (root_in rest') front (p ∷ back))

@@ -1,4 +1,4 @@
-//! Why a place does not fit, by the words alone.
+//! This module says why a place does not fit, by the words of the table alone.
 //!
 //! ```text
 //! place_fault(table, place)  // OK: it is one of the table, and not linked
@@ -12,7 +12,7 @@ ghost use Rattle.ic_raw.specs.Tree.{fault_at, fault_of};
 use ic_raw::{RawTable, RawThree};
 use ic_unsafe_ref::Place;
 
-// Returns the fault of a place to insert.
+// Returns the fault of a place that the caller wants to insert, or `OK` if the place has no fault.
 pub(crate) fn place_fault(table: &mut [RawThree], place: Place) -> u32
     ensures fault { result ≡ fault_of table.old (Some place) }
     ensures named { result ≢ NULL }
@@ -21,7 +21,7 @@ pub(crate) fn place_fault(table: &mut [RawThree], place: Place) -> u32
     RawTable::new(table).place_fault(Some(place))
 }
 
-// Returns the fault of a place that must be a member.
+// Returns the fault of a place that must be a member, or `OK` if the place has no fault.
 pub(crate) fn member_fault(table: &mut [RawThree], member: Place) -> u32
     ensures fault { result ≡ fault_at table.old (Some member) }
     ensures named { result ≢ NULL }

@@ -1,4 +1,4 @@
-//! Calls for C that are built on `ic_raw`: they make one red-black tree of two, and two of one.
+//! Calls for C that are built on `ic_raw` and make one red-black tree of two, or two of one.
 //!
 //! ```text
 //! tree_move_calls::append(table, tree, given)  // OK: the members of `given` come after those of `tree`, and `given` is empty
@@ -6,9 +6,9 @@
 //! tree_move_calls::split(table, tree, 7, rest) // OK: `tree` has the members before 7, and `rest` has 7 and all after it
 //! ```
 //!
-//! No call requires anything of its arguments. Each call checks first that the words represent its trees, which takes O(n), and returns
-//! [`BROKEN`](ic_raw::BROKEN) if they do not. Then it makes the edit of `ic_rbtree`, which takes O(log n). It returns a status as the calls of
-//! `ic_raw` do, and changes nothing if the status is not [`OK`](ic_raw::OK).
+//! No call requires anything of its arguments. Each call checks first that the words represent the trees of the call, which takes O(n), and returns
+//! [`BROKEN`](ic_raw::BROKEN) if they do not. Then the call makes the edit of `ic_rbtree`, which takes O(log n). A call returns a status as the calls
+//! of `ic_raw` do, and changes nothing if the status is not [`OK`](ic_raw::OK).
 #![tactic(auto)]
 
 mod faults;

@@ -1,4 +1,4 @@
-//! Whether the words represent the trees that a call edits.
+//! The functions of this module check whether the words represent the trees that a call edits.
 //!
 //! ```text
 //! represents_both(&links, &tree, &given)  // two trees that share no member
@@ -23,7 +23,8 @@ use ic_raw::{MarkedTree, RawRoot, place_in};
 use ic_rbtree::{KeyAdapter, RBTree};
 use ic_unsafe_ref::Place;
 
-// The most members on a path down a tree. A path of v members in a tree of n members has 2^v <= (n + 1)^2, and there are fewer than 2^33 places.
+// A path down a tree has at most this many members. A path of v members in a tree of n members has 2^v <= (n + 1)^2, and there are fewer than 2^33
+// places.
 const LONGEST_PATH: usize = 66;
 
 /// The adapter of a tree whose edits compare no keys. The type of a tree needs an adapter, even to split it at a member.
@@ -63,7 +64,7 @@ pub(crate) fn write_back(words: &mut RawRoot, tree: &Tree)
     words.root = Place::to_word(tree.root());
 }
 
-// Returns whether this is that place. It compares words.
+// Returns whether `end` is the place `place`. The function compares the words of the two.
 #[inline]
 fn is_at(end: Option<Place>, place: Place) -> bool
     ensures { result ≡ is_end end place }
@@ -71,7 +72,7 @@ fn is_at(end: Option<Place>, place: Place) -> bool
     Place::to_word(end) == Place::to_word(Some(place))
 }
 
-// Returns whether the roots of both trees are different places, or one tree has no root.
+// Returns whether the roots of two trees are different places, or one tree has no root.
 fn are_apart(one: Option<Place>, given: Option<Place>) -> bool
     ensures { IsTrue result ↔ AreApart one given }
 {
@@ -88,7 +89,7 @@ fn is_tree(links: &MarkedTree<'_>, tree: &Tree) -> bool
     check_tree(tree, links).is_some()
 }
 
-// Returns whether the words represent two trees that share no member. Trees with different roots share none.
+// Returns whether the words represent two trees that share no member. Two trees with different roots share no member.
 pub(crate) fn represents_both(links: &MarkedTree<'_>, tree: &Tree, given: &Tree) -> bool
     ensures { IsTrue result ↔ RepresentsPartsSome Represents (marked_table links.now) (root_of tree.now) (root_of given.now) }
 {
@@ -101,7 +102,7 @@ pub(crate) fn represents_both(links: &MarkedTree<'_>, tree: &Tree, given: &Tree)
     is_tree(links, given)
 }
 
-// Returns whether `parent` is linked, and has the place as a child.
+// Returns whether `parent` is linked, and `place` is one of its children.
 fn has_child(links: &MarkedTree<'_>, parent: Place, place: Place) -> bool
     ensures { IsTrue result ↔ HasChild node (marked_table links.now) parent place }
 {
@@ -111,7 +112,7 @@ fn has_child(links: &MarkedTree<'_>, parent: Place, place: Place) -> bool
     is_at(links.left(parent), place) || is_at(links.right(parent), place)
 }
 
-// Returns whether the parents of a linked place lead to the root of a tree, and each of them has the one below as a child.
+// Returns whether the parents of a linked place lead to the root of a tree, and each parent has the place below it as a child.
 fn climbs_to_root(links: &MarkedTree<'_>, tree: &Tree, place: Place) -> bool
     requires linked { IsLinked is_linked_three (marked_table links.now) place }
     requires shown { RepresentsSome node (marked_table links.now) (root_of tree.now) }

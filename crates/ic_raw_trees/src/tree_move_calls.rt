@@ -1,4 +1,4 @@
-//! The calls that make one red-black tree of two, and two of one. All members stay linked.
+//! This module has the calls that make one red-black tree of two, and two of one. All members stay linked.
 //!
 //! ```text
 //! append(table, tree, given)  // OK: the members of `given` come after those of `tree`, and `given` is empty
@@ -14,10 +14,10 @@ use crate::shown::{has_member, represents_both, tree_of, write_back};
 use ic_raw::{BROKEN, MarkedTree, NULL, OK, OUT_OF_RANGE, RawRoot, RawThree, place_of};
 use ic_unsafe_ref::UnsafeRef;
 
-/// Moves all members of `given` after those of `tree`, in their order, and leaves `given` empty. O(n): it checks both trees first. The same edit in
-/// Rattle, where types guarantee the links, needs no check and takes O(log n).
+/// Moves all members of `given` after those of `tree`, in their order, and leaves `given` empty. O(n), because the call checks both trees first. The
+/// same edit in Rattle needs no check and takes O(log n), because types guarantee the links there.
 ///
-/// It compares no keys. If the words do not represent two trees that share no member, it returns [`BROKEN`](ic_raw::BROKEN).
+/// The call compares no keys. If the words do not represent two trees that share no member, the call returns [`BROKEN`](ic_raw::BROKEN).
 pub fn append(table: &mut [RawThree], tree: &mut RawRoot, given: &mut RawRoot) -> u32
     ensures { AppendCall table.old table.new tree.old tree.new result given.old given.new }
 {
@@ -33,11 +33,11 @@ pub fn append(table: &mut [RawThree], tree: &mut RawRoot, given: &mut RawRoot) -
     OK
 }
 
-/// Inserts a place after all members of `tree`, and moves all members of `given` after it, so that `given` is empty. O(n): it checks both trees
-/// first. The same edit in Rattle, where types guarantee the links, needs no check and takes O(log n).
+/// Inserts a place after all members of `tree`, and moves all members of `given` after this place, so that `given` is empty. O(n), because the call
+/// checks both trees first. The same edit in Rattle needs no check and takes O(log n), because types guarantee the links there.
 ///
-/// It compares no keys. The place must belong to the table and must not be linked. If the words do not represent two trees that share no member, it
-/// returns [`BROKEN`](ic_raw::BROKEN).
+/// The call compares no keys. The place must belong to the table and must not be linked. If the words do not represent two trees that share no
+/// member, the call returns [`BROKEN`](ic_raw::BROKEN).
 pub fn join(table: &mut [RawThree], tree: &mut RawRoot, place: u32, given: &mut RawRoot) -> u32
     ensures { JoinCall table.old table.new tree.old tree.new result (place_of place) given.old given.new }
 {
@@ -60,11 +60,11 @@ pub fn join(table: &mut [RawThree], tree: &mut RawRoot, place: u32, given: &mut 
     OK
 }
 
-/// Keeps the members before the member `at`, and moves `at` and all after it to `rest`, which has to be empty. At [`NONE`](ic_raw::NONE) it returns
-/// [`NULL`](ic_raw::NULL). O(n): it checks the tree first. The same edit in Rattle, where types guarantee the links, needs no check and takes O(log
-/// n).
+/// Keeps the members before the member `at`, and moves `at` and all members after it to `rest`, which has to be empty. The call returns
+/// [`NULL`](ic_raw::NULL) if `at` is [`NONE`](ic_raw::NONE). O(n), because the call checks the tree first. The same edit in Rattle needs no check and
+/// takes O(log n), because types guarantee the links there.
 ///
-/// It compares no keys. If the words do not represent a tree of which `at` is a member, or if `rest` has a root, it returns
+/// The call compares no keys. If the words do not represent a tree of which `at` is a member, or if `rest` has a root, the call returns
 /// [`BROKEN`](ic_raw::BROKEN).
 pub fn split(table: &mut [RawThree], tree: &mut RawRoot, at: u32, rest: &mut RawRoot) -> u32
     ensures { SplitCall table.old table.new tree.old tree.new result (place_of at) rest.old rest.new }

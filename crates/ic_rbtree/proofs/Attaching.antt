@@ -1,4 +1,4 @@
--- A new member is put into a hole.
+-- A new member is inserted into a hole, which is a missing child.
 use Rattle.std.proofs.Common.{◌≡◌, ◌≢◌, ◌+◌, ◌≤◌, Bool, true, false, Option, Some, None, List, [], ◌∷◌, ◌++◌, refl, sym, ap, ◌∙◌, subst, arith, append-nil, append_assoc, inl, inr}
 use Rattle.ic_link_ops.specs.Prelude.{Place, Cut, join, first, last_or, IsAbsent, Table, ChangesOnly, IsLinked, IsUnlinked}
 use Rattle.ic_unsafe_ref.proofs.PlaceLemmas.{same_or_not}
@@ -41,7 +41,7 @@ ends o (x ∷ z ∷ s) p e h = let r = ends_on x z s p e in (x ∷ r.0, ap (λ (
   ends_on x z (y ∷ s) p e = let r = ends_on z y s p e in (z ∷ r.0, ap (λ (k : List Place). z ∷ k) r.1)
 
 module _ {E : Type 0} (n : E → Node) where
-  -- THE HOLE in the tree
+  -- THE HOLE IN THE TREE: the member q has no child on side d. The tree around this hole has the members `front` before the hole and `back` after the hole
   pub record InsertPos (base v : Table E) (root : Option Place) (d : Side) (q : Place) (front back : List Place) (ps : List Piece) : Type 0 where
     pub c : Color
     pub b : Tree
@@ -51,9 +51,9 @@ module _ {E : Type 0} (n : E → Node) where
     pub front_is : before (frame d c q b ∷ fs) ≡ front
     pub back_is : after (frame d c q b ∷ fs) ≡ back
 
-  pub hole : {base v : Table E} {root : Option Place} (parent : Option Place) (q : Place) (d : Side) (gap : Cut) {ps : List Piece} → parent ≡ Some q
+  pub insert_pos : {base v : Table E} {root : Option Place} (parent : Option Place) (q : Place) (d : Side) (gap : Cut) {ps : List Piece} → parent ≡ Some q
       → Represented n base v root (gap.front ++ gap.back) ps → IsInsertPos n v parent d gap → InsertPos base v root d q gap.front gap.back ps
-  hole {base} {v} {root} parent q d gap {ps} is h at' = at_side d (subst (λ (o : Option Place). IsInsertPos n v o d gap) is at') where
+  insert_pos {base} {v} {root} parent q d gap {ps} is h at' = at_side d (subst (λ (o : Option Place). IsInsertPos n v o d gap) is at') where
     at_side : (d : Side) → IsInsertPos n v (Some q) d gap → InsertPos base v root d q gap.front gap.back ps
     at_side Left at =
         let r = begins gap.back q (sym at.1) in
@@ -83,7 +83,7 @@ module _ {E : Type 0} (n : E → Node) where
           back_is = ap (λ (t : Tree). in_order t ++ after x.fs) (sym none) ∙ x.back_is;
         }
 
-  -- the only member
+  -- a place that is inserted into an empty tree is the root and the only member, in black
   pub attached_first : {base v v4 : Table E} {root : Option Place} (parent : Option Place) (d : Side) (gap : Cut) (p : Place) {ps : List Piece}
       → n (v4.entry p) ≡ record (n (v.entry p)) { left = None; right = None; parent = None; color = Black } → ChangesOnly v v4 p
       → parent ≡ None → Represented n base v root (gap.front ++ gap.back) (loose p ∷ ps) → IsInsertPos n v parent d gap → Represented n base v4 (Some p) (gap.front ++ p ∷ gap.back) ps
@@ -102,7 +102,7 @@ module _ {E : Type 0} (n : E → Node) where
         shape = record { black_root = refl; no_red_pair = (red_not_black, tt, tt); even = (refl, tt, tt) };
       }
 
-  -- below a parent, in red
+  -- a place that is inserted as a red child below the parent q becomes the red member from which the repair starts
   pub attached_red : {base v v4 v5 : Table E} {root : Option Place} (q : Place) (d : Side) (front back : List Place) (p : Place) {ps : List Piece}
       → n (v4.entry p) ≡ record (n (v.entry p)) { left = None; right = None; parent = Some q; color = Red } → ChangesOnly v v4 p → n (v5.entry q) ≡ with_child d (n (v4.entry q)) (Some p) → ChangesOnly v4 v5 q
       → (x : InsertPos base v root d q front back (loose p ∷ ps)) → RedAt n v5 root p (record { base = base; sequence = front ++ p ∷ back; frames = frame d x.c q x.b ∷ x.fs; subtree = fork Red leaf p leaf; pieces = ps })
@@ -122,7 +122,7 @@ module _ {E : Type 0} (n : E → Node) where
         order = in_order_parts gs (fork Red leaf p leaf) ∙ (ap (λ (s : List Place). s ++ p ∷ after gs) x.front_is ∙ ap (λ (s : List Place). front ++ p ∷ s) x.back_is);
       }
 
-  -- INTO THE PIECES, with the place that has just been linked
+  -- THE TREE AND A NEW PLACE: after the place p has been linked, the table consists of the represented tree and of p as a piece of its own
   pub acquired_represented : (linked : E → Bool) → ((e : E) → (n e).linked ≡ linked e) → (old v : Table E) (root : Option Place) (s : List Place) (p : Place) → Represents n old root s
       → IsUnlinked linked old p → IsLinked linked v p → ChangesOnly old v p → Represented n v v root s (loose p ∷ [])
   acquired_represented linked alike old v root s p h was is only =
@@ -147,7 +147,7 @@ module _ {E : Type 0} (n : E → Node) where
         | inr k ↦ omega (arith, one_at_other q p k, all q)
       ]
 
-  -- THE WHOLE INSERT, in the words of edits
+  -- THE WHOLE INSERT: if p is linked and then put into the tree at the gap, the edit inserts p at this gap, as `Inserts` states
   pub inserts : (old v w : Table E) (root new_root : Option Place) (p : Place) (gap : Cut)
       → ChangesOnly old v p → Represented n v w new_root (gap.front ++ p ∷ gap.back) []
       → Inserts (Represents n) old w new_root gap p
@@ -168,11 +168,11 @@ module _ {E : Type 0} (n : E → Node) where
   pub hole_linked : {base v : Table E} {root : Option Place} {d : Side} {q : Place} {front back : List Place} {ps : List Piece} → InsertPos base v root d q front back ps → (n (v.entry q)).linked ≡ true
   hole_linked {base} {v} {root} {d} {q} x = side_linked n v.entry d q x.c None (top x.b) (above x.fs) x.stands.are.0.0.0
 
-  -- linking another place keeps the hole
+  -- if another place p is linked, a hole of the tree is still at the gap where it was
   pub hole_kept : (linked : E → Bool) → ((e : E) → (n e).linked ≡ linked e) → (old v : Table E) (root parent : Option Place) (d : Side) (gap : Cut) (p : Place) → Represents n old root (join gap)
       → IsUnlinked linked old p → ChangesOnly old v p → IsInsertPos n old parent d gap → IsInsertPos n v parent d gap
   hole_kept linked alike old v root None d gap p h was only at = at
   hole_kept linked alike old v root (Some q) d gap p h was only at =
-      let l = hole_linked (hole (Some q) q d gap refl (represented_of n h) at) in
+      let l = hole_linked (insert_pos (Some q) q d gap refl (represented_of n h) at) in
       let other : q ≢ p = λ e. let m : true ≡ false = sym l ∙ (alike (old.entry q) ∙ (ap (λ (z : Place). linked (old.entry z)) e ∙ was)) in cc in
       (ap (λ (e : E). child_on d (n e)) (only.others q other) ∙ at.0, at.1)

@@ -1,4 +1,4 @@
--- From a position in a represented tree to the member beside it, and to the hole between them.
+-- Lemmas about the step from a position in a represented tree to the member beside the position, and about the hole between them.
 use Rattle.std.proofs.Common.{◌≡◌, ◌<◌, Option, Some, None, List, [], ◌∷◌, refl, sym, ap, ◌∙◌, subst}
 use Rattle.ic_link_ops.specs.Prelude.{Place, Cut, join, Table, HasMember}
 use Rattle.ic_link_ops.specs.declared.color.Color.{Color}
@@ -19,7 +19,7 @@ use Rattle.ic_rbtree.proofs.Zipper.{go_down}
 use Rattle.ic_rbtree.proofs.Removing.{PositionWithNext, spot, represented_of}
 use Rattle.ic_rbtree.proofs.Branches.{top_leaf}
 
--- a tree at one of its members, from a side
+-- a tree with the root p is a branch as seen from side d, with the subtree on side d first
 fork_branch : (d : Side) (c : Color) (a : Tree) (p : Place) (b : Tree) → fork c a p b ≡ branch d c (choose d a b) p (choose (across d) a b)
 fork_branch Left c a p b = refl
 fork_branch Right c a p b = refl
@@ -29,7 +29,7 @@ nearest_twice Left s = refl
 nearest_twice Right s = refl
 
 module _ {E : Type 0} (n : E → Node) where
-  -- what holds in any tree holds in one that is not too high
+  -- if y is the outermost member on a side in any tree, it is the outermost member in a tree that is not too high
   pub outermost_here : (v : Table E) {p : Place} {d : Side} {y : Place} → IsOutermost n v p d y → IsOutermostWithin n v p d y
   outermost_here v h base root fs t ps s e low = h base root fs t ps s e
 
@@ -37,7 +37,7 @@ module _ {E : Type 0} (n : E → Node) where
   nearest_here v d h base root fs t ps s e low = h base root fs t ps s e
 
   module _ {v : Table E} {root : Option Place} where
-    -- the root of a represented tree
+    -- the root of a represented tree is the root of a subtree of a tree in the table
     pub root_can : {s : List Place} {r : Place} → Represents n v root s → root ≡ Some r → IsInTree n v r
     root_can h is = let k = represented_of n h in (v, root, [], k.tree, [], k.stands, sym k.stands.are.0.1 ∙ is)
 
@@ -47,7 +47,7 @@ module _ {E : Type 0} (n : E → Node) where
         let e = outermost v root [] k.tree [] k.stands (sym k.stands.are.0.1 ∙ is) (represented_low n k.stands k.shape) in
         (sym (ap (nearest (across d)) k.order) ∙ e.nearest_is, e.childless)
 
-    -- a member, and its subtree on a side
+    -- a member of a represented tree has a position in it, with members before and after, and with two subtrees
     pub member_spot : {p : Place} → HasMember (Represents n v root) p → (front : List Place) × (back : List Place) × PositionWithNext n v v root front p back []
     member_spot {p} m = (m.front, m.back, spot n m.front p m.back (represented_of n m.shown))
 
@@ -70,7 +70,8 @@ module _ {E : Type 0} (n : E → Node) where
       pub below_can : (d : Side) {q : Place} → child_on d (n (v.entry p)) ≡ Some q → IsInTree n v q
       below_can d is = (v, root, frame d x.c p (choose (across d) x.a x.b) ∷ x.fs, choose d x.a x.b, [], below_stands d, sym (child_is d) ∙ is)
 
-      -- beside it is the outermost member below its child there,
+      -- if the member p has a child q on side d, the nearest member on this side is the outermost member at or below q on the other side. This member has
+      -- no child on the other side
       below_end : (d : Side) {q y : Place} → child_on d (n (v.entry p)) ≡ Some q → IsOutermostWithin n v q (across d) y
           → (nearest d (choose d front back) ≡ Some y) × (child_on (across d) (n (v.entry y)) ≡ None)
       below_end d {q} is outermost =
@@ -84,7 +85,7 @@ module _ {E : Type 0} (n : E → Node) where
             e.childless,
           )
 
-      -- and where it has none, the nearest one above
+      -- if the member p has no child on side d, the nearest member on this side is the nearest member above p on this side
       above_end : (d : Side) {r : Option Place} → child_on d (n (v.entry p)) ≡ None → IsNearestAboveWithin n v p d r → r ≡ nearest d (choose d front back)
       above_end d none nearest_above =
           let bare : choose d x.a x.b ≡ leaf = top_leaf (choose d x.a x.b) (sym (child_is d) ∙ none) in
@@ -93,19 +94,20 @@ module _ {E : Type 0} (n : E → Node) where
           ∙ ap (λ t. nearest_or d (in_order t) (nearest d (beyond d x.fs))) (sym bare)
           ∙ sym (nearest_around d x.fs x.a x.b front back x.front_is x.back_is)
 
-    -- A STEP, beside a gap: from null to the end of the tree on the other side,
+    -- A STEP FROM NULL to side d leads to the end of the tree on the other side. The gap that is beside null on side d is beside this end
     module _ (d : Side) (gap : Cut) (shown : Represents n v root (join gap)) where
       pub null_step : {o : Option Place} → IsBeside d gap None → o ≡ nearest d (join gap) → IsBeside (across d) gap o
       null_step {o} here end = is_beside d gap o (end ∙ sym (ap (nearest d) (beside_null d gap here)))
 
-      -- before which there is a hole,
+      -- a step from null leads to the outermost member y of the tree on the other side, and the hole at the gap is below y
       pub null_end : {k : Side} {r y : Place} → k ≡ across d → IsBeside d gap None → root ≡ Some r → IsOutermostWithin n v r k y → IsInsertPos n v (Some y) k gap
       null_end {k} {r} {y} other here is outermost =
           let e = root_end (across d) shown is (subst (λ z. IsOutermostWithin n v r z y) other outermost) in
           subst (λ z. IsInsertPos n v (Some y) z gap) (sym other)
           (e.1, is_beside d gap (Some y) (sym (ap (nearest d) (beside_null d gap here) ∙ sym (nearest_twice d (join gap)) ∙ e.0)))
 
-      -- from a member the outermost one below its child,
+      -- if the member p has a child on side d, the hole at the gap beside p is below y. The member y is the outermost member at or below this child, on the
+      -- other side
       pub member_end : {k : Side} (p : Place) {q y : Place} → k ≡ across d → IsBeside d gap (Some p) → child_on d (n (v.entry p)) ≡ Some q → IsOutermostWithin n v q k y → IsInsertPos n v (Some y) k gap
       member_end {k} p {q} {y} other here is outermost =
           let m = beside_member d gap p here in
@@ -113,17 +115,17 @@ module _ {E : Type 0} (n : E → Node) where
           let e = below_end x d is (subst (λ z. IsOutermostWithin n v q z y) other outermost) in
           subst (λ z. IsInsertPos n v (Some y) z gap) (sym other) (e.1, is_beside d gap (Some y) (sym (ap (nearest d) m.3 ∙ e.0)))
 
-      -- or the nearest above
+      -- if the member p has no child on side d, the gap beside p is also beside the nearest member above p on this side
       pub member_above : (p : Place) {r : Option Place} → IsBeside d gap (Some p) → child_on d (n (v.entry p)) ≡ None → IsNearestAboveWithin n v p d r → IsBeside (across d) gap r
       member_above p {r} here none nearest_above =
           let m = beside_member d gap p here in
           let x = spot n m.0 p m.1 (represented_of n (subst (λ s. Represents n v root s) m.2 shown)) in
           is_beside d gap r (above_end x d none nearest_above ∙ sym (ap (nearest d) m.3))
 
-      -- in an empty tree null is beside null,
+      -- in an empty tree, a step from null leads to null: the only gap is beside null on both sides
       pub null_alone : IsBeside d gap None → root ≡ None → IsBeside (across d) gap None
       null_alone here is = null_step here (sym (ap (nearest d) (no_root (subst (λ o. Represents n v o (join gap)) is shown)) ∙ nearest_plain d [] ∙ nearest_nothing d None))
 
-      -- and there is a hole
+      -- in an empty tree, the hole without a parent is at the only gap
       pub null_hole : IsBeside d gap None → root ≡ None → IsInsertPos n v None d gap
       null_hole here is = nothing_both gap.front gap.back (no_root (subst (λ o. Represents n v o (join gap)) is shown))

@@ -1,4 +1,4 @@
--- A black sibling: one of its children comes up, or it turns red.
+-- The cases of a black sibling: one of its children is rotated up, or the sibling turns red.
 use Rattle.std.proofs.Common.{◌≡◌, ◌⊎◌, inl, inr, Bool, true, false, ◌||◌, Option, Some, List, ◌∷◌, refl, sym, ap, ◌∙◌, subst}
 use Rattle.ic_link_ops.specs.Prelude.{Place, Table, ChangesOnly}
 use Rattle.ic_link_ops.specs.declared.color.Color.{Color}
@@ -44,7 +44,7 @@ none_red : (d : Side) (c : Color) (a : Tree) (w : Place) (b : Tree) → red_chil
 none_red Left c a w b e = or_false (is_red (top_color a)) (is_red (top_color b)) e
 none_red Right c a w b e = let r = or_false (is_red (top_color b)) (is_red (top_color a)) e in (r.1, r.0)
 
--- a red tree is a red branch
+-- a tree with a red root is a red branch, as seen from either side
 red_branch : (d : Side) (t : Tree) → is_red (top_color t) ≡ true → (m : Tree) × (f : Place) × (o : Tree) × (t ≡ branch d Red m f o)
 red_branch d leaf e = cc
 red_branch Left (fork Red m f o) e = (m, f, o, refl)
@@ -56,7 +56,7 @@ as_fork Left c a p b = (a, b, refl)
 as_fork Right c a p b = (b, a, refl)
 
 module _ {E : Type 0} (n : E → Node) where
-  -- the children of a root
+  -- the child of the root p on side d is the root of the subtree on this side
   pub top_near : (v : Table E) (up : Option Place) (d : Side) (c : Color) (a : Tree) (p : Place) (b : Tree) → IsTree n v.entry up (branch d c a p b)
       → child_on d (n (v.entry p)) ≡ top a
   top_near v up d c a p b h = side_near n v.entry d p c (top a) (top b) up (branch_open n v.entry up d c a p b h).0
@@ -65,7 +65,7 @@ module _ {E : Type 0} (n : E → Node) where
       → child_on (across d) (n (v.entry p)) ≡ top b
   top_far v up d c a p b h = side_far n v.entry d p c (top a) (top b) up (branch_open n v.entry up d c a p b h).0
 
-  -- the readings of a root and its children
+  -- the root y of a tree in the table and the children of y are linked
   pub are_read : (v : Table E) (up : Option Place) (t : Tree) (y : Place) → IsTree n v.entry up t → top t ≡ Some y → AreRead n v y
   are_read v up leaf y h e = absurd (none_not y e)
   are_read v up (fork c a p b) y h e = subst (λ (z : Place). AreRead n v z) (some_same e) (record {
@@ -82,7 +82,7 @@ module _ {E : Type 0} (n : E → Node) where
       ∙ ap (λ (x : Bool). is_red (top_color a) || x) (red_tells n v (Some p) (n (v.entry p)).right b h.0.right h.2))
 
   module _ {v : Table E} {root : Option Place} {q : Place} {d : Side} {w : Place} {c : Color} {sib : Tree} {k : Focus E} (h : Beside n v root q d w c sib k) where
-    -- the sibling, opened
+    -- the sibling is a black branch with the root w and two subtrees, as seen from side d
     pub sib_open : (a b : Tree) × (sib ≡ branch d Black a w b)
     sib_open = let o = as_branch d sib w h.top_is in (o.0, o.1, o.2 ∙ ap (λ (x : Color). branch d x o.0 w o.1) h.black)
 
@@ -104,11 +104,11 @@ module _ {E : Type 0} (n : E → Node) where
     far_tree : IsTree n v.entry (Some w) sib_open.1
     far_tree = (branch_open n v.entry (Some q) d Black sib_open.0 w sib_open.1 (sib_tree n opened)).2
 
-    -- what the color of its far child tells
+    -- the color that is read at the far child of the sibling is the color of the root of the far subtree
     pub far_color : (o : Option Place) (far : Side) (r : Bool) → far ≡ across d → o ≡ child_on far (n (v.entry w)) → r ≡ red_at n v o → r ≡ is_red (top_color sib_open.1)
     far_color o far r ek e er = er ∙ red_tells n v (Some w) o sib_open.1 (e ∙ (ap (λ (x : Side). child_on x (n (v.entry w))) ek ∙ far_is)) far_tree
 
-    -- the far nephew is red already
+    -- if the far nephew is red already, no rotation is needed before case 4
     pub far_red_now : is_red (top_color sib_open.1) ≡ true → HasRedFarNephew n v root q d w c k
     far_red_now red =
         let r = red_branch Left sib_open.1 red in
@@ -124,7 +124,7 @@ module _ {E : Type 0} (n : E → Node) where
       pub near_there : (o : Option Place) → o ≡ child_on d (n (v.entry w)) → o ≡ Some near_red.1
       near_there o e = let r = near_red in e ∙ (near_is ∙ (ap top r.3 ∙ top_branch d Red r.0 r.1 r.2))
 
-      -- the near child comes up
+      -- the near child z of the sibling is red, and a rotation brings z above the sibling
       module _ (z : Place) (is : near_red.1 ≡ z) where
         near_open : ShortAt n v root q d c (branch d Black (branch d Red near_red.0 z near_red.2) w sib_open.1) k
         near_open = subst (λ (x : Tree). ShortAt n v root q d c (branch d Black x w sib_open.1) k)
@@ -158,7 +158,7 @@ module _ {E : Type 0} (n : E → Node) where
             } in
             record { near = r.0; left = f.0; far = w; right = f.1; at = subst (λ (x : Tree). ShortAt n y new_root q d c (branch d Black r.0 z x) k) f.2 whole }
 
-  -- A RED FAR CHILD: the sibling comes up
+  -- A RED FAR CHILD: if the far child of the sibling is red, the sibling is rotated above q
   module _ {v : Table E} {root : Option Place} {q : Place} {d : Side} {w : Place} {c : Color} {k : Focus E} (l : HasRedFarNephew n v root q d w c k) where
     abbrev far_child : Color → Tree
     far_child x = fork x l.left l.far l.right
@@ -195,7 +195,7 @@ module _ {E : Type 0} (n : E → Node) where
             shape = short_restored k.frames d c q l.near w Left l.left l.far l.right k.subtree l.at.short;
           }
 
-  -- NO RED CHILD: the sibling turns red
+  -- NO RED CHILD: if the sibling has no red child, the sibling turns red
   module _ {v : Table E} {root : Option Place} {q : Place} {d : Side} {w : Place} {c : Color} {sib : Tree} {k : Focus E} (h : Beside n v root q d w c sib k) (none : red_child sib ≡ false) where
     blacks_here : (top_color (sib_open h).0 ≡ Black) × (top_color (sib_open h).1 ≡ Black)
     blacks_here =
@@ -249,7 +249,7 @@ module _ {E : Type 0} (n : E → Node) where
             shape = short_ends k.frames d q o.0 w o.1 k.subtree (subst (λ (x : Color). IsShort (frame d x q (branch d Black o.0 w o.1) ∷ k.frames) k.subtree) red (opened h).short) r.0 r.1;
           }
 
-  -- where no red sibling came up, the shortage rises to the old frames
+  -- if no red sibling was rotated up, the frames below which the subtree at q is short are the old frames
   pub risen : {w : Table E} {root : Option Place} {q : Place} {c : Color} (k : Focus E) {fs : List Frame} (done : Bool) → done ≡ is_red c → done ≡ false → (c ≡ Red) ⊎ (fs ≡ k.frames)
       → (t : Tree) × Rises n w root q (record k { frames = fs; subtree = t }) → (t : Tree) × Rises n w root q (record k { subtree = t })
   risen k done e off (inl red) r = let m : true ≡ false = sym (ap is_red red) ∙ (sym e ∙ off) in cc

@@ -1,4 +1,4 @@
--- Branches: a tree written from one side.
+-- A branch is a tree whose parts are listed from one side: the subtree on this side, the root, and the other subtree.
 use Rattle.std.proofs.Common.{◌≡◌, true, Option, Some, None, List, [], ◌∷◌, ◌++◌, refl, sym, ap, ◌∙◌, append_assoc}
 use Rattle.ic_unsafe_ref.specs.declared.place.Place.{Place}
 use Rattle.ic_link_ops.specs.declared.color.Color.{Color}
@@ -23,18 +23,19 @@ pub top_branch : (d : Side) (c : Color) (a : Tree) (p : Place) (b : Tree) → to
 top_branch Left c a p b = refl
 top_branch Right c a p b = refl
 
--- a tree without a root has nothing
+-- a tree without a root is empty
 pub top_leaf : (t : Tree) → top t ≡ None → t ≡ leaf
 top_leaf leaf e = refl
 top_leaf (fork c a p b) e = absurd (none_not p (sym e))
 
--- a tree with a root is a branch of either side
+-- a tree with the root p is a branch of p, as seen from either side
 pub as_branch : (d : Side) (t : Tree) (p : Place) → top t ≡ Some p → (a b : Tree) × (t ≡ branch d (top_color t) a p b)
 as_branch d leaf p e = absurd (none_not p e)
 as_branch Left (fork c a q b) p e = (a, b, ap (λ (x : Place). fork c a x b) (some_same e))
 as_branch Right (fork c a q b) p e = (b, a, ap (λ (x : Place). fork c a x b) (some_same e))
 
--- neither colors nor a rotation change the order
+-- if two subtrees have the same members in order, the whole trees around them have the same members in order. Therefore neither a color nor a rotation
+-- changes the order of the members
 pub order_plug : (fs : List Frame) (s t : Tree) → in_order s ≡ in_order t → in_order (plug fs s) ≡ in_order (plug fs t)
 order_plug [] s t e = e
 order_plug (frame Left c p b ∷ fs) s t e = order_plug fs (fork c s p b) (fork c t p b) (ap (λ x. x ++ p ∷ in_order b) e)
@@ -86,7 +87,7 @@ module _ {E : Type 0} (n : E → Node) where
   side_upper old new Left p c near far up x k set h = at_upper old new p c near far up x k set h
   side_upper old new Right p c near far up x k set h = at_upper old new p c far near up x k set h
 
-  -- the readings on a side
+  -- a place whose entry is described by sides is linked
   pub side_linked : (entry : Place → E) (d : Side) (p : Place) (c : Color) (near far up : Option Place)
       → IsAtSide n entry d p c near far up → (n (entry p)).linked ≡ true
   side_linked entry Left p c near far up h = h.linked
@@ -112,7 +113,7 @@ module _ {E : Type 0} (n : E → Node) where
   side_tint entry Left p c near far up h = h.color
   side_tint entry Right p c near far up h = h.color
 
-  -- a linked place stands on its own
+  -- a linked place is a piece of the table with the color, the children and the parent of its own entry
   pub side_loose : (entry : Place → E) (p : Place) → (n (entry p)).linked ≡ true
       → IsAtSide n entry Left p (n (entry p)).color (n (entry p)).left (n (entry p)).right (n (entry p)).parent
   side_loose entry p h = at_loose n entry p h

@@ -1,4 +1,4 @@
--- A vine between the two ends that a builder keeps: a place hung after it, the tree of it, and the vine of a tree.
+-- A builder stores the two ends of a vine. Lemmas state how a place is appended to the vine, how the vine becomes a tree, and how a tree becomes a vine.
 use Rattle.std.proofs.Common.{◌≡◌, ℕ, zero, suc, ◌+◌, ◌*◌, ◌^◌, ◌≤◌, ◌<◌, Bool, Option, Some, None, List, [], ◌∷◌, ◌++◌, length, refl, sym, ap, ◌∙◌, subst, arith, append-nil}
 use Rattle.std.proofs.lemmas.Nat.{pow-add}
 use Rattle.ic_link_ops.specs.Prelude.{Place, Cut, join, IsAbsent, IsDistinct, first, last, at_front, at_back, Table, ChangesOnly, IsUnlinked}
@@ -24,12 +24,12 @@ use Rattle.ic_rbtree.proofs.Low.{represented_low}
 use Rattle.ic_rbtree.proofs.Members.{stands_of}
 use Rattle.ic_rbtree.proofs.Vines.{nothing_black, vine_from, vine_glue, vine_beside}
 
--- what follows a sequence that has a last member changes nothing of its first
+-- if a sequence has a last member, another sequence appended after it does not change the first member
 first_still : (s : List Place) (q : Place) (t : List Place) → last s ≡ Some q → first (s ++ t) ≡ first s
 first_still [] q t e = absurd (none_not q e)
 first_still (x ∷ s) q t e = refl
 
--- the last of a sequence without its first member
+-- the last member of a sequence without its first member is the old last member, or none if no member is left
 last_after : (next back : Option Place) (q : Place) (r : List Place) → next ≡ first r → back ≡ last (q ∷ r) → end_of next None back ≡ last r
 last_after next back q [] is tail = ap (λ o. end_of o None back) is
 last_after next back q (y ∷ r) is tail = ap (λ o. end_of o None back) is ∙ tail
@@ -39,7 +39,7 @@ black_top zero t high low = nothing_black t (low refl)
 black_top (suc h) t high low = high (omega arith)
 
 module _ {E : Type 0} (n : E → Node) where
-  -- A PLACE IS HUNG BEHIND
+  -- A PLACE IS APPENDED to a vine that the table represents between the ends `front` and `back`
   module _ {v : Table E} {front back : Option Place} {s : List Place} (x : RepresentsVine n v (list_head front back) s) where
     pub back_linked : {q : Place} → back ≡ Some q → IsNode n v q
     back_linked is = (last_between (IsFollowed (along n)) v.entry None s None x.chain (sym is ∙ x.tail)).linked
@@ -55,7 +55,7 @@ module _ {E : Type 0} (n : E → Node) where
       still_linked : IsNode n v1 place
       still_linked = ap (λ (e : Node). e.linked) set1 ∙ linked
 
-      -- after nothing,
+      -- if the vine is empty, the appended place is its only member
       pub hung_alone : back ≡ None → Inserts (RepresentsVine n) v v1 (list_head (Some place) (Some place)) (at_back s) place
       hung_alone is =
           let bare = nothing_last s (sym is ∙ x.tail) in
@@ -65,7 +65,7 @@ module _ {E : Type 0} (n : E → Node) where
             frame = record { extent = only1.extent; others = λ q o. only1.others q o.0 };
           }
 
-      -- and after the last member
+      -- if the vine has the last member q, the appended place becomes the right child of q
       module _ {q : Place} (is : back ≡ Some q) {v2 : Table E} (set2 : n (v2.entry q) ≡ record (n (v1.entry q)) { right = Some place }) (only2 : ChangesOnly v1 v2 q) where
         last_is : last s ≡ Some q
         last_is = sym x.tail ∙ is
@@ -93,7 +93,7 @@ module _ {E : Type 0} (n : E → Node) where
           frame = record { extent = only2.extent ∙ only1.extent; others = others };
         }
 
-  -- THE FIRST MEMBER IS TAKEN OFF: the others stay where no entry but its own is changed
+  -- THE FIRST MEMBER IS REMOVED from a vine: the other members stay in the vine if no entry but that of the first member is changed
   pub front_taken : {v w : Table E} {front back next : Option Place} (s : List Place) → RepresentsVine n v (list_head front back) s → {p : Place} → front ≡ Some p
       → next ≡ (n (v.entry p)).right → ChangesOnly v w p → Removes (RepresentsVine n) v w (list_head next (end_of next None back)) (at_front s)
   front_taken [] x {p} is read only = absurd (none_not p (sym x.head ∙ is))
@@ -112,7 +112,7 @@ module _ {E : Type 0} (n : E → Node) where
         frame = record { extent = only.extent; others = λ z o. only.others z o.0 };
       }
 
-  -- a place that has just been linked stands on no vine that was represented
+  -- a place that has just been linked is in no vine that the table represented before, and the table still represents each of these vines
   pub vine_acquired : (linked : E → Bool) → ((e : E) → (n e).linked ≡ linked e) → {old v : Table E} {ends : Ends} {s : List Place} {p : Place} → RepresentsVine n old ends s
       → IsUnlinked linked old p → ChangesOnly old v p → IsAbsent p s × RepresentsVine n v ends s
   vine_acquired linked alike {old} {v} {ends} {s} {p} x was only =
@@ -129,7 +129,7 @@ module _ {E : Type 0} (n : E → Node) where
   pub pushed : {old v w : Table E} {ends : Ends} {s : List Place} {p : Place} → ChangesOnly old v p → Inserts (RepresentsVine n) v w ends (at_back s) p → Inserts (RepresentsVine n) old w ends (at_back s) p
   pushed only h = record { shows = h.shows; frame = record { extent = h.frame.extent ∙ only.extent; others = λ q o. h.frame.others q o ∙ only.others q o.0 } }
 
-  -- THE TREE of all members
+  -- A VINE BECOMES A TREE that has all members of the vine
   module _ {v : Table E} {ends : Ends} {s : List Place} (x : RepresentsVine n v ends s) where
     pub vine_walk : IsWalk (along n) v.entry ends.head s
     vine_walk = record { before = None; part = record { distinct = x.distinct; chain = x.chain; starts = x.head; ends = refl } }
@@ -156,13 +156,13 @@ module _ {E : Type 0} (n : E → Node) where
         frame = h.frame;
       }
 
-  -- which is as low as can be
+  -- the tree that is built of a vine has the least height for its number of members
   pub built_lowest : {v w : Table E} {root next o : Option Place} {m : ℕ} {s r : List Place} {after : Option Place} → BecomesTree n v w root next m s after → o ≡ root
       → (h : Represents n w o r) → IsLowest h.tree
   built_lowest {v} {w} {root} {next} {o} {m} {s} {r} {after} b is h =
       subst IsLowest (one_tree n w.entry None b.tree h.tree b.entries h.held.entries (sym b.root_is ∙ (sym is ∙ h.starts))) b.lowest
 
-  -- THE VINE of a tree
+  -- A TREE BECOMES A VINE that has all members of the tree
   module _ {v : Table E} {root : Option Place} {s : List Place} (x : Represents n v root s) where
     pub whole_tree : IsTreeOf n v root None x.tree
     whole_tree = record { entries = x.held.entries; distinct = subst IsDistinct (sym x.held.order) x.held.distinct; root_is = x.starts }

@@ -1,4 +1,4 @@
--- Membership by a climb: a path down a tree is short, and what a member's readings name is a member.
+-- A climb along the parents tests whether a place is a member. A path down a tree is short, and the parent and the children of a member are members.
 use Rattle.std.proofs.Common.{◌≡◌, ℕ, ◌+◌, ◌^◌, ◌≤◌, true, Option, Some, None, List, [], ◌∷◌, length, refl, sym, ap, ◌∙◌, subst, arith, inl, inr, ◌⊎◌, eq-eqb}
 use Rattle.ic_link_ops.specs.Prelude.{Place, index_of, IsMember, Table, IsCovered}
 use Rattle.ic_link_ops.specs.declared.color.Color.{Color}
@@ -21,12 +21,13 @@ use Rattle.ic_rbtree.proofs.Outermost.{framed}
 use Rattle.ic_rbtree.proofs.Branches.{top_branch}
 use Rattle.ic_rbtree.proofs.Removing.{spot, represented_of, order_around}
 
--- an end is where it is
+-- if an end is the place p, the comparison of the end with p is true
 pub is_end_there : {end : Option Place} {p : Place} → end ≡ Some p → is_end end p ≡ true
 is_end_there {end} {p} e = rw e (eq-eqb (index_of p) (index_of p) refl)
 
 module _ {E : Type 0} (n : E → Node) where
-  -- THE CLIMB: the member p stands below so few frames that with the steps made they are less than the longest path has members
+  -- THE CLIMB: the member p is the root of a subtree below the frames fs. The number of these frames and the number of steps that were made are together at
+  -- most 65
   pub record Climbs (v : Table E) (root : Option Place) (p : Place) (steps : ℕ) : Type 0 where
     pub fs : List Frame
     pub t : Tree
@@ -35,7 +36,7 @@ module _ {E : Type 0} (n : E → Node) where
     pub few : length fs + steps ≤ 65
 
   module _ {v : Table E} {root : Option Place} {s : List Place} (shown : Represents n v root s) where
-    -- NO PATH IS LONG
+    -- NO PATH IS LONG: a path down from the root of a represented tree has at most 66 members
     pub path_few : (fs : List Frame) (t : Tree) (looks : ℕ) → plug fs t ≡ shown.tree → looks ≤ length fs + height t → looks ≤ 66
     path_few fs t looks same high =
         let few : 2 ^ looks ≤ (length s + 1) ^ 2 =
@@ -57,7 +58,7 @@ module _ {E : Type 0} (n : E → Node) where
             exponent_small (length fs + 1) (length s + 1) (omega (arith, few_places s shown.held.distinct))
             (subst (λ (z : List Place). 2 ^ (length fs + 1) ≤ (length z + 1) ^ 2) same (looks_few fs (fork c a p b) (length fs + 1) right (omega arith)))
 
-    -- one step goes to a member as well, whose child the old one is
+    -- if the climb is at the member p, a step to the parent q of p goes to a member, and the climb goes on at q
     pub climbs : {p q : Place} {steps : ℕ} → Climbs v root p steps → (n (v.entry p)).parent ≡ Some q → Climbs v root q (steps + 1)
     climbs {p} {q} {steps} k up =
         let f = framed n k.fs k.t k.stands k.top_is up in
@@ -72,14 +73,14 @@ module _ {E : Type 0} (n : E → Node) where
         by Left e = inl e
         by Right e = inr e
 
-    -- and the child of a member is one
+    -- a place that is the child of a member is a member
     pub child_member : {p q : Place} → HasChild n v q p → IsMember q s → IsMember p s
     child_member {p} {q} h member = elim h.child [
       | inl e ↦ left_member shown.held member e
       | inr e ↦ right_member shown.held member e
     ]
 
-    -- a member without a parent is the root
+    -- if the climb is at a member without a parent, this member is the root
     pub at_root : {p : Place} {steps : ℕ} → Climbs v root p steps → (n (v.entry p)).parent ≡ None → root ≡ Some p
     at_root {p} k none = by k.fs k.stands (sym (top_parent n v.entry (above k.fs) k.t p k.stands.are.1.0 k.top_is) ∙ none) where
       by : (fs : List Frame) → ClimbState n v v root fs k.t [] → above fs ≡ None → root ≡ Some p

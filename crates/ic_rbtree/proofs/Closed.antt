@@ -1,4 +1,4 @@
--- Writes that lead out of no closed set.
+-- A closed set is a set of places out of which no link leads. These lemmas state which writes keep a set closed.
 use Rattle.std.proofs.Common.{◌≡◌, Bool, true, Option, Some, None, refl, sym, ap, ◌∙◌, subst, inl, inr}
 use Rattle.ic_link_ops.specs.Prelude.{Place, Table, ChangesOnly}
 use Rattle.ic_unsafe_ref.proofs.PlaceLemmas.{same_or_not}
@@ -12,17 +12,17 @@ use Rattle.ic_rbtree.specs.Removal.{AreRead}
 use Rattle.ic_rbtree.specs.Transplants.{or_else, both_of}
 use Rattle.ic_rbtree.specs.Closed.{IsIn, IsNode, IsNamed, IsClosedBut, IsClosed}
 
--- an end that is there is in the set
+-- if an optional place that is none or in the set S is the place q, q is in S
 pub in_there : (S : Place → Bool) {o : Option Place} {q : Place} → IsIn S o → o ≡ Some q → S q ≡ true
 in_there S {o} {q} h e = subst (λ (x : Option Place). IsIn S x) e h
 
--- what was read is in the set where the node's end is
+-- an optional place that equals another one, which is none or in S, is none or in S itself
 pub read_in : (S : Place → Bool) {o x : Option Place} → IsIn S x → o ≡ x → IsIn S o
 read_in S {o} {x} h e = subst (λ (z : Option Place). IsIn S z) (sym e) h
 
 module _ {E : Type 0} (n : E → Node) where
   module _ {v : Table E} {root but : Option Place} {S : Place → Bool} (h : IsClosedBut n v root but S) where
-    -- another root in S
+    -- a set that is closed for one root is closed for another root that is none or in S
     pub restarted : {new_root : Option Place} → IsIn S new_root → IsClosedBut n v new_root but S
     restarted s = record { linked = h.linked; left = h.left; right = h.right; parent = h.parent; starts = s }
 
@@ -34,7 +34,7 @@ module _ {E : Type 0} (n : E → Node) where
         | inr k ↦ subst (λ (x : E). IsIn S (r (n x))) (sym (only.others q k)) (old q m out)
       ]
 
-      -- ONE WRITE
+      -- ONE WRITE to the entry of p keeps the set S closed, if each link of p that was none or in S still is none or in S
       written : (n (w.entry p)).linked ≡ (n (v.entry p)).linked → (IsIn S (n (v.entry p)).left → IsIn S (n (w.entry p)).left)
           → (IsIn S (n (v.entry p)).right → IsIn S (n (w.entry p)).right) → (IsIn S (n (v.entry p)).parent → IsIn S (n (w.entry p)).parent) → IsClosedBut n w root but S
       written l fl fr fp = record {
@@ -71,11 +71,11 @@ module _ {E : Type 0} (n : E → Node) where
       pub color_written : {c : Color} → n (w.entry p) ≡ record (n (v.entry p)) { color = c } → IsClosedBut n w root but S
       color_written set = written (ap (λ (x : Node). x.linked) set) (same (λ x. x.left) set refl) (same (λ x. x.right) set refl) (same (λ x. x.parent) set refl)
 
-    -- an end in S is none or linked
+    -- an optional place that is none or in the closed set S is none or linked
     pub in_linked : {o : Option Place} → IsIn S o → IsNamed n v o
     in_linked i q e = h.linked q (in_there S i e)
 
-    -- what leads into S
+    -- the child on side d of a place in the closed set S is none or in S
     pub child_in : (d : Side) (p : Place) → S p ≡ true → (but ≡ Some p → ⊥) → IsIn S (child_on d (n (v.entry p)))
     child_in Left p m out = h.left p m out
     child_in Right p m out = h.right p m out
@@ -99,7 +99,7 @@ module _ {E : Type 0} (n : E → Node) where
       pick None b k = tt
       pick (Some x) b k = k
 
-    -- a place in S and its children can be read
+    -- a place in the closed set S and its children are linked, so that they can be read
     pub closed_read : (p : Place) → S p ≡ true → AreRead n v p
     closed_read p m = record {
       here = h.linked p m;
@@ -107,7 +107,7 @@ module _ {E : Type 0} (n : E → Node) where
       right = λ q e. h.linked q (in_there S (h.right p m (none_not p)) e);
     }
 
-    -- closed, and so closed but at a place
+    -- a closed set is also closed except at one place
     pub weaker : (but : Option Place) → IsClosedBut n v root but S
     weaker but = record {
       linked = h.linked;
@@ -117,7 +117,7 @@ module _ {E : Type 0} (n : E → Node) where
       starts = h.starts;
     }
 
-  -- the last place leads into S as well
+  -- a set that is closed except at p is closed if the links of p are none or in the set
   pub all_closed : {v : Table E} {root : Option Place} {p : Place} {S : Place → Bool} → IsClosedBut n v root (Some p) S
       → IsIn S (n (v.entry p)).left → IsIn S (n (v.entry p)).right → IsIn S (n (v.entry p)).parent → IsClosed n v root S
   all_closed {v} {root} {p} {S} h l r u = record {
@@ -133,7 +133,8 @@ module _ {E : Type 0} (n : E → Node) where
       | inr k ↦ old q m (λ s. k (sym (some_same s)))
     ]
 
-  -- ALL OF A NODE IS WRITTEN, at a place that comes in
+  -- ALL OF A NODE IS WRITTEN at p, in a set that is closed except at p. The set is closed after this if both children and the parent that are written are
+  -- none or in the set
   pub node_written : {v w : Table E} {root : Option Place} {p : Place} {S : Place → Bool} {a b up : Option Place} {c : Color}
       → n (w.entry p) ≡ record (n (v.entry p)) { left = a; right = b; parent = up; color = c } → ChangesOnly v w p
       → IsClosedBut n v root (Some p) S → IsIn S a → IsIn S b → IsIn S up → IsClosed n w root S

@@ -1,4 +1,4 @@
--- A tree is cut at a hole, from there up.
+-- A tree is split at a hole, which is a missing child. The split goes from the hole up to the root.
 use Rattle.std.proofs.Common.{◌≡◌, ℕ, ◌+◌, ◌-◌, ◌<◌, Option, Some, None, List, [], ◌∷◌, ◌++◌, refl, sym, ap, ◌∙◌, subst, arith, append-nil, append_assoc}
 use Rattle.ic_link_ops.specs.Prelude.{Place, Cut, join, Table, ChangesOnly}
 use Rattle.ic_link_ops.specs.declared.color.Color.{Color}
@@ -23,7 +23,7 @@ use Rattle.ic_rbtree.specs.Join.{IsMeasured, Pair, AreMeasured, IsJoined}
 use Rattle.ic_rbtree.specs.Pieces.{Piece, loose, below, around, Held, ClimbState, Represented}
 use Rattle.ic_rbtree.specs.Removal.{IsOn}
 use Rattle.ic_rbtree.specs.Steps.{IsSideOf}
-use Rattle.ic_rbtree.proofs.Attaching.{hole}
+use Rattle.ic_rbtree.proofs.Attaching.{insert_pos}
 use Rattle.ic_rbtree.proofs.Branches.{side_near, side_far, side_tint, side_up, side_linked}
 use Rattle.ic_rbtree.proofs.Low.{frames_low, blacks_low}
 use Rattle.ic_rbtree.proofs.Spine.{weight_small, at_root}
@@ -33,7 +33,7 @@ use Rattle.ic_rbtree.proofs.InsertionShapes.{red_not_black}
 use Rattle.ic_rbtree.proofs.Removing.{represents_of}
 use Rattle.ic_rbtree.proofs.Rotations.{below_linked, around_linked, open_below, close_below, times_top}
 
--- a black root changes neither the members nor their root
+-- if the root of a tree turns black, the root and the members stay as they were
 top_blackened : (t : Tree) → top (blackened t) ≡ top t
 top_blackened leaf = refl
 top_blackened (fork c a p b) = refl
@@ -49,20 +49,20 @@ right_blackened (fork c a p b) pairs even = record { black_root = refl; no_red_p
 right_leaf : IsRight leaf
 right_leaf = record { black_root = refl; no_red_pair = tt; even = tt }
 
--- no tree, measured
+-- the empty tree, with no root and the black height 0
 abbrev pub nothing : Measured
 nothing = record { root = None; height = 0 }
 
 nothing_is : IsMeasured nothing leaf
 nothing_is = record { root_is = refl; height_is = refl }
 
--- the lowest frame
+-- if the member p is right above the subtree, which is on side d, the lowest frame is a frame of p on side d
 pub lowest : (fs : List Frame) (d : Side) (p : Place) → Some p ≡ above fs → IsOn d fs → (c : Color) × (b : Tree) × (gs : List Frame) × (fs ≡ frame d c p b ∷ gs)
 lowest [] d p e on = absurd (none_not p (sym e))
 lowest (frame k c q b ∷ gs) d p e on = (c, b, gs, ap (λ z. frame k c z b ∷ gs) (sym (some_same e)) ∙ ap (λ z. frame z c p b ∷ gs) (sym on))
 
 module _ {E : Type 0} (n : E → Node) where
-  -- A SUBTREE IS DETACHED by one write
+  -- A SUBTREE IS DETACHED if one write to its root q clears the parent of q and turns q black
   pub detaches_some : {v w : Table E} {height : ℕ} {alone : Measured} (q : Place) (child : Option Place) → child ≡ Some q → alone.root ≡ child
       → alone.height ≡ height + 1 - weight (n (v.entry q)).color
       → n (w.entry q) ≡ record (n (v.entry q)) { parent = None; color = Black } → ChangesOnly v w q → Detaches n v w child height alone
@@ -74,12 +74,12 @@ module _ {E : Type 0} (n : E → Node) where
         record { root_is = root ∙ e; height_is = omega (arith, tall, high, tint, weight_small c) },
       )
 
-  -- and none is where it is missing
+  -- a missing child is detached as an empty tree, without a write
   pub detaches_none : {v : Table E} {height : ℕ} {alone : Measured} (child : Option Place) → child ≡ None → alone.root ≡ child → alone.height ≡ height → Detaches n v v child height alone
   detaches_none child is root tall base up leaf ps e high h = (regroup n (below None leaf ∷ ps) h (λ q. refl) (tt, h.are.1), record { root_is = root ∙ e; height_is = tall ∙ high })
   detaches_none child is root tall base up (fork c a p b) ps e high h = absurd (none_not p (sym is ∙ e))
 
-  -- the side that a table tells is the frame's
+  -- the side of its parent on which the table has the place p is the side of the lowest frame
   side_there : (v : Table E) (fs : List Frame) (i : Side) (p : Place) → IsAround n v.entry fs (Some p) → times_around p fs ≡ 0
       → ((q : Place) → above fs ≡ Some q → IsSideOf n v p q i) → IsOn i fs
   side_there v [] i p a none tells = tt
@@ -90,7 +90,7 @@ module _ {E : Type 0} (n : E → Node) where
       let m : top b ≡ Some p = sym (side_far n v.entry Right q c (Some p) (top b) (above fs) a.0) ∙ tells q refl in
       absurd (omega (arith, none, times_top p b m))
 
-  -- AT THE MEMBER above the hole
+  -- AT THE MEMBER p above the hole: the lowest frame is that of p, with the other subtree b of p
   module _ {v : Table E} {root : Option Place} {left right : Measured} {k : CutUp E} (x : IsCutUp n v root left right k)
       (d : Side) (c : Color) (p : Place) (b : Tree) (fs : List Frame) (is : k.frames ≡ frame d c p b ∷ fs) where
     here : IsCutUp n v root left right (record k { frames = frame d c p b ∷ fs })
@@ -112,14 +112,14 @@ module _ {E : Type 0} (n : E → Node) where
     opened = regroup n (below (Some p) b ∷ others) here.held (λ q. omega arith)
         (here.held.are.0.0.1, (lowest_node, ((here.held.are.0.0.2, here.held.are.0.1), here.held.are.1)))
 
-    -- no way down is long
+    -- the number of black members on a path down at the hole is less than `turns`
     pub count_low : k.count < turns
     count_low = omega (arith, blacks_low n b opened here.even.1, here.even.0)
 
     pub lowest_weighs : {w : ℕ} → w ≡ weight (n (v.entry p)).color → w ≡ weight c
     lowest_weighs e = e ∙ ap weight (side_tint n v.entry d p c k.named (top b) (above fs) here.held.are.0.0.0)
 
-    -- with its other subtree detached,
+    -- the other subtree b of the member p has been detached as a tree of its own
     module _ {w : Table E} {rest : Option Place} {height : ℕ} {alone : Measured} (re : rest ≡ top b) (level : height ≡ k.count) (off : Detaches n v w rest height alone) where
       apart_is : Held n k.base w (below None (blackened b) ∷ others) × IsMeasured alone (blackened b)
       apart_is = off k.base (Some p) b others re (level ∙ sym here.even.0) opened
@@ -127,7 +127,7 @@ module _ {E : Type 0} (n : E → Node) where
       apart : Held n k.base w (below None (blackened b) ∷ others)
       apart = apart_is.0
 
-      -- both can be joined to a part,
+      -- the member p and its other subtree can be joined to a part. If the hole is left of p, they can be joined to the part after the hole
       abbrev pub back_pair : Pair E
       back_pair = record { base = k.base; one = k.back; two = blackened b; pieces = around root fs (Some p) ∷ below None k.front ∷ k.pieces }
 
@@ -165,7 +165,7 @@ module _ {E : Type 0} (n : E → Node) where
         two_height = x.left_is.height_is;
       }
 
-      -- AND ARE
+      -- THE JOIN IS MADE: if the hole is left of p, then p and its other subtree are joined to the part after the hole. The loop's invariant holds again
       pub cut_back : {u : Table E} {new : Measured} → d ≡ Left → IsJoined n k.base u new (in_order k.back ++ p ∷ in_order (blackened b)) back_pair.pieces
           → (front back : Tree) × IsCutUp n u root left new (record k { frames = fs; named = Some p; count = weight c + k.count; front = front; back = back })
       cut_back {u} {new} left_side (h, tall) = (
@@ -214,14 +214,14 @@ module _ {E : Type 0} (n : E → Node) where
     pub upper_node : {up : Option Place} → up ≡ above fs → (q : Place) → up ≡ Some q → IsNode n v q
     upper_node is q e = around_linked n v.entry fs (Some p) q here.held.are.0.0.2 (sym is ∙ e)
 
-    -- THE NEXT HOLE is where the member is
+    -- THE NEXT HOLE is at the position of the member p: its parent is the parent of p, which is the member of the next frame
     pub next_parent : {up : Option Place} → up ≡ (n (v.entry p)).parent → up ≡ above fs
     next_parent e = e ∙ side_up n v.entry d p c k.named (top b) (above fs) here.held.are.0.0.0
 
     pub next_side : (i : Side) → ((q : Place) → above fs ≡ Some q → IsSideOf n v p q i) → IsOn i fs
     next_side i tells = side_there v fs i p here.held.are.0.0.2 (omega (arith, here.held.once p, one_at_self p)) tells
 
-  -- FROM A HOLE of a tree
+  -- THE LOOP BEGINS at a hole of a represented tree, with two empty parts
   pub begins : {base v : Table E} {root : Option Place} {d : Side} {gap : Cut} {ps : List Piece} (parent : Option Place) → Represented n base v root (join gap) ps → IsInsertPos n v parent d gap
       → IsCutting n base v root parent d 0 nothing nothing gap ps turns
   begins {base} {v} {root} {d} {gap} {ps} None h at =
@@ -251,7 +251,7 @@ module _ {E : Type 0} (n : E → Node) where
         omega arith,
       )
   begins {base} {v} {root} {d} {gap} {ps} (Some q) h at =
-      let x = hole n (Some q) q d gap refl h at in
+      let x = insert_pos n (Some q) q d gap refl h at in
       let fs : List Frame = frame d x.c q x.b ∷ x.fs in
       let o = shape_open fs leaf x.right in (
         fs,
@@ -278,7 +278,7 @@ module _ {E : Type 0} (n : E → Node) where
         frames_low n x.stands x.right,
       )
 
-  -- to the two parts of a tree
+  -- the loop ends if the hole has no parent: then the tree is cut apart into two trees with the members before and after the gap
   pub ends : {v : Table E} {root parent : Option Place} {d : Side} {height : ℕ} {left right : Measured} {k : CutUp E} → parent ≡ None → IsCutBelow n v root parent d height left right k
       → AreCutApart n k.base v left.root right.root k.gap k.pieces
   ends {v} {root} {parent} {d} {height} {left} {right} {k} is x = at k.frames x where
@@ -296,7 +296,7 @@ module _ {E : Type 0} (n : E → Node) where
     }
     at (frame i c p b ∷ fs) x = absurd (none_not p (sym is ∙ x.parent_is))
 
-  -- and both are represented
+  -- if a represented tree is cut apart at a gap, the table represents both parts of its sequence for the two new trees
   pub splits : {v w : Table E} {root left right : Option Place} {gap : Cut} → Represents n v root (join gap) → AreCutApart n v w left right gap [] → Splits (Represents n) v w left right gap.front gap.back
   splits {v} {w} {root} {left} {right} {gap} h x = record {
     keeps = represents_of n front_represented;

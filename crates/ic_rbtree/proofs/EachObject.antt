@@ -1,4 +1,4 @@
--- For callers: a tree that has each object, after each kind of step.
+-- Laws for callers: after each kind of step, a tree still has each of the objects.
 use Rattle.std.proofs.Common.{◌≡◌, ◌≢◌, ℕ, Option, Some, None, IsSome, is_some, List, [], ◌∷◌, ◌++◌, map, sym, ap, ◌∙◌, subst, true≢false}
 use Rattle.std.proofs.lemmas.Cmp.{nat_cmp_total}
 use Rattle.std.proofs.lemmas.List.Elements.{filter_map-append}
@@ -21,7 +21,7 @@ use Rattle.ic_rbtree.specs.EachObject.{HasEach}
 use Rattle.ic_rbtree.proofs.SortedKeys.{sorted_without}
 
 module _ {V A : Type 0} {key_of : V → ℕ} {w : TreeLinkOps A} {root : Option Place} {objects : Objects V} where
-  -- AT FIRST
+  -- AT FIRST, no place is linked, no object is placed and the root is none, so the empty tree has each object
   pub each_none : ((p : Place) → IsUnlinked is_linked (plain_table w) p) → root ≡ None → ((p : Place) → object_at objects p ≡ None) → HasEach key_of w root objects []
   each_none free none vacant = record {
     sorted = has_none plain_trees nat_cmp_total objects none free;
@@ -29,11 +29,11 @@ module _ {V A : Type 0} {key_of : V → ℕ} {w : TreeLinkOps A} {root : Option 
   }
 
   module _ {values : List V} (each : HasEach key_of w root objects values) where
-    -- AFTER `cover`
+    -- AFTER `cover`, which changes no entry, the tree still has each object
     pub each_covered : (v : TreeLinkOps A) → ((q : Place) → (plain_table v).entry q ≡ (plain_table w).entry q) → HasEach key_of v root objects values
     each_covered v stays = record { sorted = has_covered plain_trees nat_cmp_total each.sorted stays; exact = λ p. ap is_linked (stays p) ∙ each.exact p }
 
-    -- a vacant place is not linked, and members are placed after another object is
+    -- a place without an object is not linked, and the members of the tree are still placed after another object has been placed
     pub vacant_free : (p : Place) → object_at objects p ≡ None → IsUnlinked is_linked (plain_table w) p
     vacant_free p vacant = each.exact p ∙ ap is_some vacant
 
@@ -41,7 +41,7 @@ module _ {V A : Type 0} {key_of : V → ℕ} {w : TreeLinkOps A} {root : Option 
     each_ready {more} {p} places =
         let has = has_beside plain_trees nat_cmp_total each.sorted {new = more} (vacant_free p places.vacant) (others_placed places) in record { members = has.members; shown = has.shown; placed = has.stand.placed }
 
-    -- A NEW OBJECT, inserted in order
+    -- A NEW OBJECT at p is inserted in order, so the tree has each object again, and its list of values has one value more
     pub each_new : {more : Objects V} {p : Place} {r : V} {v : TreeLinkOps A} {top : Option Place} → Places objects more p r
         → ((s : List Place) → PlainRepresents w root s → InsertsInOrder RepresentsTree (compared (own_order nat_cmp key_of more p) more) (plain_table w) (plain_table v) top s p)
         → LinksAlso is_linked (plain_table w) (plain_table v) p → (all : List V) × InsertsValue nat_cmp key_of values r all × HasEach key_of v top more all
@@ -56,7 +56,7 @@ module _ {V A : Type 0} {key_of : V → ℕ} {w : TreeLinkOps A} {root : Option 
           },
         )
 
-    -- WHERE AN OBJECT STANDS among the members, and its value among the values
+    -- AN OBJECT AT THE PLACE p has p among the members of the tree, and its value `out` among the values
     module _ (p : Place) {out : V} (there : object_at objects p ≡ Some out) where
       pub each_linked : IsLinked is_linked (plain_table w) p
       each_linked = each.exact p ∙ ap is_some there
@@ -68,11 +68,11 @@ module _ {V A : Type 0} {key_of : V → ℕ} {w : TreeLinkOps A} {root : Option 
       each_value front back at = sym each.sorted.stand.are ∙ ap (values_at objects) at ∙ filter_map-append (object_at objects) front (p ∷ back)
           ∙ ap (λ (o : Option V). values_at objects front ++ cons_option o (values_at objects back)) there
 
-      -- what holds of each each_value holds of it
+      -- if P holds for each value of the tree, then P holds for the value `out` of the object at p
       pub at_each : (P : V → Type 0) → AllByRecursion P values → P out
       at_each P all = let m = each_member in (all_back P (values_at objects m.0) (out ∷ values_at objects m.1) (subst (AllByRecursion P) (each_value m.0 m.1 m.2) all)).0
 
-      -- TAKEN OUT
+      -- AN OBJECT IS TAKEN OUT: its place p is removed from the tree and unlinked, and the tree has each of the other objects
       module _ {new : Objects V} {v : TreeLinkOps A} {top : Option Place} (removed : (front back : List Place) → PlainRepresents w root (front ++ p ∷ back) → PlainRepresents v top (front ++ back))
           (off : Unlinks is_linked (plain_table w) (plain_table v) p) (frees : Frees objects new p) where
         pub each_taken : (front : List V) × (back : List V) × (values ≡ front ++ out ∷ back) × HasEach key_of v top new (front ++ back)
@@ -104,7 +104,7 @@ module _ {V A : Type 0} {key_of : V → ℕ} {w : TreeLinkOps A} {root : Option 
                   (λ n absent. off.others q n ∙ each.sorted.only q (subst (IsAbsent q) (sym at) (absent_with front back p q n absent)));
             }
 
-      -- ANOTHER VALUE in its place, where the keys rise still
+      -- THE VALUE AT p CHANGES to r: if the list of values is still sorted by keys, the tree has each object again
       module _ {new : Objects V} {r : V} (is : object_at new p ≡ Some r) (others : (q : Place) → q ≢ p → object_at new q ≡ object_at objects q) where
         pub each_changed : (front : List V) × (back : List V) × (values ≡ front ++ out ∷ back) × (IsSorted nat_cmp (map key_of (front ++ r ∷ back)) → HasEach key_of w root new (front ++ r ∷ back))
         each_changed = by each_member.0 each_member.1 each_member.2 where

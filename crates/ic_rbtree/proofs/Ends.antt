@@ -1,4 +1,4 @@
--- A tree between its two ends: the member at one of them is taken off, and its child comes up in its place.
+-- A tree is given by its two ends. The member at one end is removed, and the child of this member takes its position.
 use Rattle.std.proofs.Common.{◌≡◌, ◌+◌, true, Option, Some, None, List, [], ◌∷◌, ◌++◌, drop, refl, sym, ap, ◌∙◌, subst, arith, append-nil}
 use Rattle.std.specs.Option.{option_and}
 use Rattle.ic_link_ops.specs.Prelude.{Place, first, last, but_last, IsAbsent, Table, ChangesOnly, ChangesOnlyIn}
@@ -27,7 +27,7 @@ use Rattle.ic_rbtree.proofs.Removing.{go_into}
 use Rattle.ic_rbtree.proofs.Rotations.{open_at, below_linked, around_linked, changes_child_side}
 use Rattle.ic_rbtree.proofs.Zipper.{go_top}
 
--- with nothing beyond on this side, the lowest frame is one to this side,
+-- if no member is beyond the subtree on side d, the lowest frame is a frame on side d
 pub on_side : (d : Side) (fs : List Frame) → beyond d fs ≡ [] → IsOn d fs
 on_side d [] e = tt
 on_side Left (frame Left c p b ∷ fs) e = refl
@@ -35,7 +35,7 @@ on_side Left (frame Right c p b ∷ fs) e = absurd (none_not p (sym (ap last e) 
 on_side Right (frame Left c p b ∷ fs) e = absurd (none_not p (sym (ap first e)))
 on_side Right (frame Right c p b ∷ fs) e = refl
 
--- and its member is the nearest of all others
+-- if the lowest frame is on side d, its member is the nearest member beyond the subtree on the other side
 above_nearest : (d : Side) (fs : List Frame) → IsOn d fs → above fs ≡ nearest (across d) (beyond (across d) fs)
 above_nearest d [] on = sym (beyond_nothing (across d))
 above_nearest Left (frame Left c p b ∷ fs) on = refl
@@ -43,7 +43,8 @@ above_nearest Left (frame Right c p b ∷ fs) on = cc
 above_nearest Right (frame Left c p b ∷ fs) on = cc
 above_nearest Right (frame Right c p b ∷ fs) on = sym (nearest_frame Left c p b fs)
 
--- the end of a tree with nothing beyond a subtree is the end of that, or of the others
+-- if no member is beyond the subtree t on side d, the end of the whole tree is the end of t. If t is empty, the end is the nearest member beyond t on the
+-- other side
 end_around : (d : Side) (fs : List Frame) (t : Tree) → beyond d fs ≡ []
     → end_on d (in_order (plug fs t)) ≡ nearest_or (across d) (in_order t) (nearest (across d) (beyond (across d) fs))
 end_around Left fs t e =
@@ -52,13 +53,13 @@ end_around Right fs t e =
     ap last (in_order_parts fs t ∙ ap (λ (s : List Place). before fs ++ (in_order t ++ s)) e ∙ ap (λ (s : List Place). before fs ++ s) (append-nil (in_order t)))
     ∙ last_or-append None (before fs) (in_order t)
 
--- without a member at the end there are no others
+-- if a list has no member at its end, the list without this end is the list itself
 pub none_others : (d : Side) (w : List Place) → end_on d w ≡ None → others_on d w ≡ w
 none_others Left [] e = refl
 none_others Left (x ∷ w) e = absurd (none_not x (sym e))
 none_others Right w e = but_last_of_none w e
 
--- the far end stays, unless the last is taken off
+-- the far end of a list stays if the near end is removed, unless no member is left
 far_front : (w : List Place) (next far : Option Place) → next ≡ first (drop 1 w) → far ≡ last w → option_and next far ≡ last (drop 1 w)
 far_front [] None far e i = refl
 far_front (x ∷ []) None far e i = refl
@@ -76,7 +77,7 @@ far_back (x ∷ []) (Some q) far e i = absurd (none_not q (sym e))
 far_back (x ∷ y ∷ s) (Some q) far e i = i
 
 module _ {E : Type 0} (n : E → Node) where
-  -- a subtree hangs where another hung
+  -- if `to` is written as the child of q on side d, the subtree with the root `to` is below q on this side
   pub hangs_some : (v w : Table E) (q : Place) (parent to : Option Place) (d : Side) → parent ≡ Some q
       → n (w.entry q) ≡ with_child d (n (v.entry q)) to → ChangesOnly v w q → Hangs n v w parent d to
   hangs_some v w q parent to d is set only base root [] was x ps e on ex h = absurd (none_not q (sym e ∙ is))
@@ -89,21 +90,21 @@ module _ {E : Type 0} (n : E → Node) where
   hangs_none v parent to d is base root [] was x ps e on ex h = regroup n (around x [] x ∷ ps) h (λ q. refl) ((tt, refl), h.are.1)
   hangs_none v parent to d is base root (frame k c p b ∷ fs) was x ps e on ex h = absurd (none_not p (sym is ∙ e))
 
-  -- THE NEXT END is the outermost member at the child or below,
+  -- THE NEXT END of a tree is the outermost member at or below the child q, if there is a child
   pub outer_below : (v : Table E) (q y : Place) (child parent : Option Place) (d : Side) → child ≡ Some q → IsOutermost n v q d y → IsOuter n v child parent d (Some y)
   outer_below v q y child parent d is out base root fs t ps st ec ep bare =
       let here : top t ≡ Some q = sym ec ∙ is in
       sym (out base root fs t ps st here).nearest_is ∙ nearest_plain (across d) (in_order t)
       ∙ nearest_there (across d) t q None (nearest (across d) (beyond (across d) fs)) here ∙ sym (end_around d fs t bare)
 
-  -- or else the parent
+  -- if there is no child, the next end of a tree is the parent
   pub outer_above : (v : Table E) (child parent : Option Place) (d : Side) → child ≡ None → IsOuter n v child parent d parent
   outer_above v child parent d none base root fs t ps st ec ep bare =
       let empty : in_order t ≡ [] = ap in_order (top_leaf t (sym ec ∙ none)) in
       ep ∙ above_nearest d fs (on_side d fs bare) ∙ sym (nearest_nothing (across d) (nearest (across d) (beyond (across d) fs)))
       ∙ ap (λ (s : List Place). nearest_or (across d) s (nearest (across d) (beyond (across d) fs))) (sym empty) ∙ sym (end_around d fs t bare)
 
-  -- AT THE END on side d: p has no child there, and no member stands beyond
+  -- AT THE END on side d: the outermost member p has no child on this side, and no member is beyond p
   pub record AtEnd (v : Table E) (d : Side) (p : Place) (w : List Place) : Type 0 where
     pub root : Option Place
     pub fs : List Frame
@@ -153,7 +154,7 @@ module _ {E : Type 0} (n : E → Node) where
   at_end v Left near far p w is h = at_front h.tree p w h.held (sym is ∙ h.starts)
   at_end v Right near far p w is h = at_back h.tree p w h.held (sym h.ends ∙ is)
 
-  -- the near end is the member at that end
+  -- the stored near end of a tree is the member at this end of the sequence
   pub near_is : (v : Table E) (d : Side) (near far : Option Place) (w : List Place) → RepresentsFrom n d v near far w → near ≡ end_on d w
   near_is v Left near far w h = h.starts
   near_is v Right near far w h = h.ends
@@ -180,7 +181,7 @@ module _ {E : Type 0} (n : E → Node) where
     pub parent_linked : (parent : Option Place) → parent ≡ above x.fs → (q : Place) → parent ≡ Some q → (n (v.entry q)).linked ≡ true
     parent_linked parent ep q is = around_linked n v.entry x.fs (Some p) q open_end.are.1.1.1.0.0 (sym ep ∙ is)
 
-    -- THE WRITES of taking it off
+    -- THE WRITES that remove the member at an end: its child gets the parent of the member, and the parent gets this child
     module _ {v1 v2 : Table E} {child parent : Option Place} (ec : child ≡ top x.b) (ep : parent ≡ above x.fs) (f1 : Adopts n v v1 child parent) (f2 : Hangs n v1 v2 parent d child) where
       pub off : ClimbState n v v2 (topmost x.fs (top x.b)) x.fs x.b (loose p ∷ [])
       off =
@@ -223,7 +224,7 @@ module _ {E : Type 0} (n : E → Node) where
             let here : times q (branch d x.c leaf p x.b) ≡ times q leaf + one_at q p + times q x.b = times_branch q d x.c leaf p x.b in
             only.others q (apart q p (omega (arith, all, parts, here))) ∙ off.beside q (omega (arith, all, parts, here))
 
-  -- WHAT IS LEFT between the new ends
+  -- AFTER THE MEMBER AT THE NEAR END is removed, the table represents the other members between the new ends
   pub taken_off : {v w : Table E} (tree : Tree) (d : Side) (near far next here there : Option Place) (s : List Place) → RepresentsFrom n d v near far s
       → Holds n w tree (others_on d s) → next ≡ end_on d (others_on d s) → here ≡ next → there ≡ option_and next far → RepresentsFrom n d w here there (others_on d s)
   taken_off tree Left near far next here there s h held is eh et = record { tree = tree; held = held; starts = eh ∙ is; ends = et ∙ far_front s next far is h.ends }

@@ -1,4 +1,4 @@
--- The gap of a tree to which a test sends: a border of the test.
+-- A test at each member leads a descent to a gap of the tree. This gap is a border of the test.
 use Rattle.std.proofs.Common.{◌≡◌, Bool, true, false, cond, Some, None, List, [], ◌∷◌, ◌++◌, refl, sym, ap, ◌∙◌, subst, append_assoc}
 use Rattle.ic_link_ops.specs.Prelude.{Place, Cut, join, first, last}
 use Rattle.ic_link_ops.specs.Trees.{Tree, leaf, fork, in_order}
@@ -6,7 +6,7 @@ use Rattle.ic_link_ops.proofs.SequenceLemmas.{none_not, some_same, last_or-appen
 use Rattle.ic_rbtree.specs.Borders.{IsBorder}
 use Rattle.ic_rbtree.specs.Descents.{left_of, right_of, gap_in}
 
--- it is a gap of the tree's sequence,
+-- the gap to which a test leads in a tree is a gap of the tree's sequence
 pub gap_join : (test : Place → Bool) (t : Tree) → join (gap_in test t) ≡ in_order t
 gap_join test leaf = refl
 gap_join test (fork c a p b) = by (test p) (gap_join test a) (gap_join test b) where
@@ -14,7 +14,7 @@ gap_join test (fork c a p b) = by (test p) (gap_join test a) (gap_join test b) w
   by true ha hb = sym (append_assoc (gap_in test a).front (gap_in test a).back (p ∷ in_order b)) ∙ ap (λ s. s ++ p ∷ in_order b) ha
   by false ha hb = append_assoc (in_order a) (p ∷ (gap_in test b).front) (gap_in test b).back ∙ ap (λ s. in_order a ++ p ∷ s) hb
 
--- AND A BORDER of the test
+-- THE GAP IS A BORDER of the test: the member before the gap, if any, fails the test, and the member after the gap, if any, passes
 pub gap_border : (test : Place → Bool) (t : Tree) → IsBorder test (gap_in test t)
 gap_border test leaf = record { fails = λ q e. absurd (none_not q e); passes = λ q e. absurd (none_not q e) }
 gap_border test (fork c a p b) = by (test p) refl (gap_border test a) (gap_border test b) where
@@ -30,11 +30,11 @@ gap_border test (fork c a p b) = by (test p) refl (gap_border test a) (gap_borde
   by true here ha hb = record { fails = ha.fails; passes = λ q e. left_first (gap_in test a).back q here ha.passes e }
   by false here ha hb = record { fails = λ q e. right_last (gap_in test b).front q here hb.fails e; passes = hb.passes }
 
--- tests that agree send to the same gap
+-- tests that agree at all places lead to the same gap
 pub gap_same : (test other : Place → Bool) → ((p : Place) → test p ≡ other p) → (t : Tree) → gap_in test t ≡ gap_in other t
 gap_same test other same t = ap (λ (f : Place → Bool). gap_in f t) (λ k p. same p k)
 
--- all members pass, and none does
+-- if all members pass the test, the gap is before all members, and if no member passes, the gap is after all members
 pub gap_all : (t : Tree) → gap_in (λ _. true) t ≡ record { front = []; back = in_order t }
 gap_all leaf = refl
 gap_all (fork c a p b) = ap (λ (g : Cut). record { front = g.front; back = g.back ++ p ∷ in_order b }) (gap_all a)

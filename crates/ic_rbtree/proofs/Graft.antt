@@ -1,4 +1,4 @@
--- A place comes into a tree with another tree below it, write by write.
+-- A place is inserted into a tree with another tree below the place. The lemmas follow the order of the writes.
 use Rattle.std.proofs.Common.{◌≡◌, ◌+◌, Bool, true, Option, Some, None, List, [], ◌∷◌, ◌++◌, refl, sym, ap, ◌∙◌, subst, arith}
 use Rattle.ic_link_ops.specs.Prelude.{Place, Table, ChangesOnly}
 use Rattle.ic_link_ops.specs.declared.color.Color.{Color}
@@ -28,7 +28,7 @@ use Rattle.ic_rbtree.proofs.RepresentedClosed.{among, among_there, stands_closed
 use Rattle.ic_rbtree.proofs.Rotations.{below_linked, around_linked, close_below, changes_child_side}
 use Rattle.ic_rbtree.proofs.Zipper.{go_top}
 
--- colors don't tell the order
+-- the color of a root does not change the order of the members
 order_painted : (d : Side) (c : Color) (a : Tree) (p : Place) (b : Tree) → in_order (branch d Black a p b) ≡ in_order (branch d Red a p b)
 order_painted Left c a p b = refl
 order_painted Right c a p b = refl
@@ -55,7 +55,7 @@ module _ {E : Type 0} (n : E → Node) where
         regroup n (around root k.frames (top k.near) ∷ below (above k.frames) k.near ∷ loose p ∷ below None k.far ∷ k.pieces) x.held (λ q. omega arith)
         (x.held.are.1.0, (x.held.are.1.1.0, (x.held.are.0, x.held.are.1.1.1)))
 
-    -- the place is red: a way down has as many black members as before
+    -- if the inserted place is red, each path down has as many black members as before
     pub graft_blacks : blacks (plug k.frames (branch d Red k.far p k.near)) ≡ blacks (plug k.frames k.near)
     graft_blacks =
         let t : Tree = branch d Red k.far p k.near in
@@ -72,7 +72,7 @@ module _ {E : Type 0} (n : E → Node) where
         (set1 : n (v1.entry p) ≡ with_child d (n (v.entry p)) far) (only1 : ChangesOnly v v1 p) (set2 : n (v2.entry p) ≡ with_child other (n (v1.entry p)) near) (only2 : ChangesOnly v1 v2 p)
         (set3 : n (v3.entry p) ≡ record (n (v2.entry p)) { parent = parent }) (only3 : ChangesOnly v2 v3 p) (f4 : Adopts n v3 v4 near (Some p)) (f5 : Adopts n v4 v5 far (Some p))
         (set6 : n (v6.entry p) ≡ record (n (v5.entry p)) { color = c }) (only6 : ChangesOnly v5 v6 p) where
-      -- the subtree with the place on top, and what stood around the near one
+      -- after the writes, the table has the subtree with the inserted place p as its root, and the surroundings that the subtree `near` had before
       graft_written : Held n k.base v6 (below (above k.frames) (branch d c k.far p k.near) ∷ around root k.frames (top k.near) ∷ k.pieces)
       graft_written =
           let up : Option Place = above k.frames in
@@ -95,7 +95,7 @@ module _ {E : Type 0} (n : E → Node) where
           let h6 = set_tint n d p e.color (top k.far) (top k.near) up (B5 ∷ A4 ∷ R ∷ k.pieces) g6 p c c refl refl set6 only6 in
           close_below n up (top k.far) (top k.near) d c k.far p k.near (R ∷ k.pieces) refl refl h6
 
-      -- at the root
+      -- if there is no parent, the inserted place p is the black root, the tree is right, and each path down has one black member more
       pub graft_top : c ≡ Black → parent ≡ None
           → (h : Represented n k.base v6 (Some p) (in_order (plug k.frames (branch d Red k.far p k.near))) k.pieces) × (blacks h.tree ≡ blacks (plug k.frames k.near) + 1)
       graft_top black none = by k.frames (sym x.parent_is ∙ none) x.right (subst (λ z. Held n k.base v6 (below (above k.frames) (branch d z k.far p k.near) ∷ around root k.frames (top k.near) ∷ k.pieces)) black graft_written) where
@@ -117,7 +117,7 @@ module _ {E : Type 0} (n : E → Node) where
           omega (arith, blacks_branch d Black k.far p k.near (sym x.same), x.same),
         )
 
-      -- below a parent
+      -- below a parent q, the inserted place p is red, and the repair starts at p
       pub graft_red : {v7 : Table E} (q : Place) → c ≡ Red → parent ≡ Some q → n (v7.entry q) ≡ with_child d (n (v6.entry q)) (Some p) → ChangesOnly v6 v7 q
           → RedAt n v7 root p (record { base = k.base; sequence = in_order (plug k.frames (branch d Red k.far p k.near)); frames = k.frames; subtree = branch d Red k.far p k.near; pieces = k.pieces })
       graft_red {v7} q red is set7 only7 = by k.frames (sym x.parent_is ∙ is) x.side_is x.right (subst (λ z. Held n k.base v6 (below (above k.frames) (branch d z k.far p k.near) ∷ around root k.frames (top k.near) ∷ k.pieces)) red graft_written) where
@@ -148,7 +148,7 @@ module _ {E : Type 0} (n : E → Node) where
               order = refl;
             }
 
-  -- A RED MEMBER and its parent are in a closed set
+  -- A RED MEMBER p and its parent are in a closed set, a set out of which no link leads
   pub red_safe : {v : Table E} {root parent : Option Place} {base : Table E} {s : List Place} {ps : List Piece} (fs : List Frame) (d : Side) (a : Tree) (p : Place) (b : Tree)
       → RedAt n v root p (record { base = base; sequence = s; frames = fs; subtree = branch d Red a p b; pieces = ps }) → parent ≡ above fs → IsSafe n v root (Some p ∷ parent ∷ [])
   red_safe {v} {root} {parent} {base} {s} {ps} fs d a p b h is =

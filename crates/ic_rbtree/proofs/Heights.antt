@@ -1,4 +1,4 @@
--- A TREE OF THE RIGHT SHAPE IS LOW, and so a descent in it short.
+-- A tree of the right red-black shape has a small height, so a descent in the tree is short.
 use Rattle.std.proofs.Common.{◌≡◌, ℕ, suc, max, ◌+◌, ◌*◌, ◌^◌, ◌≤◌, ◌<◌, List, [], ◌∷◌, ◌++◌, length, refl, sym, ap, ◌∙◌, subst, arith, length-append, inl, inr}
 use Rattle.std.proofs.Math.Nat.{pow-le-pow_left, max-le, le-max_left, le-max_right, pow-le-pow_right, pow-suc, pow-zero, one-mul, mul-le-mul, mul-add, add-mul}
 use Rattle.std.proofs.lemmas.Nat.{pow-add, pow_below}
@@ -25,7 +25,7 @@ blacks_few (fork Black a p b) e =
     let right : 2 ^ blacks a ≤ length (in_order b) + 1 = subst (λ (n : ℕ). 2 ^ n ≤ length (in_order b) + 1) (sym e.0) (blacks_few b e.2) in
     omega (arith, left, right, pow-add 2 1 (blacks a), length-append (in_order a) (p ∷ in_order b))
 
--- twice the black members, and one more below a red top
+-- the number by which the height of a tree may be greater than twice its black height: 1 if the root is red, and 0 if the root is black
 abbrev slack : Color → ℕ
 slack Red = 1
 slack Black = 0
@@ -56,7 +56,7 @@ height_few t r =
     let b = mul-le-mul few few in
     omega (arith, a, b, pow-add 2 (blacks t) (blacks t), square (length (in_order t) + 1))
 
--- a red root stands on two trees with as many black members as it has
+-- a tree with a red root has two subtrees of its own black height b, so it has at least twice 2 ^ b members, less one
 red_many : (t : Tree) → IsEven t → top_color t ≡ Red → 2 ^ blacks t + 2 ^ blacks t ≤ length (in_order t) + 1
 red_many leaf e r = cc
 red_many (fork Black a p b) e r = cc
@@ -68,7 +68,7 @@ red_many (fork Red a p b) e r =
     zero_left : 0 + blacks a ≡ blacks a
     zero_left = omega arith
 
--- with three times as many members as 2 ^ b, less one, 2 b + 3 is few
+-- if m is at least three times 2 ^ b, and h is at most 2 b + 3, then 2 ^ h is at most the square of m
 thrice_few : (h b m : ℕ) → h ≤ b + b + 3 → 2 ^ b + (2 ^ b + 2 ^ b) ≤ m → 2 ^ h ≤ m ^ 2
 thrice_few h b m low many =
     let x : ℕ = 2 ^ b in
@@ -94,7 +94,7 @@ twice_few h b m low many =
     let wide : (2 ^ b + 2 ^ b) * (2 ^ b + 2 ^ b) ≤ m * m = mul-le-mul many many in
     omega (arith, a, e, wide, square m, add-mul (2 ^ b) (2 ^ b) (2 ^ b + 2 ^ b), mul-add (2 ^ b) (2 ^ b) (2 ^ b))
 
--- ONE LOOK MORE than a longest path has members is few as well: where a path below the root may have two members for each black one, there are
+-- ONE COMPARISON MORE than a longest path has members is within the bound. If a path below the root has two members for each black member, the tree has
 -- half as many members again
 pub height_fewer : (t : Tree) → IsRight t → 1 ≤ length (in_order t) → 2 ^ (height t + 1) ≤ (length (in_order t) + 1) ^ 2
 height_fewer leaf r some = absurd (omega (arith, some))
@@ -141,7 +141,7 @@ pub length_frames_height : (fs : List Frame) (t : Tree) → length fs + height t
 length_frames_height [] t = omega arith
 length_frames_height (frame d c p b ∷ fs) t = omega (arith, length_frames_height fs (branch d c t p b), height_branch d c t p b)
 
--- one look for each frame, and at most one at each member of a longest path down from there
+-- one comparison for each frame, and at most one for each member of a longest path down from the subtree, are within the bound of a descent
 pub looks_few : (fs : List Frame) (t : Tree) (looks : ℕ) → IsRight (plug fs t) → looks ≤ length fs + height t → 2 ^ looks ≤ (length (in_order (plug fs t)) + 1) ^ 2
 looks_few fs t looks r h =
     let low : looks ≤ height (plug fs t) = omega (arith, h, length_frames_height fs t) in
@@ -155,7 +155,7 @@ looks_fewer fs t looks r h some =
     let a : 2 ^ (looks + 1) ≤ 2 ^ (height (plug fs t) + 1) = pow-le-pow_right (omega arith) low in
     omega (arith, a, height_fewer (plug fs t) r some)
 
--- what is at most the square of 2 ^ 33 as a power of 2 has a small exponent
+-- if 2 ^ v is at most the square of a number m, and m is at most 2 ^ 33, then v is at most 66
 pub exponent_small : (v m : ℕ) → m ≤ 8589934592 → 2 ^ v ≤ m ^ 2 → v ≤ 66
 exponent_small v m small h = elim (cases_lt 66 v) [
   | inl more ↦
@@ -166,7 +166,7 @@ exponent_small v m small h = elim (cases_lt 66 v) [
   | inr few ↦ few
 ]
 
--- and what is at most 2 ^ 33 too
+-- if 2 ^ v is at most m, and m is at most 2 ^ 33, then v is at most 66
 pub exponent_smaller : (v m : ℕ) → m ≤ 8589934592 → 2 ^ v ≤ m → v ≤ 66
 exponent_smaller v m small h = elim (cases_lt 66 v) [
   | inl more ↦

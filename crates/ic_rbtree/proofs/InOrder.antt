@@ -1,4 +1,4 @@
--- A place that has just been linked is put in where a descent ends.
+-- A place that has just been linked is inserted at the gap where a descent ends.
 use Rattle.std.proofs.Common.{◌≡◌, Option, Some, None, Result, Bool, true, false, List, [], ◌∷◌, ◌++◌, refl, sym, ap, ◌∙◌, subst}
 use Rattle.std.specs.declared.cmp.Ordering.{Ordering}
 use Rattle.std.specs.Bool.{OnTrue, OnFalse}
@@ -25,10 +25,10 @@ use Rattle.ic_rbtree.specs.Ordered.{InsertsInOrder, InsertsAmong}
 use Rattle.ic_rbtree.specs.Pieces.{loose, Represented}
 use Rattle.ic_rbtree.proofs.Attaching.{acquired_represented, inserts}
 use Rattle.ic_rbtree.proofs.Gaps.{gap_join, gap_border}
-use Rattle.ic_rbtree.proofs.KeptHeads.{shown, printed, shows, inserts_kept, hole_below}
+use Rattle.ic_rbtree.proofs.KeptHeads.{shown, printed, shows, inserts_kept, insert_pos_below}
 use Rattle.ic_rbtree.proofs.RepresentedClosed.{with_place, represented_closed_but, with_itself, hole_in}
 
--- A DESCENT ENDS where what is searched belongs
+-- A DESCENT ENDS at the hole where the searched key belongs
 pub ended_in_order : {E : Type 0} (n : E → Node) {v : Table E} {root : Option Place} {s : List Place} {at : Place → Ordering} {d : Descent} {parent : Option Place}
     (h : Represents n v root s) → EndsAt n v at Right h.tree d → parent ≡ d.parent → IsInOrder n v at s parent d.side
 ended_in_order n {v} {at = at} {d} h x same =
@@ -37,27 +37,27 @@ ended_in_order n {v} {at = at} {d} h x same =
       gap = gap;
       same = gap_join (less_at at) h.tree ∙ h.held.order;
       border = gap_border (less_at at) h.tree;
-      hole = subst (λ o. IsInsertPos n v o d.side gap) (sym same) x.hole;
+      insert_pos = subst (λ o. IsInsertPos n v o d.side gap) (sym same) x.insert_pos;
     }
 
 module _ {E : Type 0} (n : E → Node) (linked : E → Bool) (alike : (e : E) → (n e).linked ≡ linked e) {old v : Table E} {p : Place}
     (was : IsUnlinked linked old p) (is : IsLinked linked v p) (only : ChangesOnly old v p) where
-  -- the tree is still represented,
+  -- after another place has been linked, the table still represents the tree
   pub still_represented : {root : Option Place} {s : List Place} → Represents n old root s → Represents n v root s
   still_represented h = represents_beside h (free_absent h (alike (old.entry p) ∙ was)) only.others
 
   pub still_kept : (k : Kept) (s : List Place) → RepresentsFor n old k s → RepresentsFor n v k s
   still_kept k s h = shows k (still_represented (shown k h)) (printed n old k s h)
 
-  -- and the place fits into the gap where what is searched belongs: it is linked, and on its own
+  -- the place p, which has just been linked, can be inserted at the gap where the searched key belongs: p is a piece of its own beside the tree
   pub fits : {root : Option Place} {at : Place → Ordering} {parent : Option Place} {d : Side} {s : List Place} → Represents n old root s → (x : IsInOrder n v at s parent d)
       → Represented n v v root (join x.gap) (loose p ∷ [])
   fits {root} h x = acquired_represented n linked alike old v root (join x.gap) p (subst (Represents n old root) (sym x.same) h) was is only
 
-  -- so it may come in there
+  -- the place p and the parent at the hole are in a set that is closed except at p, so the insert of p is safe
   pub fits_safe : {root : Option Place} {at : Place → Ordering} {parent : Option Place} {d : Side} {s : List Place} → Represents n old root s → IsInOrder n v at s parent d
       → IsSafeBut n v root p (Some p ∷ parent ∷ [])
-  fits_safe h x = let f = fits h x in (with_place p (join x.gap), represented_closed_but n f, (with_itself n f, (hole_in n v p _ _ x.gap x.hole, tt)))
+  fits_safe h x = let f = fits h x in (with_place p (join x.gap), represented_closed_but n f, (with_itself n f, (hole_in n v p _ _ x.gap x.insert_pos, tt)))
 
   pub fitted : {H : Type 0} (kept : H → Kept) (head new : H) {at : Place → Ordering} {parent : Option Place} {d : Side} {s : List Place} {w : Table E} → RepresentsFor n old (kept head) s → IsInOrder n v at s parent d
       → Attaches n v w (root_kept (kept head)) (root_kept (kept new)) parent d p
@@ -69,11 +69,11 @@ module _ {E : Type 0} (n : E → Node) (linked : E → Bool) (alike : (e : E) �
         gap = x.gap;
         same = x.same;
         border = x.border;
-        inserted = inserts_kept kept new (inserts n old v w (root_kept (kept head)) (root_kept (kept new)) p x.gap only (attached v x.gap [] (fits was_represented x) x.hole))
-            (ends x.gap (hole_below n v parent d x.gap x.hole) (subst IsDistinct (sym x.same) was_represented.held.distinct) (subst (TellsEnds (kept head)) (sym x.same) (printed n old (kept head) s h)));
+        inserted = inserts_kept kept new (inserts n old v w (root_kept (kept head)) (root_kept (kept new)) p x.gap only (attached v x.gap [] (fits was_represented x) x.insert_pos))
+            (ends x.gap (insert_pos_below n v parent d x.gap x.insert_pos) (subst IsDistinct (sym x.same) was_represented.held.distinct) (subst (TellsEnds (kept head)) (sym x.same) (printed n old (kept head) s h)));
       }
 
--- a search by the object's own key
+-- a search by the object's own key compares as `own_order` states
 pub own_is : {A V K : Type 0} (cmp : K → K → Ordering) (key_of : A → V → K) (objects : Objects V) {a b : A} {key : K} {value : V} {object place : Place} → b ≡ a → key ≡ key_of a value → place ≡ object → object_at objects place ≡ Some value
     → order_of cmp (key_of b) key ≡ own_order cmp (key_of a) objects object
 own_is cmp key_of objects {a} {b} {key} {value} {object} {place} adapter key_is there placed =
@@ -81,7 +81,7 @@ own_is cmp key_of objects {a} {b} {key} {value} {object} {place} adapter key_is 
     ∙ ap (order_of cmp (key_of a)) key_is
     ∙ ap (λ o. λ other. answer_at (λ own. cmp (key_of a own) (key_of a other)) o) (sym placed ∙ ap (object_at objects) there)
 
--- A POSITION STILL STANDS beside an insert in order
+-- A POSITION IS STILL VALID for a cursor after an insert in order
 module _ {L E H : Type 0} {Represents : Table E → H → List Place → Type 0} {table : L → Table E} {at : Place → Ordering} {old new : CursorState L H} {p : Place} where
   pub in_order_stands : Standing.IsValidCursor Represents table old → new.position ≡ old.position
       → ((s : List Place) → RepresentsAt Represents table old s → InsertsInOrder Represents at (table old.links) (table new.links) new.head s p) → Standing.IsValidCursor Represents table new
@@ -95,7 +95,7 @@ module _ {L E H : Type 0} {Represents : Table E → H → List Place → Type 0}
         λ absent. split_member m.front q m.back (subst (IsAbsent q) x.same (absent_without x.gap.front x.gap.back p q absent)) in
         stands_on (has_member (RepresentsAt Represents table new) (insert x.gap p) x.inserted.shows member) (same ∙ e)
 
-  -- `X`: what else a refusal leaves
+  -- an insert in order or a refusal of it gives what `InsertsAmong` states. `X` is what a refusal states besides that the head stays
   pub put_among : {Refused : L → L → Place → Type 0} → ((a b : L) (q : Place) → Refused a b q → table b ≡ table a) → Standing.IsValidCursor Represents table old → new.position ≡ old.position
       → {T : Type 0} (X : Type 0) {Trace : L → L → List LinkStep → Type 0} (b : Bool) → OnTrue b (Trace old.links new.links (acquires p ∷ [])) → OnFalse b (Refused old.links new.links p)
       → OnFalse b ((new.head ≡ old.head) × X)
@@ -106,7 +106,7 @@ module _ {L E H : Type 0} {Represents : Table E → H → List Place → Type 0}
   put_among keeps stands position X false acquired refused unchanged puts =
       record { inserted = λ _ _. tt; acquired = tt; refused = refused; unchanged = (refl, unchanged.0); position = position; stands = stands_still stands (keeps _ _ p refused) unchanged.0 position }
 
--- what is searched, in other words
+-- if two orders of the searched key are equal, an insert in order by the first is an insert in order by the second
 pub among_by : {L E H : Type 0} {Represents : Table E → H → List Place → Type 0} {table : L → Table E} {Trace : L → L → List LinkStep → Type 0} {Refused : L → L → Place → Type 0} {T V : Type 0}
     {old new : CursorState L H} {p : Place} {r : Result Unit (AlreadyLinked T)} {order other : V → Ordering} (objects : Objects V) → order ≡ other
     → InsertsAmong Represents table Trace Refused (compared order objects) old p r new → InsertsAmong Represents table Trace Refused (compared other objects) old p r new

@@ -1,4 +1,4 @@
--- The cases of a repair after an insert, on trees alone.
+-- Lemmas about the cases of a repair after an insert, as statements about trees alone, without a table.
 use Rattle.std.proofs.Common.{◌≡◌, ℕ, ◌+◌, List, [], ◌∷◌, refl, sym, ap, ◌∙◌, subst, arith}
 use Rattle.ic_unsafe_ref.specs.declared.place.Place.{Place}
 use Rattle.ic_link_ops.specs.declared.color.Color.{Color}
@@ -34,7 +34,8 @@ pub of_even : (d : Side) (c : Color) (a : Tree) (p : Place) (b : Tree) → IsEve
 of_even Left c a p b h = h
 of_even Right c a p b h = (sym h.0, h.2, h.1)
 
--- the colors fit at the place between the frames and the tree
+-- if the colors of the subtree t and of the frames above t are right, the whole tree has the right shape. Below a red member, and at the root, t must have
+-- a black root
 pub right_plug : (fs : List Frame) (t : Tree) → NoRedPair t → IsEven t → PairsAround fs → EvenAround fs (blacks t) → (color_above fs ≡ Red → top_color t ≡ Black) → IsRight (plug fs t)
 right_plug [] t n e pa ea fits = record { black_root = fits refl; no_red_pair = n; even = e }
 right_plug (frame d c p b ∷ fs) t n e pa ea fits =
@@ -52,12 +53,12 @@ not_red Black h = refl
 pub red_not_black : {A : Type 0} → Black ≡ Red → A
 red_not_black h = cc
 
--- at a root the count of black members does not matter
+-- if there is no frame, any number of black members is right for the frames, because nothing is beside the subtree
 pub even_wanted : (fs : List Frame) (m n : ℕ) → (wanted fs ≡ Red → m ≡ n) → EvenAround fs m → EvenAround fs n
 even_wanted [] m n e h = tt
 even_wanted (f ∷ fs) m n e h = subst (λ (k : ℕ). EvenAround (f ∷ fs) k) (e refl) h
 
--- both children of the grandparent are red: they turn black
+-- CASE 1: both children of the grandparent g are red and turn black
 pub recolored : (fs : List Frame) (d : Side) (q : Place) (b : Tree) (k : Side) (c : Color) (g : Place) (ua : Tree) (u : Place) (ub : Tree) (t : Tree) →
     IsNearlyRight (frame d Red q b ∷ frame k c g (fork Red ua u ub) ∷ fs) t →
     IsNearlyRight fs (branch k (wanted fs) (branch d Black t q b) g (fork Black ua u ub))
@@ -84,7 +85,7 @@ recolored fs d q b k c g ua u ub t n =
           ea.2.2;
     }
 
--- the uncle is black and the lower one of the red pair an outer grandchild: the parent comes up
+-- CASE 3: the uncle is black and the lower member of the red pair is an outer grandchild. The parent q of this member is rotated above the grandparent
 pub restored : (fs : List Frame) (d : Side) (q : Place) (b : Tree) (c : Color) (g : Place) (u t : Tree) →
     IsNearlyRight (frame d Red q b ∷ frame d c g u ∷ fs) t → top_color u ≡ Black →
     IsRight (plug fs (branch d Black t q (branch d Red b g u)))
@@ -104,7 +105,7 @@ restored fs d q b c g u t n uncle =
     (let e : weight c + (0 + blacks t) ≡ blacks (branch d Black t q low) = omega (arith, heavy, all) in subst (λ (k : ℕ). EvenAround fs k) e ea.2.2)
     (λ r. top_color_branch d Black t q low)
 
--- the lower one of the red pair is an inner grandchild: a rotation makes it the parent of an outer one
+-- CASE 2: the lower member of the red pair is an inner grandchild. A rotation makes it the parent of an outer grandchild
 pub inner_rotated : (fs : List Frame) (d : Side) (q : Place) (b : Tree) (f : Frame) (ta : Tree) (x : Place) (tb : Tree) →
     IsNearlyRight (frame (across d) Red q b ∷ f ∷ fs) (branch d Red ta x tb) →
     IsNearlyRight (frame d Red x tb ∷ f ∷ fs) (branch d Red b q ta)
@@ -125,7 +126,7 @@ inner_rotated fs d q b f ta x tb n =
       even_around = (omega (arith, all, new, same, te.0), te.2, subst (λ (k : ℕ). EvenAround (f ∷ fs) k) e ea.2);
     }
 
--- how many black members a way down has through a subtree of so many
+-- the number of black members on a path down through the frames and through a subtree that has the given number of them on each path
 abbrev pub through : List Frame → ℕ → ℕ
 through [] m = m
 through (frame d c p b ∷ fs) m = through fs (weight c + m)
@@ -136,20 +137,20 @@ blacks_plug (frame d c p b ∷ fs) t e =
     let same : blacks (branch d c t p b) ≡ weight c + blacks t = blacks_branch d c t p b (sym e.0) in
     blacks_plug fs (branch d c t p b) (subst (λ (k : ℕ). EvenAround fs k) (sym same) e.2) ∙ ap (through fs) same
 
--- a black root counts
+-- a black root of the whole tree adds one black member to each path, and the red root of a subtree below frames adds none
 through_wanted : (fs : List Frame) (m : ℕ) → through fs (weight (wanted fs) + m) ≡ through fs m + weight (wanted fs)
 through_wanted [] m = omega arith
 through_wanted (f ∷ fs) m = let same : 0 + m ≡ m = omega arith in omega (arith, ap (through (f ∷ fs)) same)
 
 module _ (fs : List Frame) (d : Side) (q : Place) (b : Tree) (k : Side) (c : Color) (g : Place) where
-  -- around a red pair, by the uncle
+  -- the number of black members on each path of a tree with a red pair, counted by the path through the uncle
   pub pair_blacks : (u t : Tree) → IsNearlyRight (frame d Red q b ∷ frame k c g u ∷ fs) t → blacks (plug (frame d Red q b ∷ frame k c g u ∷ fs) t) ≡ through fs (1 + blacks u)
   pair_blacks u t n =
       let heavy : weight c ≡ 1 = ap weight (not_red c n.pairs_around.1) in
       let same : weight c + (0 + blacks t) ≡ 1 + blacks u = omega (arith, heavy, n.even_around.2.0) in
       blacks_plug (frame d Red q b ∷ frame k c g u ∷ fs) t n.even_around ∙ ap (through fs) same
 
-  -- as many where it is recolored, and one more at the root
+  -- after the recoloring of case 1 each path has as many black members as before, and one more if the grandparent is the root
   pub recolored_blacks : (ua : Tree) (u : Place) (ub t : Tree) → IsNearlyRight (frame d Red q b ∷ frame k c g (fork Red ua u ub) ∷ fs) t →
       blacks (plug fs (branch k (wanted fs) (branch d Black t q b) g (fork Black ua u ub))) ≡ through fs (1 + blacks (fork Red ua u ub)) + weight (wanted fs)
   recolored_blacks ua u ub t n =
@@ -161,7 +162,7 @@ module _ (fs : List Frame) (d : Side) (q : Place) (b : Tree) (k : Side) (c : Col
       omega (arith, blacks_branch k (wanted fs) low g (fork Black ua u ub) same, low_blacks, n.even_around.2.0) in
       blacks_plug fs high (recolored fs d q b k c g ua u ub t n).even_around ∙ ap (through fs) all ∙ through_wanted fs (1 + blacks (fork Red ua u ub))
 
--- and where it is rotated
+-- after the rotation of case 3 each path has as many black members as before
 pub restored_blacks : (fs : List Frame) (d : Side) (q : Place) (b : Tree) (c : Color) (g : Place) (u t : Tree) →
     IsNearlyRight (frame d Red q b ∷ frame d c g u ∷ fs) t → EvenAround fs (blacks (branch d Black t q (branch d Red b g u))) →
     blacks (plug fs (branch d Black t q (branch d Red b g u))) ≡ through fs (1 + blacks u)

@@ -1,4 +1,4 @@
--- What a tree keeps, by its two kinds: the table represents the members for the root, and the ends are told.
+-- Lemmas about the two kinds of heads: the table represents the members for the root, and if the head stores the ends, they are right.
 use Rattle.std.proofs.Common.{◌≡◌, ℕ, Option, Some, None, List, [], sym, ap, ◌∙◌, arith}
 use Rattle.ic_link_ops.specs.Prelude.{Place, Objects, Cut, join, insert, remove, replace, Table, site, IsValidCursor, HasMember, RepresentsPlaced}
 use Rattle.ic_link_ops.specs.declared.side.Side.{Side}
@@ -12,12 +12,12 @@ use Rattle.ic_rbtree.specs.Kept.{Kept, alone, ended, root_kept, RepresentsFor, R
 use Rattle.ic_rbtree.specs.Join.{RepresentsParts, Appends}
 
 module _ {E : Type 0} {n : E → Node} {v : Table E} where
-  -- THE TABLE SHOWS THEM FOR THE ROOT,
+  -- THE TABLE REPRESENTS THE MEMBERS FOR THE ROOT, if it represents them for the head
   pub shown : (k : Kept) {s : List Place} → RepresentsFor n v k s → Represents n v (root_kept k) s
   shown (alone root) h = h
   shown (ended e) h = h.shown
 
-  -- and that is all, but that what is kept beside it is right
+  -- if the table represents s for the root, and the ends that the head stores are right, the table represents s for the head
   pub shows : (k : Kept) {s : List Place} → Represents n v (root_kept k) s → TellsEnds k s → RepresentsFor n v k s
   shows (alone root) h t = h
   shows (ended e) h t = record { shown = h; front_is = t.0; back_is = t.1 }
@@ -36,7 +36,7 @@ module _ {E : Type 0} (n : E → Node) (v : Table E) where
   printed (alone root) s h = tt
   printed (ended e) s h = (h.front_is, h.back_is)
 
-  -- an end is found where a sequence is represented, and is that of the sequence
+  -- if the table represents a sequence for the head, the ends of the tree can be found, and they are the ends of this sequence
   pub has_ends : (k : Kept) (s : List Place) → RepresentsFor n v k s → HasEnds n v k
   has_ends (alone root) s h = (s, h)
   has_ends (ended e) s h = tt
@@ -46,11 +46,11 @@ module _ {E : Type 0} (n : E → Node) (v : Table E) where
   end_is Left (ended e) s is h = is ∙ h.front_is
   end_is Right (ended e) s is h = is ∙ h.back_is
 
-  -- an object that stands at an end is that of the sequence
+  -- an object at the end of the tree on side d is at the end of the represented sequence
   pub object_there : (d : Side) (k : Kept) (s : List Place) {end : Option Place} {p object : Place} → EndIs n d v k end → RepresentsFor n v k s → end ≡ Some p → object ≡ p → Some object ≡ end_on d s
   object_there d k s is h at same = ap (λ z. Some z) same ∙ (sym at ∙ end_is d k s is h)
 
-  -- a tree with no members
+  -- if the table represents the empty sequence, and the root is none, the head is that of an empty tree
   pub emptied : (k : Kept) → RepresentsFor n v k [] → root_kept k ≡ None → IsEmptied k
   emptied (alone root) h none = none
   emptied (ended e) h none =
@@ -59,13 +59,13 @@ module _ {E : Type 0} (n : E → Node) (v : Table E) where
       ∙ ap (λ o. record { root = None; front = None; back = o }) h.back_is
 
 module _ {H E : Type 0} (kept : H → Kept) {n : E → Node} where
-  -- A POSITION STANDS in the tree by its root too
+  -- A POSITION IS VALID for a cursor of the tree given by its root alone, if it is valid for the tree given by its head
   pub stands_root : {L : Type 0} {table : L → Table E} {links : L} {head : H} {at : Option Place} → IsValidCursor (RepresentsKept kept n) table (site links head at)
       → IsValidCursor (Represents n) table (site links (root_kept (kept head)) at)
   stands_root {head = head} x = record { gap = x.gap; shown = shown (kept head) x.shown; after = x.after }
 
   module _ {old w : Table E} (head : H) where
-    -- AN EDIT by the root is one of the tree, if the ends are right
+    -- AN EDIT of the tree given by its root is an edit of the tree given by its head, if the ends in the head are right after the edit
     pub inserts_kept : {gap : Cut} {p : Place} → Inserts (Represents n) old w (root_kept (kept head)) gap p → TellsEnds (kept head) (insert gap p) → Inserts (RepresentsKept kept n) old w head gap p
     inserts_kept x t = record { shows = shows (kept head) x.shows t; frame = x.frame }
 
@@ -78,7 +78,7 @@ module _ {H E : Type 0} (kept : H → Kept) {n : E → Node} where
     pub appends_kept : {gap : Cut} → Appends (Represents n) old w (root_kept (kept head)) gap → TellsEnds (kept head) (join gap) → Appends (RepresentsKept kept n) old w head gap
     appends_kept x t = record { shows = shows (kept head) x.shows t; frame = x.frame }
 
-  -- and two trees that share no member
+  -- if two trees, given by their heads, share no member, then the trees given by their roots share no member
   pub parts_root : {v : Table E} {a b : H} {gap : Cut} → RepresentsParts (RepresentsKept kept n) v a b gap → RepresentsParts (Represents n) v (root_kept (kept a)) (root_kept (kept b)) gap
   parts_root {a = a} {b} x = record { front = shown (kept a) x.front; back = shown (kept b) x.back; distinct = x.distinct }
 
@@ -86,17 +86,17 @@ module _ {H E : Type 0} (kept : H → Kept) {n : E → Node} where
       → Splits (RepresentsKept kept n) old w a b s t
   splits_kept a b x ta tb = record { keeps = shows (kept a) x.keeps ta; hands_out = shows (kept b) x.hands_out tb; frame = x.frame }
 
--- a hole is a gap on that side of its member
-pub hole_below : {E : Type 0} (n : E → Node) (v : Table E) (parent : Option Place) (d : Side) (gap : Cut) → IsInsertPos n v parent d gap → IsBelow parent d gap
-hole_below n v None d gap h = h
-hole_below n v (Some q) d gap h = h.1
+-- the gap of a hole on side d of a member is on this side of the member
+pub insert_pos_below : {E : Type 0} (n : E → Node) (v : Table E) (parent : Option Place) (d : Side) (gap : Cut) → IsInsertPos n v parent d gap → IsBelow parent d gap
+insert_pos_below n v None d gap h = h
+insert_pos_below n v (Some q) d gap h = h.1
 
--- a new probe has room for an insert
+-- a probe that has made no comparison can count those of an insert without an overflow
 pub room_new : (k : Kept) → HasRoomFor k 0
 room_new (alone root) = omega arith
 room_new (ended e) = omega arith
 
--- and one that has room for an insert has it for a descent
+-- a probe that can count the comparisons of an insert can also count those of a descent
 pub room_descent : (k : Kept) (count : ℕ) → HasRoomFor k count → HasRoom count
 room_descent (alone root) count r = r
 room_descent (ended e) count r = omega (arith, r)

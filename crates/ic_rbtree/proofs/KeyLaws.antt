@@ -1,4 +1,4 @@
--- For callers: in a sorted sequence the borders are the ends of filters.
+-- Laws for callers: in a sorted sequence, the border of a key is an end of the members that a filter keeps.
 use Rattle.std.proofs.Common.{◌≡◌, ◌≢◌, Bool, true, false, cond, Option, Some, None, List, [], ◌∷◌, ◌++◌, map, IsSome, refl, sym, ap, ◌∙◌, subst, append_assoc, append-nil, true≢false}
 use Rattle.std.proofs.lemmas.Bool.{not-true, not-false}
 use Rattle.std.specs.Cmp.{IsTotalOrder, alike_right, upto}
@@ -13,7 +13,7 @@ use Rattle.ic_rbtree.specs.declared.keys.key_adapter.Bound.{Bound}
 use Rattle.ic_rbtree.specs.Borders.{IsBorder, IsLowerBorder, IsUpperBorder, Finds, IsSorted, IsSortedFor, equal_at, at_most_at, less_at, if_passes}
 use Rattle.ic_rbtree.specs.Comparing.{answer_at, compared, order_of, meets_lower, meets_upper, is_beyond}
 
--- a test cuts the sequence: it fails before a gap, and passes after
+-- a test cuts the sequence s if all members before some gap fail the test, and all members after this gap pass
 pub record Cuts (test : Place → Bool) (s : List Place) : Type 0 where
   pub front : List Place
   pub back : List Place
@@ -21,7 +21,7 @@ pub record Cuts (test : Place → Bool) (s : List Place) : Type 0 where
   pub fail : AllByRecursion (λ p. test p ≡ false) front
   pub pass : AllByRecursion (λ p. test p ≡ true) back
 
--- the last of what starts a sequence is one of it
+-- the last member of a part at the start of a sequence is a member of the sequence, so what holds for all members holds for it
 pub last_all : {P : Place → Type 0} (p : Place) (x y : List Place) → AllByRecursion P (p ∷ x ++ y) → (q : Place) × (last (p ∷ x) ≡ Some q) × P q
 last_all p [] y h = (p, refl, h.0)
 last_all p (z ∷ x) y h = last_all z x y h.1
@@ -40,7 +40,7 @@ cons_head p q s t e = (ap (λ l. head_or p l) e, ap tail_of e) where
   tail_of [] = []
   tail_of (x ∷ l) = l
 
--- THE BORDER of such a test is the gap where it cuts
+-- THE BORDER of a test that cuts a sequence is the gap where the test cuts
 pub one_border : (test : Place → Bool) (f b x y : List Place) → f ++ b ≡ x ++ y → AllByRecursion (λ p. test p ≡ false) f → AllByRecursion (λ p. test p ≡ true) b
     → ((q : Place) → last x ≡ Some q → test q ≡ false) → ((q : Place) → first y ≡ Some q → test q ≡ true) → (x ≡ f) × (y ≡ b)
 one_border test [] b [] y e hf hb fails passes = (refl, sym e)
@@ -52,7 +52,7 @@ one_border test (a ∷ f) b (p ∷ x) y e hf hb fails passes =
     let r = one_border test f b x y k.1 hf.1 hb (λ q last_is. fails q (tail_last p x q last_is)) passes in
     (sym (ap (λ z. z ∷ x) k.0) ∙ ap (λ z. a ∷ z) r.0, r.1)
 
--- what passes, and what fails
+-- a filter by a test that all members pass keeps all members
 pub filter_pass : {X : Type 0} (test : X → Bool) (s : List X) → AllByRecursion (λ p. test p ≡ true) s → filter test s ≡ s
 filter_pass test [] h = refl
 filter_pass test (p ∷ s) h = ap (λ x. cond x (p ∷ filter test s) (filter test s)) h.0 ∙ ap (λ t. p ∷ t) (filter_pass test s h.1)
@@ -65,20 +65,20 @@ pub filter_front : {X : Type 0} (test : X → Bool) (s t : List X) → AllByRecu
 filter_front test [] t hs ht = ap (filter test) (sym (append-nil t)) ∙ filter_fail test t [] ht
 filter_front test (p ∷ s) t hs ht = ap (λ x. cond x (p ∷ filter test (s ++ t)) (filter test (s ++ t))) hs.0 ∙ ap (λ l. p ∷ l) (filter_front test s t hs.1 ht)
 
--- A LOWER BORDER in what its bound cuts is the first of the members that meet it
+-- A LOWER BORDER of a bound that cuts the sequence is the first of the members that meet the bound
 pub lower_is : {b : Bound (Place → Ordering)} {s : List Place} {o : Option Place} → Cuts (meets_lower b) s → IsLowerBorder b s o → o ≡ first (filter (meets_lower b) s)
 lower_is {b} {s} {o} k x =
     let r = one_border (meets_lower b) k.front k.back x.gap.front x.gap.back (k.same ∙ sym x.same) k.fail k.pass x.border.fails x.border.passes in
     x.before ∙ ap first r.1 ∙ sym (ap first (ap (filter (meets_lower b)) (sym k.same) ∙ filter_fail (meets_lower b) k.front k.back k.fail ∙ filter_pass (meets_lower b) k.back k.pass))
 
--- and an upper border the last of them
+-- an upper border of a bound that cuts the sequence is the last of the members that meet the bound
 pub upper_is : {b : Bound (Place → Ordering)} {s : List Place} {o : Option Place} → Cuts (is_beyond b) s → IsUpperBorder b s o → o ≡ last (filter (meets_upper b) s)
 upper_is {b} {s} {o} k x =
     let r = one_border (is_beyond b) k.front k.back x.gap.front x.gap.back (k.same ∙ sym x.same) k.fail k.pass x.border.fails x.border.passes in
     x.after ∙ ap last r.0 ∙ sym (ap last (ap (filter (meets_upper b)) (sym k.same)
     ∙ filter_front (meets_upper b) k.front k.back (all_map (λ p h. not-false (meets_upper b p) h) k.front k.fail) (all_map (λ p h. not-true (meets_upper b p) h) k.back k.pass)))
 
--- IN A SEQUENCE SORTED for what is searched, it cuts by both tests
+-- IN A SEQUENCE SORTED for the searched key, two tests cut it: whether the key is at most the member, and whether the key is less than the member
 module _ {at : Place → Ordering} {s : List Place} (sorted : IsSortedFor at s) where
   abbrev pub cuts_at_most : Cuts (at_most_at at) s
   cuts_at_most = record {
@@ -98,7 +98,7 @@ module _ {at : Place → Ordering} {s : List Place} (sorted : IsSortedFor at s) 
     pass = all_map (λ p h. ap is_lt h) sorted.larger sorted.is_less;
   }
 
-  -- THE FIRST EQUAL member is found
+  -- THE FIRST MEMBER that is equal to the searched key is what the search finds
   pub found_is : {o : Option Place} → Finds at s o → o ≡ first (filter (equal_at at) s)
   found_is x =
       let k = cuts_at_most in
@@ -112,7 +112,7 @@ module _ {at : Place → Ordering} {s : List Place} (sorted : IsSortedFor at s) 
       by [] (p ∷ larger) he hl = ap (λ o. cond (is_eq o) (Some p) None) hl.0
       by (p ∷ equal) larger he hl = ap (λ o. cond (is_eq o) (Some p) None) he.0
 
--- A SORTED SEQUENCE is sorted for every key
+-- A SEQUENCE SORTED by its members' keys is sorted for every searched key
 module _ {V K : Type 0} {cmp : K → K → Ordering} (total : IsTotalOrder cmp) (key_of : V → K) (objects : Objects V) where
   pub keys_more : (p : Place) (s : List Place) {v : V} → object_at objects p ≡ Some v → map key_of (values_at objects (p ∷ s)) ≡ key_of v ∷ map key_of (values_at objects s)
   keys_more p s is = ap (λ o. map key_of (cons_option o (values_at objects s))) is
@@ -126,7 +126,7 @@ module _ {V K : Type 0} {cmp : K → K → Ordering} (total : IsTotalOrder cmp) 
   not_greater Equal h = refl
   not_greater Greater h = absurd (h refl)
 
-  -- no key after a member's is less
+  -- if the key l is not less than the key k, and an object's key is not less than l, the object's key is not less than k
   follows : (k l : K) → is_gt (cmp k l) ≡ false → (o : Option V) → is_gt (answer_at (order_of cmp key_of l) o) ≡ false → is_gt (answer_at (order_of cmp key_of k) o) ≡ false
   follows k l h None e = refl
   follows k l h (Some v) e = upto total k l (key_of v) h e
@@ -141,7 +141,7 @@ module _ {V K : Type 0} {cmp : K → K → Ordering} (total : IsTotalOrder cmp) 
         all_map (λ q h. follows k (key_of v.0) here (object_at objects q) h) s (none_less (key_of v.0) s placed.1 all.1),
       )
 
-  -- what stands after a member that is not less than the key
+  -- if the key k is less than the key l, and an object's key is not less than l, then k is less than the object's key
   less_on : (k l : K) → cmp k l ≡ Less → (o : Option V) → is_gt (answer_at (order_of cmp key_of l) o) ≡ false → answer_at (order_of cmp key_of k) o ≡ Less
   less_on k l h None e = refl
   less_on k l h (Some v) e = by (cmp l (key_of v)) refl e where
@@ -201,7 +201,7 @@ module _ {V K : Type 0} {cmp : K → K → Ordering} (total : IsTotalOrder cmp) 
         level (q ∷ smaller) equal larger same hs he hl none =
             let first_not = subst (AllByRecursion (λ z. is_gt (compared (order_of cmp key_of k) objects z) ≡ false)) (sym same) none in absurd (true≢false (sym (ap is_gt hs.0) ∙ first_not.0))
 
-  -- AN INSERT IN ORDER keeps a sorted sequence sorted
+  -- AN INSERT IN ORDER keeps a sorted sequence sorted: a key that is not greater than the first key can be put before it
   two : (k l : K) (q : Place) (s : List Place) {v : V} → object_at objects q ≡ Some v → key_of v ≡ l → cmp k l ≢ Greater → IsSorted cmp (map key_of (values_at objects (q ∷ s))) → IsSorted cmp (k ∷ map key_of (values_at objects (q ∷ s)))
   two k l q s {v} is same h sorted =
       subst (λ t. IsSorted cmp (k ∷ t)) (sym (keys_more q s is)) (subst (λ z. cmp k z ≢ Greater) (sym same) h, subst (IsSorted cmp) (keys_more q s is) sorted)

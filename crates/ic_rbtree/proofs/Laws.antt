@@ -1,4 +1,4 @@
--- For callers: the shape of a represented tree, and how long its paths are.
+-- Laws for callers about the shape of a represented tree and about the length of its paths.
 use Rattle.std.proofs.Common.{◌≡◌, ◌+◌, ◌^◌, ◌≤◌, Option, Some, None, List, [], ◌∷◌, length, sym, ◌∙◌, subst, arith, inl, inr}
 use Rattle.std.proofs.Math.Nat.{le_trans, le-max_left, le-max_right, pow-le-pow_right}
 use Rattle.ic_link_ops.specs.Prelude.{Place, Table}
@@ -12,8 +12,7 @@ use Rattle.ic_rbtree.specs.Members.{IsPathDown}
 use Rattle.ic_rbtree.proofs.Heights.{height_few}
 
 module _ {E : Type 0} (n : E → Node) where
-  -- THE SHAPE, its three facts by name: the root is black, no red member has a red child, and all paths down have equally many
-  -- black members
+  -- THE SHAPE of a tree, as three facts with names: the root is black, no red member has a red child, and all paths down have equally many black members
   pub record HasShape (t : Table E) (root : Option Place) (s : List Place) : Type 0 where
     pub tree : Tree
     pub held : Holds n t tree s
@@ -32,7 +31,7 @@ module _ {E : Type 0} (n : E → Node) where
     equally_many_black_members = h.shape.even;
   }
 
-  -- no path down is longer than the tree is high
+  -- the number of members on a path down is at most the height of the tree
   path_in_height : (t : Table E) (up o : Option Place) (tree : Tree) (path : List Place) → IsTree n t.entry up tree → o ≡ top tree → IsPathDown n t o path → length path ≤ height tree
   path_in_height t up o tree [] h is down = omega arith
   path_in_height t up o leaf (p ∷ path) h is down = absurd (none_not p (sym is ∙ down.0))
@@ -47,7 +46,7 @@ module _ {E : Type 0} (n : E → Node) where
             omega (arith, path_in_height t (Some q) (n (t.entry p)).right b path h.2 r right, le-max_right (height a) (height b))
       ]
 
-  -- PATHS ARE SHORT: one of v members from the root down, in a tree of m members, has 2 ^ v <= (m + 1) ^ 2
+  -- PATHS ARE SHORT: a path of v members from the root down, in a tree of m members, has 2 ^ v <= (m + 1) ^ 2
   pub paths_are_short : {t : Table E} {root : Option Place} {s : List Place} (path : List Place) → Represents n t root s → IsPathDown n t root path → 2 ^ length path ≤ (length s + 1) ^ 2
   paths_are_short {t} {root} {s} path h down =
       let low : 2 ^ height h.tree ≤ (length s + 1) ^ 2 = subst (λ (z : List Place). 2 ^ height h.tree ≤ (length z + 1) ^ 2) h.held.order (height_few h.tree h.shape) in

@@ -1,4 +1,4 @@
--- How many looks tell where an object goes.
+-- Lemmas about the number of comparisons that an insert makes to find where an object goes.
 use Rattle.std.proofs.Common.{◌≡◌, ℕ, ◌+◌, ◌*◌, ◌^◌, ◌≤◌, ◌<◌, Bool, true, false, suc, Option, Some, None, List, [], ◌∷◌, ◌++◌, length, refl, sym, ◌∙◌, subst, arith, ap, true≢false}
 use Rattle.std.proofs.Math.Nat.{pow-le-pow_left, pow-suc}
 use Rattle.std.proofs.Math.Pow.{pow_mono}
@@ -12,12 +12,12 @@ use Rattle.ic_rbtree.specs.Comparing.{HasRoom, WithinComparisonBound, Looks, com
 use Rattle.ic_rbtree.specs.Holes.{after_there, looks_there}
 use Rattle.ic_rbtree.specs.Kept.{Kept, alone, ended, last_kept, TellsEnds, HasRoomFor, InsertLooks}
 
--- there is a member, if there is a last one
+-- a sequence that has a last member has at least one member
 has_some : (s : List Place) {p : Place} → Some p ≡ last s → 1 ≤ length s
 has_some [] {p} e = absurd (none_not p (sym e))
 has_some (x ∷ s) e = omega arith
 
--- an object stands at the last member, if there is one
+-- if each member is placed, the last member, if there is one, has an object
 pub last_is_placed : {T : Type 0} (objects : Objects T) (s : List Place) → ArePlaced objects s → (o : Option Place) → o ≡ last s → IfSome o (λ p. is_placed objects p ≡ true)
 last_is_placed objects s placed None is = tt
 last_is_placed objects s placed (Some p) is = last_placed objects s placed is
@@ -26,12 +26,12 @@ pub end_placed : {T : Type 0} (objects : Objects T) (s : List Place) → ArePlac
 end_placed objects s placed None is = tt
 end_placed objects s placed (Some p) is = last_placed objects s placed (sym is)
 
--- and it is the last
+-- if an optional place is the last member whenever it is a place, and it is the place p, then it is the last member
 pub last_there : (s : List Place) (o : Option Place) {p : Place} → IfSome o (λ p. last s ≡ Some p) → o ≡ Some p → o ≡ last s
 last_there s None {p} tells is = absurd (none_not p is)
 last_there s (Some q) tells is = sym tells
 
--- a probe with room for a descent has it for a look
+-- a probe that can count the comparisons of a descent can count one comparison
 pub room_less : {count : ℕ} → HasRoom count → count < 18446744073709551615
 room_less room = omega (arith, room)
 
@@ -39,32 +39,32 @@ pub with_member : (front : List Place) (p : Place) (back : List Place) → 1 ≤
 with_member [] p back = omega arith
 with_member (x ∷ front) p back = omega arith
 
--- one look at most is made at a position
+-- at most one comparison is made with the member at a position
 pub one_look : (o : Option Place) → looks_there o ≤ 1
 one_look None = omega arith
 one_look (Some p) = omega arith
 
--- at a square of two or more
+-- if there is a member, the square of the number of members plus one is at least the square of two
 square : (s : List Place) → 1 ≤ length s → 2 ^ 2 ≤ (length s + 1) ^ 2
 square s some = let k : 2 ≤ length s + 1 = omega (arith, some) in pow-le-pow_left k 2
 
--- THE LOOK AT THE LAST MEMBER is few,
+-- THE COMPARISON WITH THE LAST MEMBER is within the bound of a descent
 pub few_last : (s : List Place) (o : Option Place) → o ≡ last s → WithinComparisonBound (looks_there o) s
 few_last s None is = subst (λ z. WithinComparisonBound 0 z) (sym (nothing_last s is)) (record { few = omega arith; some = λ k. omega (arith, k) })
 few_last s (Some p) is = record { few = omega (arith, square s (has_some s is)); some = λ k. omega arith }
 
--- and so are two at a hint,
+-- two comparisons at a hint are within the bound of an insert with a hint
 pub few_there : (s : List Place) (k : ℕ) → 1 ≤ length s → k ≤ 2 → 2 ^ k ≤ 2 * (length s + 1) ^ 2
 few_there s k some most = let a : 2 ^ k ≤ 2 ^ 2 = pow_mono most in let b = square s some in omega (arith, a, b)
 
--- with those of a descent after them
+-- two comparisons at a hint and those of a descent after them are together within the bound of an insert with a hint
 pub few_after : (s : List Place) (k looks : ℕ) → k ≤ 2 → 2 ^ (looks + 1) ≤ (length s + 1) ^ 2 → 2 ^ (k + looks) ≤ 2 * (length s + 1) ^ 2
 few_after s k looks most fewer =
     let a : 2 ^ (k + looks) ≤ 2 ^ suc (looks + 1) = pow_mono (omega (arith, most)) in
     let b : 2 ^ suc (looks + 1) ≡ 2 ^ (looks + 1) * 2 = pow-suc 2 (looks + 1) in
     omega (arith, a, b, fewer)
 
--- A MEMBER IS THERE, and what is searched is not less
+-- A MEMBER IS AT THE POSITION, and the searched key is not less than the member
 pub after_some : (at : Place → Ordering) (o : Option Place) → after_there at o ≡ true → (p : Place) × (o ≡ Some p) × (less_at at p ≡ false)
 after_some at None e = cc
 after_some at (Some p) e = (p, refl, not_true (less_at at p) e) where
@@ -72,25 +72,25 @@ after_some at (Some p) e = (p, refl, not_true (less_at at p) e) where
   not_true true e = cc
   not_true false e = refl
 
--- it is the last of a tree with these members, if it is kept
+-- if the tree stores its last member, this is the last of the members s
 pub kept_is_last : (k : Kept) (s : List Place) (o : Option Place) → o ≡ last_kept k → TellsEnds k s → IfSome o (λ p. last s ≡ Some p)
 kept_is_last k s None is ends = tt
 kept_is_last (alone root) s (Some p) is ends = absurd (none_not p (sym is))
 kept_is_last (ended h) s (Some p) is ends = sym ends.1 ∙ sym is
 
--- a probe with room for an insert has it for a descent after the look at an end that is kept
+-- a probe that can count the comparisons of an insert can still count those of a descent after the comparison with a stored last member
 pub room_below : (k : Kept) (o : Option Place) (count : ℕ) {now : ℕ} → o ≡ last_kept k → HasRoomFor k count → now ≡ count + looks_there o → HasRoom now
 room_below (alone root) None count kept room is = omega (arith, room, is)
 room_below (alone root) (Some p) count kept room is = absurd (none_not p (sym kept))
 room_below (ended e) None count kept room is = omega (arith, room, is)
 room_below (ended e) (Some p) count kept room is = omega (arith, room, is)
 
--- what is not after the last member makes no claim on the looks
+-- if the searched key does not belong after the last member, `EndLooks` does not require that there is only one comparison
 not_after : (at : Place → Ordering) (s : List Place) (o : Option Place) {looks : ℕ} → o ≡ last s → after_there at o ≡ false → after_there at (last s) ≡ true → looks ≡ 1
 not_after at s o is away there = absurd (true≢false (sym there ∙ (ap (after_there at) (sym is) ∙ away)))
 
 module _ {P V : Type 0} (order : P → V → Ordering) (count : P → ℕ) (objects : Objects V) where
-  -- THE LOOKS OF AN INSERT that ends after the last member,
+  -- THE COMPARISONS OF AN INSERT after the last member are as many as `InsertLooks` states
   pub looks_after : (k : Kept) (s : List Place) (o : Option Place) {old new : P} → o ≡ last_kept k → TellsEnds k s → after_there (compared (order old) objects) o ≡ true
       → count new ≡ count old + looks_there o → order new ≡ order old → InsertLooks order count k objects old new s
   looks_after (alone root) s None kept ends after counted same = cc
@@ -98,7 +98,7 @@ module _ {P V : Type 0} (order : P → V → Ordering) (count : P → ℕ) (obje
   looks_after (ended e) s None kept ends after counted same = cc
   looks_after (ended e) s (Some p) kept ends after counted same = record { looks = 1; counted = counted; few = few_last s (Some p) (kept ∙ ends.1); at_last = λ _. refl; order_is = same }
 
-  -- and of one that descends
+  -- the comparisons of an insert that makes a descent are as many as `InsertLooks` states
   pub looks_below : (k : Kept) (s : List Place) (o : Option Place) {old mid new : P} → o ≡ last_kept k → TellsEnds k s → after_there (compared (order old) objects) o ≡ false
       → count mid ≡ count old + looks_there o → order mid ≡ order old → Looks order count mid new s → InsertLooks order count k objects old new s
   looks_below (alone root) s None kept ends away counted same x =

@@ -1,4 +1,4 @@
--- No tree of places is as high as a repair has turns.
+-- The height of a tree of places is less than the number of turns that a repair may make.
 use Rattle.std.proofs.Common.{◌+◌, ◌<◌, ◌≤◌, Option, List, ◌∷◌, length, arith}
 use Rattle.ic_link_ops.specs.Prelude.{Place, Table}
 use Rattle.ic_link_ops.specs.Trees.{Tree, in_order}
@@ -23,7 +23,7 @@ module _ {E : Type 0} (n : E → Node) {base v : Table E} {root : Option Place} 
   pub frames_low : length fs < turns
   frames_low = omega (arith, represented_low, length_frames_height fs t)
 
--- and none has as many black members on a way down
+-- the number of black members on a path down a tree in the table is less than `turns`
 pub blacks_low : {E : Type 0} (n : E → Node) {base v : Table E} {up : Option Place} (t : Tree) {ps : List Piece} → Held n base v (below up t ∷ ps) → IsEven t → blacks t < turns
 blacks_low n t h even =
     let s : List Place = in_order t in

@@ -1,4 +1,4 @@
--- The members of a tree, as the entries lead through them, are the sequence that the table represents.
+-- The members that are reached along the entries of a tree are the sequence that the table represents for it.
 use Rattle.std.proofs.Common.{◌≡◌, ℕ, suc, zero, ◌+◌, ◌≤◌, Bool, true, Option, Some, None, List, [], ◌∷◌, ◌++◌, length, refl, sym, ap, ◌∙◌, subst, arith, length-append}
 use Rattle.ic_link_ops.specs.Prelude.{Place, first, Table, IsCovered, IsLinked}
 use Rattle.ic_link_ops.specs.Trees.{Tree, leaf, fork, top, in_order}
@@ -20,13 +20,13 @@ topmost_some (frame d c r b ∷ fs) q p = topmost_some fs r p
 length_fork : (a : Tree) (p : Place) (b : Tree) → length (in_order a) + length (in_order b) + 1 ≡ length (in_order a ++ p ∷ in_order b)
 length_fork a p b = omega (arith, length-append (in_order a) (p ∷ in_order b))
 
--- a table covers the places that its nodes say are linked
+-- a table covers each place that is linked according to the node of its entry
 pub nodes_covered : {L E : Type 0} {linked : E → Bool} (n : E → Node) (table : L → Table E) → ((t : L) (q : Place) → IsLinked linked (table t) q → IsCovered (table t) q)
     → ((e : E) → (n e).linked ≡ linked e) → (t : L) (q : Place) → (n ((table t).entry q)).linked ≡ true → IsCovered (table t) q
 nodes_covered n table covered alike t q h = covered t q (sym (alike _) ∙ h)
 
 module _ {E : Type 0} (n : E → Node) where
-  -- a held tree on its own
+  -- a tree in the table is a piece of the table, without frames above it and without other pieces
   pub stands_of : {v : Table E} {tree : Tree} {s : List Place} → Holds n v tree s → ClimbState n v v (top tree) [] tree []
   stands_of h = record {
     are = ((tt, refl), (h.entries, tt));
@@ -36,7 +36,7 @@ module _ {E : Type 0} (n : E → Node) where
     extent = refl;
   }
 
-  -- what is read below the root of a tree is that tree
+  -- the tree that is read from the entries below the root of a tree is the tree itself
   tree_read : (entry : Place → E) (up : Option Place) (t : Tree) (k : ℕ) → IsTree n entry up t → length (in_order t) ≤ k → tree_below n entry k (top t) ≡ t
   unfolding tree_below
   tree_read entry up leaf zero h fits = refl
@@ -55,7 +55,7 @@ module _ {E : Type 0} (n : E → Node) where
   top_none entry zero = refl
   top_none entry (suc k) = refl
 
-  -- from a member the parents lead to the root
+  -- the path along the parents leads from a member up to the root
   above_read : (entry : Place → E) (fs : List Frame) (o : Option Place) (p : Place) (k : ℕ) → IsAround n entry fs o → length fs ≤ k
       → some_or (Some p) (top_above n entry k (above fs)) ≡ topmost fs (Some p)
   unfolding top_above
@@ -73,7 +73,7 @@ module _ {E : Type 0} (n : E → Node) where
   top_read entry fs o p (suc k) up h fits =
       ap (λ (x : Option Place). some_or (Some p) (top_above n entry k x)) up ∙ above_read entry fs o p k h (omega arith)
 
-  -- the laws ask for a table in which only covered places are linked
+  -- the lemmas are about a table t in which only covered places are linked
   module _ (t : Table E) (law : (q : Place) → (n (t.entry q)).linked ≡ true → IsCovered t q) where
     pub members_held : {tree : Tree} {s : List Place} → Holds n t tree s → members n t (top tree) ≡ s
     members_held {tree} {s} h =
@@ -94,11 +94,11 @@ module _ {E : Type 0} (n : E → Node) where
         top_read t.entry f.0 (Some x) x t.extent.places st.are.1.0.0.parent st.are.0.0 fits ∙ sym st.are.0.1 in
         ap (members n t) root ∙ members_held h
 
-    -- and those around the first of two ends the sequence between them
+    -- the members of the tree in which the first of two ends is are the sequence that is represented between these ends
     pub members_between_ends : (front back : Option Place) (s : List Place) → RepresentsEnds n t front back s → members_around n t front ≡ s
     members_between_ends front back s h = ap (members_around n t) h.starts ∙ around_held h.tree s h.held
 
--- THE MEMBERS below the root of a tree are the sequence that is represented for it
+-- THE MEMBERS that are reached from the root of a tree are the sequence that the table represents for the tree
 pub members_represented : {E : Type 0} {n : E → Node} (t : Table E) → ((q : Place) → (n (t.entry q)).linked ≡ true → IsCovered t q)
     → (root : Option Place) (s : List Place) → Represents n t root s → members n t root ≡ s
 members_represented {n = n} t law root s h = ap (members n t) h.starts ∙ members_held n t law h.held

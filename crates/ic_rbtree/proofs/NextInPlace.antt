@@ -1,4 +1,4 @@
--- The next member comes in the place of one with two children, in a tree that may be one black short where the next one stood.
+-- The next member z takes the position of a member p with two children. The tree may be one black member short at the old position of z.
 use Rattle.std.proofs.Common.{◌≡◌, ℕ, ◌+◌, ◌≤◌, suc, Option, Some, List, [], ◌∷◌, ◌++◌, length, refl, sym, ap, ◌∙◌, subst, arith, append_assoc}
 use Rattle.std.proofs.lemmas.List.{append_cancel_right}
 use Rattle.ic_link_ops.specs.Prelude.{Place, last, Table}
@@ -19,8 +19,8 @@ use Rattle.ic_rbtree.specs.Removal.{IsOn, Short}
 use Rattle.ic_rbtree.specs.Transplants.{TakesPlace}
 use Rattle.ic_rbtree.proofs.Zipper.{go_up, go_down}
 
--- THE FRAMES of the next member: those below the right child of p, that of p, and those above
-pub record Way (gs : List Frame) (front : List Place) (p : Place) : Type 0 where
+-- THE FRAMES of the next member: the frames below the right child of p, then the frame of p, and then the frames above p
+pub record PathTo (gs : List Frame) (front : List Place) (p : Place) : Type 0 where
   pub low : List Frame
   pub c : Color
   pub a : Tree
@@ -28,7 +28,7 @@ pub record Way (gs : List Frame) (front : List Place) (p : Place) : Type 0 where
   pub is : gs ≡ low ++ frame Right c p a ∷ high
   pub start : (q : Place) → before (low ++ frame Right c q a ∷ high) ≡ front ++ q ∷ []
 
-pub way : (gs : List Frame) (front : List Place) (p : Place) → before gs ≡ front ++ p ∷ [] → Way gs front p
+pub way : (gs : List Frame) (front : List Place) (p : Place) → before gs ≡ front ++ p ∷ [] → PathTo gs front p
 way [] front p e = absurd (none_not p (ap last e ∙ last_of_push front p))
 way (frame Left c q b ∷ gs) front p e =
     let r = way gs front p e in
@@ -41,7 +41,7 @@ way (frame Right c q b ∷ gs) front p e =
     let is : all ≡ front = append_cancel_right all front (p ∷ []) (subst (λ (x : Place). all ++ x ∷ [] ≡ front ++ p ∷ []) same there) in
     record { low = []; c = c; a = b; high = gs; is = ap (λ (x : Place). frame Right c x b ∷ gs) same; start = λ x. glue x ∙ ap (λ (s : List Place). s ++ x ∷ []) is }
 
--- with another place in that one frame
+-- the frames in which the place z replaces p in one frame
 module _ (fs : List Frame) (c : Color) (p z : Place) (a : Tree) where
   abbrev old : List Frame → List Frame
   old hs = hs ++ frame Right c p a ∷ fs
@@ -95,9 +95,9 @@ module _ {E : Type 0} (n : E → Node) where
   go_back [] fs t h = h
   go_back (frame d c p b ∷ hs) fs t h = go_down n d c p b t (go_back hs fs (branch d c t p b) h)
 
-  -- THE SHORTAGE STAYS where it is, and is below z now if it was below p
+  -- THE SHORTAGE STAYS at its position. If its parent was p, its parent is z after z has taken the position of p
   pub short_placed : {base w u : Table E} {root new_root up up' : Option Place} {d : Side} {s : List Place} (gs : List Frame) (front : List Place) (p z : Place) (m : Tree) {ps : List Piece}
-      → (k : Way gs front p) → Short n w root up d (record { base = base; sequence = s; frames = gs; subtree = m; pieces = loose z ∷ ps }) → TakesPlace n w u root new_root p z
+      → (k : PathTo gs front p) → Short n w root up d (record { base = base; sequence = s; frames = gs; subtree = m; pieces = loose z ∷ ps }) → TakesPlace n w u root new_root p z
       → (up ≡ Some p → up' ≡ Some z) → ((up ≡ Some p → ⊥) → up' ≡ up)
       → Short n u new_root up' d (record { base = base; sequence = front ++ z ∷ (in_order m ++ after gs); frames = k.low ++ frame Right k.c z k.a ∷ k.high; subtree = m; pieces = loose p ∷ ps })
   short_placed {base} {w} {u} {root} {new_root} {up} {up'} {d} {s} gs front p z m {ps} k h swapped moved kept =

@@ -1,4 +1,4 @@
--- A descent to the outermost member below a place, and a climb to the nearest member above.
+-- Lemmas about a descent to the outermost member below a place, and about a climb to the nearest member above a place.
 use Rattle.std.proofs.Common.{◌≡◌, ◌≢◌, ◌-◌, ◌<◌, true, suc, Option, Some, None, List, [], ◌∷◌, length, refl, sym, ap, ◌∙◌, subst, arith}
 use Rattle.ic_link_ops.specs.Prelude.{Place, Table, IsCovered}
 use Rattle.ic_link_ops.specs.declared.color.Color.{Color}
@@ -20,7 +20,7 @@ use Rattle.ic_rbtree.proofs.ParentClimbs.{depth_top}
 use Rattle.ic_rbtree.proofs.Nearest.{nearest_branch, nearest_there, nearest_plain, beyond_same, nearest_frame, beyond_nothing, nearest_nothing}
 
 module _ {E : Type 0} (n : E → Node) where
-  -- a subtree opened at its root
+  -- THE SUBTREE t IS OPENED at its root p: it is a branch of p, as seen from side d, with a subtree on each side
   pub record Opened (base v : Table E) (root : Option Place) (d : Side) (p : Place) (fs : List Frame) (t : Tree) (ps : List Piece) : Type 0 where
     pub c : Color
     pub a : Tree
@@ -48,7 +48,7 @@ module _ {E : Type 0} (n : E → Node) where
         down = go_down n d (top_color t) p k.1 k.0 s;
       }
 
-  -- A DESCENT to a side, from the subtree t below the frames fs: it has come to p, the root of u below gs
+  -- A DESCENT to side d begins at the subtree t below the frames fs and has come to p. p is the root of the subtree u below the frames gs
   pub record Down (base v : Table E) (root : Option Place) (d : Side) (p : Place) (fs : List Frame) (t : Tree) (ps : List Piece) (gs : List Frame) (u : Tree) : Type 0 where
     pub stands : ClimbState n base v root gs u ps
     pub top_is : top u ≡ Some p
@@ -95,7 +95,7 @@ module _ {E : Type 0} (n : E → Node) where
       → Down base v root d p fs t ps fs t
   down_starts fs t h e = record { stands = h; top_is = e; same = refl; beside = refl; nearest_is = refl }
 
-  -- each step goes further from the root
+  -- each step of a descent goes to a member with a greater distance from the root
   pub down_falls : {v : Table E} (law : (x : Place) → (n (v.entry x)).linked ≡ true → IsCovered v x) {base : Table E} {root : Option Place} (d : Side) {p q : Place}
       (gs : List Frame) (u : Tree) {ps : List Piece} → ClimbState n base v root gs u ps → top u ≡ Some p → child_on d (n (v.entry p)) ≡ Some q
       → v.extent.places - depth n v (Some q) < v.extent.places - depth n v (Some p)
@@ -105,7 +105,7 @@ module _ {E : Type 0} (n : E → Node) where
       let new = depth_top n law root k.0 k.1 ps q k.2.stands k.2.top_is in
       omega (arith, old.0, old.1, new.0, new.1, k.3)
 
-  -- A CLIMB to a side, from the subtree t below the frames fs: it has come to p, the root of u below gs
+  -- A CLIMB to side d begins at the subtree below the frames fs and has come to p. p is the root of the subtree u below the frames gs
   pub record Up (base v : Table E) (root : Option Place) (d : Side) (p : Place) (fs : List Frame) (ps : List Piece) (gs : List Frame) (u : Tree) : Type 0 where
     pub stands : ClimbState n base v root gs u ps
     pub top_is : top u ≡ Some p
@@ -115,7 +115,7 @@ module _ {E : Type 0} (n : E → Node) where
       → Up base v root d p fs ps fs t
   up_starts fs t h e = record { stands = h; top_is = e; nearest_is = refl }
 
-  -- the frame above
+  -- the frame right above the subtree u with the root p is that of its parent q
   pub record Framed (base v : Table E) (root : Option Place) (p q : Place) (gs : List Frame) (u : Tree) (ps : List Piece) : Type 0 where
     pub k : Side
     pub c : Color
@@ -149,7 +149,7 @@ module _ {E : Type 0} (n : E → Node) where
 
   module _ {base v : Table E} {root : Option Place} {d : Side} {p q : Place} (fs gs : List Frame) (u : Tree) {ps : List Piece} (h : Up base v root d p fs ps gs u)
       (up : (n (v.entry p)).parent ≡ Some q) where
-    -- the member above is beside the place if that is not its child there,
+    -- if p is not the child of q on side d, the member q above p is on side d the nearest member to the place where the climb began
     pub up_ends : child_on d (n (v.entry q)) ≢ Some p → Some q ≡ nearest d (beyond d fs)
     up_ends other =
         let f = framed gs u h.stands h.top_is up in
@@ -162,7 +162,7 @@ module _ {E : Type 0} (n : E → Node) where
         by Right Left c b rest is near other same = sym (nearest_frame Right c q b rest) ∙ ap (λ (x : List Frame). nearest Right (beyond Right x)) (sym is) ∙ same
         by Right Right c b rest is near other same = absurd (other near)
 
-    -- and else the climb goes on there
+    -- if p is the child of q on side d, the climb goes on at q
     pub step_up : child_on d (n (v.entry q)) ≡ Some p → (gs' : List Frame) × (u' : Tree) × Up base v root d q fs ps gs' u' × (suc (length gs') ≡ length gs)
     step_up there =
         let f = framed gs u h.stands h.top_is up in (
@@ -183,7 +183,7 @@ module _ {E : Type 0} (n : E → Node) where
         by Right Left c b rest is far there = absurd (far there)
         by Right Right c b rest is far there = ap (λ (x : List Frame). nearest Right (beyond Right x)) (sym is)
 
-  -- each step comes nearer to the root
+  -- each step of a climb goes to a member with a smaller distance from the root
   pub up_falls : {v : Table E} (law : (x : Place) → (n (v.entry x)).linked ≡ true → IsCovered v x) {base : Table E} {root : Option Place} {p q : Place} (gs : List Frame) (u : Tree) {ps : List Piece}
       → ClimbState n base v root gs u ps → top u ≡ Some p → (n (v.entry p)).parent ≡ Some q → depth n v (Some q) < depth n v (Some p)
   up_falls {v} law {base} {root} {p} {q} gs u {ps} s e up =
@@ -192,7 +192,7 @@ module _ {E : Type 0} (n : E → Node) where
       let new = depth_top n law root f.rest (branch f.k f.c u q f.b) ps q f.stands (top_branch f.k f.c u q f.b) in
       omega (arith, old.0, new.0, ap length f.is)
 
-  -- there is nothing above the root
+  -- if the climb has come to a member without a parent, no member is beyond on side d
   pub no_more_up : {base v : Table E} {root : Option Place} {d : Side} {p : Place} (fs gs : List Frame) (u : Tree) {ps : List Piece} → Up base v root d p fs ps gs u
       → (n (v.entry p)).parent ≡ None → None ≡ nearest d (beyond d fs)
   no_more_up {base} {v} {root} {d} {p} fs gs u h none = by d gs (sym (top_parent n v.entry (above gs) u p h.stands.are.1.0 h.top_is) ∙ none) h.nearest_is where

@@ -1,4 +1,4 @@
--- Two trees and a place between them.
+-- Lemmas about two trees that are joined with a place between them.
 use Rattle.std.specs.Int.{from_bool}
 use Rattle.std.proofs.Common.{◌≡◌, Bool, true, false, cond, ◌+◌, ◌≤◌, ◌<◌, Option, Some, None, List, [], ◌∷◌, ◌++◌, refl, sym, ap, ◌∙◌, subst, arith, append-nil, append_assoc, drop}
 use Rattle.ic_link_ops.specs.Prelude.{Place, Cut, join, insert, at_front, Table, ChangesOnly, IsLinked, IsUnlinked}
@@ -24,7 +24,8 @@ use Rattle.ic_link_ops.proofs.Trees.{leaf_is}
 use Rattle.ic_rbtree.proofs.Low.{represented_low, blacks_low}
 use Rattle.ic_rbtree.proofs.Pieces.{regroup}
 
--- the sequence of the taller tree, and then the place and the other
+-- if `two` is put beside a subtree at the end of the taller tree on side d, the joined tree has three parts in order. For the right side they are the
+-- members of the taller tree, p, and the members of `two`. For the left side the order is mirrored
 pub order_joined : (d : Side) (gs : List Frame) (u one two : Tree) (p : Place) → beyond d gs ≡ [] → plug gs u ≡ one → in_order (plug gs (branch d Red two p u)) ≡ in_order (branch d Red two p one)
 order_joined Right gs u one two p nothing same =
     in_order_parts gs (branch Right Red two p u)
@@ -38,7 +39,7 @@ order_joined Left gs u one two p nothing same =
     ∙ append_assoc (in_order two) (p ∷ in_order u) (after gs)
     ∙ ap (λ (s : List Place). in_order two ++ p ∷ s) (ap (λ (s : List Place). s ++ (in_order u ++ after gs)) (sym nothing) ∙ sym (in_order_parts gs u) ∙ ap in_order same)
 
--- a number of a bool
+-- the number of a `bool` is 1 for true and 0 for false
 pub one_more : (b : Bool) → from_bool b ≡ cond b 1 0
 one_more true = refl
 one_more false = refl
@@ -47,7 +48,7 @@ pub one_at_most : (b : Bool) → cond b 1 0 ≤ 1
 one_at_most true = omega arith
 one_at_most false = omega arith
 
--- the same pair, the other one first
+-- the pair of trees with the two trees exchanged
 abbrev pub swapped : {E : Type 0} → Pair E → Pair E
 swapped k = record { base = k.base; one = k.two; two = k.one; pieces = k.pieces }
 
@@ -77,13 +78,13 @@ module _ {E : Type 0} (n : E → Node) {v : Table E} {one : Measured} {p : Place
   pub measured_swapped : AreMeasured n v one p two k → AreMeasured n v two p one (swapped k)
   measured_swapped x = record { pair = pair_swapped n x.pair; one_height = x.two_height; two_height = x.one_height }
 
-  -- a height has room for one more
+  -- the black height of a tree of the pair is less than `turns`, so it can grow by one
   pub height_low : AreMeasured n v one p two k → one.height < turns
   height_low x =
       let h = regroup n (below None k.one ∷ loose p ∷ below None k.two ∷ k.pieces) x.pair.held (λ q. omega arith) (x.pair.held.are.1.0, (x.pair.held.are.0, x.pair.held.are.1.1)) in
       omega (arith, blacks_low n k.one h x.pair.one_right.even, x.one_height)
 
-  -- where the other tree comes in
+  -- the lower tree `two` is put beside the subtree u of the taller tree `one`, which has the black height of `two`
   pub pair_graft : {root near parent : Option Place} {d : Side} (x : AreHigh n v one p two k) (gs : List Frame) (u : Tree) → root ≡ one.root
       → IsSpine n k.base v one.root d k.one (loose p ∷ below None k.two ∷ k.pieces) near parent two.height gs u → top_color u ≡ Black
       → IsGraft n v root parent d near p two.root (record { base = k.base; frames = gs; near = u; far = k.two; pieces = k.pieces })
@@ -101,12 +102,12 @@ module _ {E : Type 0} (n : E → Node) {v : Table E} {one : Measured} {p : Place
   }
 
 module _ {E : Type 0} (n : E → Node) where
-  -- the same tree, by another name for its root and its sequence
+  -- a represented tree is still represented if its root and its sequence are written differently
   abbrev pub represented_as : {base w : Table E} {root new_root : Option Place} {s t : List Place} {ps : List Piece} → new_root ≡ root → s ≡ t → Represented n base w root s ps → Represented n base w new_root t ps
   represented_as {base} {w} {ps = ps} e f h = record { tree = h.tree; stands = subst (λ (o : Option Place). ClimbState n base w o [] h.tree ps) (sym e) h.stands; order = h.order ∙ f; shape = h.shape }
 
 module _ {E : Type 0} (n : E → Node) {v : Table E} {left : Option Place} {p : Place} {right : Option Place} {gap : Cut} where
-  -- FROM THE SEQUENCES into the pieces,
+  -- FROM TWO REPRESENTED SEQUENCES to pieces of the table: the two trees and the place p between them
   module _ (x : CanJoin n v left p right gap) where
     abbrev pub joinable : Pair E
     joinable = record { base = v; one = x.front.tree; two = x.back.tree; pieces = [] }
@@ -132,14 +133,14 @@ module _ {E : Type 0} (n : E → Node) {v : Table E} {left : Option Place} {p : 
       two_right = x.back.shape;
     }
 
-    -- and out of them
+    -- the joined tree has the sequence of both trees, with p between them
     pub joined : {w : Table E} {root : Option Place} → Represented n v w root (in_order x.front.tree ++ p ∷ in_order x.back.tree) [] → Represented n v w root (insert gap p) []
     joined {w} {root} h =
         let same : in_order x.front.tree ++ p ∷ in_order x.back.tree ≡ insert gap p =
         ap (λ (z : List Place). z ++ p ∷ in_order x.back.tree) x.front.held.order ∙ ap (λ (z : List Place). gap.front ++ p ∷ z) x.back.held.order in
         subst (λ z. Represented n v w root z []) same h
 
-  -- A PLACE THAT HAS JUST BEEN LINKED can stand between them
+  -- A PLACE THAT HAS JUST BEEN LINKED can be put between two trees that share no member
   pub can_join : {old : Table E} (linked : E → Bool) → ((e : E) → (n e).linked ≡ linked e) → IsUnlinked linked old p → IsLinked linked v p → ChangesOnly old v p
       → RepresentsParts (Represents n) old left right gap → CanJoin n v left p right gap
   can_join {old} linked alike was is only h =
@@ -154,7 +155,7 @@ module _ {E : Type 0} (n : E → Node) {v : Table E} {left : Option Place} {p : 
       }
 
 module _ {E : Type 0} (n : E → Node) {v : Table E} {left right : Option Place} {gap : Cut} (x : RepresentsParts (Represents n) v left right gap) where
-  -- the second tree beside the first,
+  -- the table has the second tree, and beside it the first tree as a piece
   pub beside_represented : Represented n v v right gap.back (below None x.front.tree ∷ [])
   beside_represented = record {
     tree = x.back.tree;
@@ -174,7 +175,7 @@ module _ {E : Type 0} (n : E → Node) {v : Table E} {left right : Option Place}
         let b : times q x.back.tree ≡ times_in q gap.back = sym (times_order q x.back.tree) ∙ ap (λ z. times_in q z) x.back.held.order in
         omega (arith, a, b, distinct_times (join gap) x.distinct q, times_append q gap.front gap.back)
 
-  -- with its first member
+  -- the first member p of the second tree is the member that a step from null to the right leads to
   pub first_there : {o : Option Place} {p : Place} → ((g : Cut) → Represents n v right (join g) → IsBeside Right g None → IsBeside Left g o) → o ≡ Some p → gap.back ≡ p ∷ drop 1 gap.back
   first_there {o} {p} leads is = first_is gap.back (sym is ∙ leads (at_front gap.back) x.back refl)
 
@@ -184,7 +185,7 @@ module _ {E : Type 0} (n : E → Node) {v : Table E} {left right : Option Place}
   pub first_represented : {p : Place} → gap.back ≡ p ∷ drop 1 gap.back → Represented n v v right (p ∷ drop 1 gap.back) (below None x.front.tree ∷ [])
   first_represented {p} is = subst (λ z. Represented n v v right z (below None x.front.tree ∷ [])) is beside_represented
 
-  -- WITHOUT THAT, a pair
+  -- WITHOUT THE FIRST MEMBER p, the second tree makes a pair with the first tree, and p can be put between them
   module _ {w : Table E} {new_right : Option Place} {p : Place} (h : Represented n v w new_right (drop 1 gap.back) (loose p ∷ below None x.front.tree ∷ [])) where
     abbrev pub rest_joinable : Pair E
     rest_joinable = record { base = v; one = x.front.tree; two = h.tree; pieces = [] }
@@ -198,7 +199,7 @@ module _ {E : Type 0} (n : E → Node) {v : Table E} {left right : Option Place}
       two_right = h.shape;
     }
 
-    -- and all together
+    -- the joined tree has all members of the first tree, then p, and then the rest of the second tree
     pub appends : {u : Table E} {root : Option Place} → gap.back ≡ p ∷ drop 1 gap.back → Represented n v u root (in_order x.front.tree ++ p ∷ in_order h.tree) [] → Appends (Represents n) v u root gap
     appends {u} {root} is k =
         let same : in_order x.front.tree ++ p ∷ in_order h.tree ≡ join gap =
@@ -216,7 +217,7 @@ module _ {E : Type 0} (n : E → Node) {v : Table E} {left right : Option Place}
   pub no_root_there : gap.back ≡ [] → right ≡ None
   no_root_there none = x.back.starts ∙ ap top (leaf_is x.back.tree (x.back.held.order ∙ none))
 
-  -- nothing is appended
+  -- if the second tree has no members, nothing is appended, and the first tree is the result
   pub appends_none : gap.back ≡ [] → Appends (Represents n) v v left gap
   appends_none none =
       let same : gap.front ≡ join gap = sym (append-nil gap.front) ∙ ap (λ (z : List Place). gap.front ++ z) (sym none) in

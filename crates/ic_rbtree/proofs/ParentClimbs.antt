@@ -1,4 +1,4 @@
--- A climb by parents, and the steps of the repair after a removal, which climbs.
+-- Lemmas about a climb along the parents, and about the steps of the repair after a removal, which makes this climb.
 use Rattle.std.proofs.Common.{◌≡◌, ℕ, suc, zero, ◌+◌, ◌-◌, ◌≤◌, Bool, true, false, Option, Some, None, List, [], ◌∷◌, length, refl, sym, ap, ◌∙◌, subst, arith, length-append}
 use Rattle.ic_link_ops.specs.Prelude.{Place, Table, IsCovered}
 use Rattle.ic_link_ops.specs.declared.color.Color.{Color}
@@ -25,7 +25,7 @@ length_branch : (d : Side) (c : Color) (a : Tree) (p : Place) (b : Tree) → len
 length_branch Left c a p b = omega (arith, length-append (in_order a) (p ∷ in_order b))
 length_branch Right c a p b = omega (arith, length-append (in_order b) (p ∷ in_order a))
 
--- no way down is longer than the sequence
+-- the number of frames above a subtree and the number of its members are together at most the number of all members
 pub length_frames : (fs : List Frame) (t : Tree) → length fs + length (in_order t) ≤ length (in_order (plug fs t))
 length_frames [] t = omega arith
 length_frames (frame d c p b ∷ fs) t = omega (arith, length_frames fs (branch d c t p b), length_branch d c t p b)
@@ -57,7 +57,7 @@ module _ {E : Type 0} (n : E → Node) where
   top_length leaf p e = absurd (none_not p e)
   top_length (fork c a q b) p e = omega (arith, length-append (in_order a) (q ∷ in_order b))
 
-  -- and of a descent, one more
+  -- the depth of a member p is one more than the number of frames above p, and is at most the number of places
   pub depth_top : {base v : Table E} (law : (q : Place) → (n (v.entry q)).linked ≡ true → IsCovered v q) (root : Option Place) (fs : List Frame) (t : Tree) (ps : List Piece) (p : Place)
       → ClimbState n base v root fs t ps → top t ≡ Some p → (depth n v (Some p) ≡ suc (length fs)) × (suc (length fs) ≤ v.extent.places)
   depth_top {base} {v} law root fs t ps p h e =
@@ -67,7 +67,7 @@ module _ {E : Type 0} (n : E → Node) where
       let rest : steps_up (v.extent.places - 1) (λ q. (n (v.entry q)).parent) (above fs) ≡ length fs = above_steps v fs (top t) (v.extent.places - 1) h.are.0.0 (omega arith) in
       (some_steps v v.extent.places p (omega arith) ∙ ap suc (ap (λ (x : Option Place). steps_up (v.extent.places - 1) (λ q. (n (v.entry q)).parent) x) up ∙ rest), fits)
 
-  -- the side that a table tells is the frame's
+  -- the side of its parent p on which the table has the member q is the side of the lowest frame
   pub side_found : (v : Table E) (base : Table E) (root : Option Place) (k : Side) (c : Color) (p : Place) (b : Tree) (fs : List Frame) (t : Tree) (ps : List Piece) (q : Place) (d : Side)
       → ClimbState n base v root (frame k c p b ∷ fs) t ps → top t ≡ Some q → IsSideOf n v q p d → d ≡ k
   side_found v base root Left c p b fs t ps q Left h e is = refl
@@ -78,7 +78,7 @@ module _ {E : Type 0} (n : E → Node) where
       absurd (omega (arith, h.once q, times_top q b m, times_top q t e))
 
   module _ {v : Table E} {root : Option Place} where
-    -- below a member
+    -- THE LOOP'S INVARIANT below a member q: if `parent` is q, the lowest frame is a frame of q
     pub short_at : {d : Side} {parent : Option Place} (q : Place) (k : Focus E) → parent ≡ Some q → Short n v root parent d k
         → (c : Color) × (sibling : Tree) × (gs : List Frame) × ShortAt n v root q d c sibling (record k { frames = gs }) × (length k.frames ≡ suc (length gs))
     short_at {d} {parent} q k e h = at k.frames h where
@@ -95,14 +95,14 @@ module _ {E : Type 0} (n : E → Node) where
             refl,
           )
 
-    -- the root is reached
+    -- if the shortage has reached the root, so that there is no parent, the tree is right
     pub short_ended : {d : Side} {parent : Option Place} (k : Focus E) → parent ≡ None → Short n v root parent d k → IsRestored n v root k
     short_ended {d} {parent} k e h = at k.frames h where
       at : (fs : List Frame) → Short n v root parent d (record k { frames = fs }) → IsRestored n v root k
       at [] h = record { tree = k.subtree; stands = h.stands; order = h.order; shape = short_root k.subtree h.short }
       at (frame i c p b ∷ fs) h = absurd (none_not p (sym e ∙ h.parent_is))
 
-    -- one member up
+    -- the loop goes one member up: the subtree with the root q is short, and the parent o of q is the member of the lowest frame
     module _ {q : Place} {k : Focus E} (h : Rises n v root q k) (o : Option Place) (eo : o ≡ (n (v.entry q)).parent) where
       pub rises_parent : o ≡ above k.frames
       rises_parent = eo ∙ top_parent n v.entry (above k.frames) k.subtree q h.stands.are.1.0 h.top_is
@@ -119,7 +119,7 @@ module _ {E : Type 0} (n : E → Node) where
         on [] tell st = tt
         on (frame i c p b ∷ gs) tell st = side_found v k.base root i c p b gs k.subtree k.pieces q d st h.top_is (tell p refl)
 
-  -- ONE TURN OF THE LOOP: the shortage at q has risen, and the loop stands at its parent
+  -- ONE TURN OF THE LOOP: the subtree at q is short after the step, and the loop goes on at the parent of q
   module _ {v w : Table E} {root new_root : Option Place} {d : Side} {parent : Option Place} (q : Place) (is : parent ≡ Some q) (done : Bool) (step : FixesDeletionStep n v w root new_root q d done) (no : done ≡ false) where
     rise : (k : Focus E) → Short n v root parent d k
         → (gs : List Frame) × (u : Tree) × Rises n w new_root q (record k { frames = gs; subtree = u }) × (length k.frames ≡ suc (length gs))

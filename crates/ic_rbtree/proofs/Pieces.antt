@@ -1,4 +1,4 @@
--- A table in pieces: regrouped, and one entry of it written.
+-- A table that consists of pieces is divided into other pieces, or one of its entries is written.
 use Rattle.std.proofs.Common.{◌≡◌, ◌≢◌, true, Option, List, [], ◌∷◌, refl, sym, ap, ◌∙◌, subst, arith, inl, inr}
 use Rattle.ic_link_ops.specs.Prelude.{Place, Table, ChangesOnly}
 use Rattle.ic_unsafe_ref.proofs.PlaceLemmas.{same_or_not}
@@ -14,7 +14,7 @@ use Rattle.ic_rbtree.specs.Pieces.{Piece, cell, loose, below, around, times_piec
 use Rattle.ic_rbtree.proofs.Branches.{side_across, side_of_across, side_parent, side_color, side_upper, side_linked}
 
 module _ {E : Type 0} (n : E → Node) where
-  -- pieces stay where a place alone changes that does not stand there
+  -- a piece stays as it is if only the entry of a place is changed that is not in the piece
   piece_apart : (old new : Place → E) (p : Place) (x : Piece) → times_piece p x ≡ 0 → ((q : Place) → q ≢ p → new q ≡ old q)
       → IsPiece n old x → IsPiece n new x
   piece_apart old new p (cell d q c near far up) none same h =
@@ -30,7 +30,7 @@ module _ {E : Type 0} (n : E → Node) where
       (piece_apart old new p x (omega arith) same h.0, pieces_apart old new p ps (omega arith) same h.1)
 
   module _ {base v : Table E} where
-    -- the same places, in other pieces
+    -- a table that consists of pieces also consists of other pieces, if both have the same places, each as often
     pub regroup : {ps : List Piece} (ps' : List Piece) → Held n base v ps → ((q : Place) → times_all q ps' ≡ times_all q ps)
         → ArePieces n v.entry ps' → Held n base v ps'
     regroup {ps} ps' h count are = record {
@@ -42,7 +42,7 @@ module _ {E : Type 0} (n : E → Node) where
     }
 
     module _ {w : Table E} where
-      -- ONE PLACE IS WRITTEN, which stays linked
+      -- ONE PLACE p IS WRITTEN and stays linked: the piece x, which is p alone, becomes the piece y
       pub written : (p : Place) (x y : Piece) (ps : List Piece) → ((q : Place) → times_piece q x ≡ one_at q p) → ((q : Place) → times_piece q y ≡ one_at q p)
           → Held n base v (x ∷ ps) → ChangesOnly v w p → (n (v.entry p)).linked ≡ true → (n (w.entry p)).linked ≡ true → IsPiece n w.entry y → Held n base w (y ∷ ps)
       written p x y ps ex ey h only was is at =
@@ -64,7 +64,7 @@ module _ {E : Type 0} (n : E → Node) where
             | inr k ↦ ap (λ (x : E). (n x).linked) (only.others q k) ∙ h.linked q
           ]
 
-      -- A PLACE ON ITS OWN becomes the root of two subtrees
+      -- A PLACE THAT IS A PIECE OF ITS OWN gets two children, a parent and a color, and is then the root of two subtrees
       pub node_set : {p : Place} {a b up : Option Place} {c : Color} {ps : List Piece} → n (w.entry p) ≡ record (n (v.entry p)) { left = a; right = b; parent = up; color = c }
           → ChangesOnly v w p → Held n base v (loose p ∷ ps) → Held n base w (cell Left p c a b up ∷ ps)
       node_set {p} {a} {b} {up} {c} {ps} set only h =
@@ -84,7 +84,7 @@ module _ {E : Type 0} (n : E → Node) where
             written p (cell d p c near far up) (cell d p c' near' far' up') ps (λ q. refl) (λ q. refl) h only
             (side_linked n v.entry d p c near far up h.are.0) (side_linked n w.entry d p c' near' far' up' at) at
 
-        -- THE SETTERS, at a cell; what they are given comes with equations
+        -- THE FUNCTIONS THAT WRITE one part of an entry are applied to the piece of a single member. Equations state which arguments they have
         pub set_near : (q : Place) (k : Side) (y x : Option Place) → q ≡ p → k ≡ d → y ≡ x
             → n (w.entry q) ≡ with_child k (n (v.entry q)) y → ChangesOnly v w q → Held n base w (cell d p c x far up ∷ ps)
         set_near q k y x eq ek ey set only =

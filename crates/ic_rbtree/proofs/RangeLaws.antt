@@ -1,4 +1,4 @@
--- For callers: in a sorted sequence a range is the filter by both bounds.
+-- Laws for callers: in a sorted sequence, a range is what a filter by both bounds keeps.
 use Rattle.std.proofs.Common.{◌≡◌, ◌⊎◌, Bool, true, false, ◌&&◌, Option, Some, None, IsSome, List, [], ◌∷◌, ◌++◌, map, refl, sym, ap, ◌∙◌, subst, append-nil, inl, inr, true≢false}
 use Rattle.std.proofs.lemmas.Bool.{not-true, not-false}
 use Rattle.std.specs.Cmp.{IsTotalOrder, tied_itself}
@@ -19,7 +19,7 @@ use Rattle.ic_rbtree.proofs.KeyLaws.{keys_more, value_there, none_less, sorted_t
 use Rattle.ic_rbtree.proofs.Ranges.{Rises, ends}
 use Rattle.ic_rbtree.proofs.Walking.{between_ends}
 
--- of two cuts of one sequence, one is before the other, or it is the same
+-- if a sequence is cut at two gaps, one gap is before the other, or both are equal
 prefixes : (f b g c : List Place) → f ++ b ≡ g ++ c
     → ((x : Place) × (u : List Place) × (g ≡ f ++ x ∷ u) × (b ≡ x ∷ u ++ c)) ⊎ ((v : List Place) × (f ≡ g ++ v) × (c ≡ v ++ b))
 prefixes [] b [] c e = inr ([], refl, sym e)
@@ -32,7 +32,7 @@ prefixes (a ∷ f) b (p ∷ g) c e =
       | inr r ↦ inr (r.0, ap (λ z. a ∷ z) r.1 ∙ ap (λ z. z ∷ g ++ r.0) k.0, r.2)
     ]
 
--- two tests at once
+-- members that fail the first test fail both tests at once
 fails_left : (f g : Place → Bool) (s : List Place) → AllByRecursion (λ p. f p ≡ false) s → AllByRecursion (λ p. (f p && g p) ≡ false) s
 fails_left f g s h = all_map (λ p e. ap (λ x. x && g p) e) s h
 
@@ -47,11 +47,11 @@ passes_both : (f g : Place → Bool) (s : List Place) → AllByRecursion (λ p. 
 passes_both f g [] hf hg = tt
 passes_both f g (p ∷ s) hf hg = (ap (λ x. x && g p) hf.0 ∙ hg.0, passes_both f g s hf.1 hg.1)
 
--- w in the middle alone passes
+-- if only the members of w, in the middle of a sequence, pass the test, the filter keeps exactly w
 filter_middle : (test : Place → Bool) (a w b : List Place) → AllByRecursion (λ p. test p ≡ false) a → AllByRecursion (λ p. test p ≡ true) w → AllByRecursion (λ p. test p ≡ false) b → filter test (a ++ (w ++ b)) ≡ w
 filter_middle test a w b ha hw hb = filter_fail test a (w ++ b) ha ∙ filter_front test w b hw hb
 
--- w is the only segment from its first to its last
+-- in a sequence of distinct places, w is the only segment from its first member to its last
 one_segment : {s : List Place} {low high : Option Place} (a w b v : List Place) → IsDistinct s → a ++ (w ++ b) ≡ s → low ≡ first w → high ≡ last w → IsSegment s low high v → v ≡ w
 one_segment {s} {low} {high} a w b v distinct same starts ends x =
     sym (found x.front v x.back x.same x.starts x.ends) ∙ found a w b same starts ends where
@@ -60,7 +60,7 @@ one_segment {s} {low} {high} a w b v distinct same starts ends x =
           ap (between low high) (sym same) ∙ ap (λ o. between o high (a ++ (w ++ b))) starts ∙ ap (λ o. between (first w) o (a ++ (w ++ b))) ends ∙ between_ends a w b (subst IsDistinct (sym same) distinct)
 
 module _ {A V K : Type 0} {cmp : K → K → Ordering} (total : IsTotalOrder cmp) (key_of : A → V → K) (adapter : A) (objects : Objects V) where
-  -- the ends of a range that runs up are not on two sides of its lower bound
+  -- if the key at `low` is at most the key at `high`, the place `low` cannot pass the test of the lower bound while `high` fails it
   not_down : {test : Place → Bool} {low high : Option Place} → Rises total key_of adapter objects test → ((q : Place) → low ≡ Some q → test q ≡ true) → ((q : Place) → high ≡ Some q → test q ≡ false)
       → (x : Bool) → runs_up cmp (key_of adapter) objects low high ≡ x → runs_up cmp (key_of adapter) objects low high ≡ false
   not_down rises passes fails false is = is
@@ -73,7 +73,7 @@ module _ {A V K : Type 0} {cmp : K → K → Ordering} (total : IsTotalOrder cmp
   turn_ge Equal e = refl
   turn_ge Greater e = absurd (true≢false e)
 
-  -- in a sorted sequence a member and a later one run up
+  -- in a sorted sequence, the key of a later member is not less than the key of a member before it
   climbs : (a : List Place) (x : Place) (u t : List Place) → ArePlaced objects (a ++ (x ∷ u ++ t)) → IsSorted cmp (map (key_of adapter) (values_at objects (a ++ (x ∷ u ++ t))))
       → runs_up cmp (key_of adapter) objects (Some x) (last (x ∷ u)) ≡ true
   climbs (p ∷ a) x u t placed sorted =
@@ -99,7 +99,7 @@ module _ {A V K : Type 0} {cmp : K → K → Ordering} (total : IsTotalOrder cmp
       zipped P Q [] hp hq = tt
       zipped P Q (p ∷ s) hp hq = ((hp.0, hq.0), zipped P Q s hp.1 hq.1)
 
-  -- A RANGE IS THE FILTER by both bounds
+  -- A RANGE IS A FILTER: it consists of the members of s that meet both bounds
   pub range_is : {b c : Bound (Place → Ordering)} {s w : List Place} → Rises total key_of adapter objects (meets_lower b) → Cuts (meets_lower b) s → Cuts (is_beyond c) s → IsDistinct s → ArePlaced objects s
       → IsSorted cmp (map (key_of adapter) (values_at objects s)) → IsRange b c (runs_up cmp (key_of adapter) objects) s w → w ≡ filter (λ p. meets_lower b p && meets_upper c p) s
   range_is {b} {c} {s} {w} rises k l distinct placed sorted x = by (prefixes k.front k.back l.front l.back (k.same ∙ sym l.same)) where

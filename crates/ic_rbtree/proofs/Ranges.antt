@@ -1,4 +1,4 @@
--- TWO DESCENTS in one tree, and the members between the gaps where they end.
+-- Lemmas about two descents in one tree, and about the members between the two gaps where they end.
 use Rattle.std.proofs.Common.{◌≡◌, ◌⊎◌, Bool, true, false, cond, Option, Some, None, List, [], ◌∷◌, ◌++◌, refl, sym, ap, ◌∙◌, subst, append_assoc, append-nil, inl, inr, true≢false}
 use Rattle.std.specs.Cmp.{IsTotalOrder, alike_right}
 use Rattle.std.specs.Option.{option_map}
@@ -23,7 +23,7 @@ use Rattle.ic_rbtree.proofs.Walking.{walk_members}
 use Rattle.ic_rbtree.proofs.Gaps.{gap_join, gap_border}
 use Rattle.ic_rbtree.proofs.Sending.{not_ge, not_gt, placed_there}
 
--- a member beside a gap is placed
+-- if all members are placed, the member right after a gap is placed
 pub back_placed : {V : Type 0} (objects : Objects V) (gap : Cut) → ArePlaced objects (join gap) → (p : Option Place) → p ≡ first gap.back → IfSome p (λ q. is_placed objects q ≡ true)
 back_placed objects gap placed None e = tt
 back_placed objects gap placed (Some q) e =
@@ -35,13 +35,13 @@ front_placed objects gap placed (Some q) e =
     placed_there objects (but_last gap.front) q gap.back
     (subst (ArePlaced objects) (ap (λ s. s ++ gap.back) (split_last gap.front (sym e)) ∙ append_assoc (but_last gap.front) (q ∷ []) gap.back) placed)
 
--- THE GAP of the one test is before that of the other, or the same, and w stands between;
+-- THE GAP `one` is before the gap `other`, or both are equal, and w is the list of the members between them
 pub record IsBefore (one other : Cut) : Type 0 where
   pub w : List Place
   pub fronts : other.front ≡ one.front ++ w
   pub backs : one.back ≡ w ++ other.back
 
--- or a member fails the one test and passes the other
+-- THE TESTS CROSS if some member m of s fails the test f and passes the test g
 pub record Crosses (f g : Place → Bool) (s : List Place) : Type 0 where
   pub m : Place
   pub front : List Place
@@ -82,7 +82,7 @@ meet f g (fork c a p b) = by (f p) refl (g p) refl (meet f g a) (meet f g b) whe
     passes = x.passes;
   })
 
--- KEYS on the two sides of a bound
+-- TWO KEYS on the two sides of a bound: the key of a member that doesn't meet a lower bound is less than the key of a member that does
 module _ {K : Type 0} {cmp : K → K → Ordering} (total : IsTotalOrder cmp) where
   turned : (k x : K) → cmp k x ≡ Greater → cmp x k ≡ Less
   turned k x e = total.antisymm x k ∙ ap ordering_reverse e
@@ -104,7 +104,7 @@ module _ {K : Type 0} {cmp : K → K → Ordering} (total : IsTotalOrder cmp) wh
   lt_fails k x y Greater Greater er eq h g = absurd (true≢false (sym g))
 
   module _ {A V : Type 0} (key_of : A → V → K) (adapter : A) (objects : Objects V) where
-    -- a member that fails the test has a smaller key than one that passes it
+    -- a test rises if each member that fails it has a smaller key than each member that passes it
     pub record Rises (test : Place → Bool) : Type 0 where
       pub less : (x y : Place) (u v : V) → object_at objects x ≡ Some u → object_at objects y ≡ Some v → test x ≡ false → test y ≡ true → cmp (key_of adapter u) (key_of adapter v) ≡ Less
 
@@ -130,7 +130,7 @@ module _ {K : Type 0} {cmp : K → K → Ordering} (total : IsTotalOrder cmp) wh
     }
     upper_rises Unbounded same = record { less = λ x y u v ex ey h g. absurd (true≢false (sym g)) }
 
-    -- THE ENDS of a range that runs up
+    -- THE ENDS of a range: both are members with objects, and the key at the upper end is not less than the key at the lower end
     pub record Ends (low high : Option Place) : Type 0 where
       pub i : Place
       pub j : Place
@@ -159,7 +159,7 @@ module _ {K : Type 0} {cmp : K → K → Ordering} (total : IsTotalOrder cmp) wh
     placed_value None e = absurd (true≢false (sym e))
     placed_value (Some v) e = (v, refl)
 
-    -- WHERE THE ENDS RUN UP, the members between the two gaps are a walk from the one to the other
+    -- IF THE KEY AT THE UPPER END is not less than the key at the lower end, the members between the two gaps are a walk between these ends
     module _ {E : Type 0} (n : E → Node) {t : Table E} {root : Option Place} {s : List Place} (h : Represents n t root s) (placed : ArePlaced objects s) {f g : Place → Bool} (rises : Rises f) (falls : Rises g)
         {low high : Option Place} (low_is : low ≡ first (gap_in f h.tree).back) (high_is : high ≡ last (gap_in g h.tree).front) where
       pub walks_up : runs_up cmp (key_of adapter) objects low high ≡ true → (w : List Place) × IsWalk n t root low high w × ArePlaced objects w
@@ -200,7 +200,7 @@ module _ {K : Type 0} {cmp : K → K → Ordering} (total : IsTotalOrder cmp) wh
             let m = placed_value (object_at objects k.m) (placed_there objects k.front k.m k.back (subst (ArePlaced objects) (sym (k.same ∙ h.held.order)) placed)) in
             absurd (x.up (total.trans _ _ _ (falls.less x.j k.m x.v m.0 x.last_is m.1 high_fails k.passes) (rises.less k.m x.i m.0 x.u m.1 x.first_is k.fails low_passes)))
 
--- a walk is the segment between its ends
+-- the members of a walk are the segment of the sequence between the walk's two ends
 pub segment_is : {E : Type 0} (n : E → Node) {t : Table E} → ((q : Place) → (n (t.entry q)).linked ≡ true → IsCovered t q) → {root low high : Option Place} {s w : List Place} → Represents n t root s
     → IsWalk n t root low high w → IsSegment s low high (between low high (members n t root))
 segment_is n {t} law {root} {low} {high} {s} {w} h x =

@@ -1,4 +1,4 @@
--- A red pair: recolored, or rotated above the grandparent.
+-- A red pair is a red member below a red parent. The repair recolors a red pair, or rotates the upper member of the pair above the grandparent.
 use Rattle.std.proofs.Common.{◌≡◌, ℕ, ◌+◌, ◌<◌, Bool, true, false, cond, not, is_some, Option, Some, None, List, [], ◌∷◌, length, refl, sym, ap, ◌∙◌, subst, arith}
 use Rattle.std.specs.Option.{IsSome}
 use Rattle.ic_link_ops.specs.Prelude.{Place, Table, ChangesOnly}
@@ -42,7 +42,7 @@ wanted_is : (fs : List Frame) → color_below (above fs) ≡ wanted fs
 wanted_is [] = refl
 wanted_is (frame d c p b ∷ fs) = refl
 
--- a step comes from below a parent
+-- if there is a frame above the subtree, the color that the repair wants at its root is red, and red has the weight 0
 pub red_below : (fs : List Frame) {m : ℕ} → m < length fs → weight (wanted fs) ≡ 0
 red_below [] few = absurd (omega (arith, few))
 red_below (f ∷ fs) few = refl
@@ -51,7 +51,7 @@ pub red_there : (fs : List Frame) (q : Place) → above fs ≡ Some q → weight
 red_there [] q e = absurd (none_not q e)
 red_there (f ∷ fs) q e = refl
 
--- at the root the tree has grown
+-- the tree has grown exactly if the repair has reached the root
 pub grown_is : (fs : List Frame) (o : Option Place) (r : Bool) → o ≡ above fs → is_some o ≡ not r → cond r 1 0 ≡ weight (wanted fs)
 grown_is [] None true e is = refl
 grown_is [] None false e is = cc
@@ -61,7 +61,7 @@ grown_is (frame d c p b ∷ fs) (Some q) true e is = cc
 grown_is (frame d c p b ∷ fs) (Some q) false e is = refl
 
 module _ {E : Type 0} (n : E → Node) where
-  -- the red parent has a parent
+  -- THE RED PARENT q of x has a parent g, because the root is black
   pub record Pair (v : Table E) (root : Option Place) (x : Place) (k : Focus E) (q : Place) : Type 0 where
     pub g : Place
     pub side : Side
@@ -85,7 +85,7 @@ module _ {E : Type 0} (n : E → Node) where
       refl,
     )
 
-    -- at the root
+    -- if x has no parent, the tree is right
     pub done_top : o ≡ above k.frames → o ≡ None → IsRestoredWith n v root k (blacks (plug k.frames k.subtree))
     done_top up none = done_at (λ red. at k.frames (sym up ∙ none) h.nearly.painted) where
       at : (fs : List Frame) → above fs ≡ None → top_color k.subtree ≡ wanted fs → top_color k.subtree ≡ Black
@@ -96,12 +96,12 @@ module _ {E : Type 0} (n : E → Node) where
       above_is : above k.frames ≡ Some q
       above_is = sym up ∙ is
 
-      -- the color of the lowest frame
+      -- the color of the lowest frame is the color that is read at its member q
       tint : (d : Side) (c : Color) (p : Place) (b : Tree) (fs : List Frame) → RedAt n v root x (record k { frames = frame d c p b ∷ fs }) → p ≡ q → is_red c ≡ r
       tint d c p b fs h same =
           ap is_red (sym (subst (λ (z : Place). (n (v.entry z)).color ≡ c) same (side_tint n v.entry d p c (top k.subtree) (top b) (above fs) h.stands.are.0.0.0))) ∙ sym er
 
-      -- below a black member
+      -- if the parent of x is black, the tree is right
       pub done_black : r ≡ false → IsRestoredWith n v root k (blacks (plug k.frames k.subtree))
       done_black e = done_at (at k.frames h above_is) where
         at : (fs : List Frame) → RedAt n v root x (record k { frames = fs }) → above fs ≡ Some q → color_above fs ≡ Red → top_color k.subtree ≡ Black
@@ -130,7 +130,7 @@ module _ {E : Type 0} (n : E → Node) where
     joined : ClimbState n k.base v root (frame i m.color g m.uncle ∷ k.frames) (branch m.low Red k.subtree q m.sibling) k.pieces
     joined = go_up n h.red.stands
 
-    -- on which side of g the parent stands
+    -- the side of g on which the table has the parent q is the side i of the frame
     pub pair_side : (r : Side) → IsSideOf n v q g r → r ≡ i
     pair_side r is =
         side_found n v k.base root i m.color g m.uncle k.frames (branch m.low Red k.subtree q m.sibling) k.pieces q r joined (top_branch m.low Red k.subtree q m.sibling) is
@@ -151,7 +151,7 @@ module _ {E : Type 0} (n : E → Node) where
       some leaf e eo = cc
       some (fork c a p b) e eo = some_is o p eo
 
-    -- the repair goes on at g
+    -- CASE 1, a red uncle: after the recoloring, the repair goes on at the grandparent g
     pub fixed_higher : {w : Table E} (y : Place) → top m.uncle ≡ Some y → is_red (top_color m.uncle) ≡ true → Recolors n v w q y g
         → IsFixedOrHigher n w root k (length k.frames + 2) (blacks (plug (above_pair q g i m k.frames) k.subtree)) (Some g)
     fixed_higher {w} y is red recolors = at m.uncle is red h.red where
@@ -177,11 +177,11 @@ module _ {E : Type 0} (n : E → Node) where
                 ∙ ap (λ (z : ℕ). z + weight (wanted k.frames)) (sym (pair_blacks k.frames m.low q m.sibling i m.color g (fork Red a p b) k.subtree h.nearly)),
           )
 
-    -- an outer grandchild already
+    -- if x is on the side of q on which q is below g, x is an outer grandchild already
     pub outer_now : m.low ≡ i → HasOuterGrandchild n v root q g i m k
     outer_now e = (x, m.sibling, k.subtree, subst (λ (y : Side). PairAt n v root x q g i (record m { low = y }) k) e h)
 
-    -- the side of x
+    -- the side of q on which the table has x is the side of the frame of q
     pub low_side : (r : Side) → IsSideOf n v x q r → r ≡ m.low
     low_side r is = side_found n v k.base root m.low Red q m.sibling (frame i m.color g m.uncle ∷ k.frames) k.subtree k.pieces x r h.red.stands h.red.top_is is
 
@@ -216,7 +216,7 @@ module _ {E : Type 0} (n : E → Node) where
             },
           )
 
-  -- CASE 3, an outer grandchild: its parent comes up above g, black, and g goes down, red
+  -- CASE 3, an outer grandchild: its parent `upper` is rotated above g. `upper` turns black, and g turns red
   module _ (v : Table E) (root : Option Place) (upper g : Place) (i j : Side) (ej : j ≡ across i) (m : RedPair) (k : Focus E)
       (h : ClimbState n k.base v root (above_pair upper g i (record m { low = i }) k.frames) k.subtree k.pieces) where
     grandparent_ready : ClimbState n k.base v root k.frames (branch (across i) m.color m.uncle g (branch (across i) Red m.sibling upper k.subtree)) k.pieces
@@ -233,7 +233,7 @@ module _ {E : Type 0} (n : E → Node) where
         (branch_across i Black k.subtree upper (branch (across i) Red m.uncle g m.sibling) ∙ ap (λ (z : Tree). branch i Black k.subtree upper z) (branch_across i Red m.sibling g m.uncle))
         (rot k.base k.frames (turn m.color m.uncle Red m.sibling upper k.subtree) k.pieces refl grandparent_ready)
 
-  -- all is right after the grandparent's rotation
+  -- after the rotation of the grandparent g in case 3, the tree is right
   pub fixed_here : {v w : Table E} {root new_root : Option Place} (upper g : Place) (i : Side) (m : RedPair) (k : Focus E)
       → HasOuterGrandchild n v root upper g i m k → is_red (top_color m.uncle) ≡ false
       → (j : Side) → j ≡ across i → Rotates n v w root new_root g upper j Red Black → IsRestoredWith n w new_root k (through k.frames (1 + blacks m.uncle))
@@ -249,12 +249,12 @@ module _ {E : Type 0} (n : E → Node) where
         restored_blacks k.frames i upper b m.color g m.uncle t h.red.nearly (shape_open k.frames all right).3,
       )
 
-  -- with as many black members on a way down as around the pair
+  -- after case 3, each path down has as many black members as a path of the tree with the red pair had
   pub fixed_pair : {v w : Table E} {root new_root : Option Place} {x q g : Place} {i : Side} {m : RedPair} {k : Focus E} → PairAt n v root x q g i m k
       → IsRestoredWith n w new_root k (through k.frames (1 + blacks m.uncle)) → IsRestoredWith n w new_root k (blacks (plug (above_pair q g i m k.frames) k.subtree))
   fixed_pair {q = q} {g} {i} {m} {k} h (r, same) = (r, same ∙ sym (pair_blacks k.frames m.low q m.sibling i m.color g m.uncle k.subtree h.red.nearly))
 
-  -- THE WRITES of the three
+  -- THE WRITES of the recoloring in case 1: q and y turn black, and g turns red unless it is the root
   pub recolors : (v v1 v2 w : Table E) (q y g : Place) (x : Color) → x ≡ color_below (n (v.entry g)).parent
       → n (v1.entry q) ≡ record (n (v.entry q)) { color = Black } → ChangesOnly v v1 q
       → n (v2.entry y) ≡ record (n (v1.entry y)) { color = Black } → ChangesOnly v1 v2 y
@@ -275,7 +275,7 @@ module _ {E : Type 0} (n : E → Node) where
         let h5 = subst (λ (t : Tree). ClimbState n k.base v2 root k.frames t k.pieces) (branch_across i m.color low g U') h4 in
         painted_top n i m.color low g U' refl tint set3 only3 h5
 
-  -- a step's answer, from the pair's to the whole
+  -- the result of a step, which is stated for the frames above g, also holds for the frames above x
   pub fixed_below : (w : Table E) (root : Option Place) (k : Focus E) (q g : Place) (i : Side) (m : RedPair) (fs : List Frame) (o : Option Place) → k.frames ≡ above_pair q g i m fs
       → IsFixedOrHigher n w root (record k { frames = fs }) (length fs + 2) (blacks (plug (above_pair q g i m fs) k.subtree)) o
       → IsFixedOrHigher n w root k (length k.frames) (blacks (plug k.frames k.subtree)) o

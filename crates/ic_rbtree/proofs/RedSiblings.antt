@@ -1,4 +1,4 @@
--- A red sibling comes up.
+-- Case 1 of the repair after a removal: a red sibling is rotated above its parent.
 use Rattle.std.proofs.Common.{◌≡◌, Bool, true, false, inl, inr, Option, Some, None, ◌∷◌, refl, sym, ap, ◌∙◌, subst, arith}
 use Rattle.std.specs.Option.{IsSome}
 use Rattle.ic_link_ops.specs.Prelude.{Place, Table}
@@ -39,7 +39,7 @@ not_none None s e = cc
 not_none (Some q) s e = none_not q (sym e)
 
 module _ {E : Type 0} (n : E → Node) where
-  -- what a reading of the color tells of a tree
+  -- the color that is read at the root of a tree is the color of the tree's root
   pub red_tells : (v : Table E) (up o : Option Place) (t : Tree) → o ≡ top t → IsTree n v.entry up t → red_at n v o ≡ is_red (top_color t)
   red_tells v up o leaf e h = ap (λ (x : Option Place). red_at n v x) e
   red_tells v up o (fork c a p b) e h = ap (λ (x : Option Place). red_at n v x) e ∙ ap is_red h.0.color
@@ -60,14 +60,14 @@ module _ {E : Type 0} (n : E → Node) where
     pub sib_some : (w : Place) × (top sib ≡ Some w)
     sib_some = not_leaf_top sib (not_leaf sib (blacks k.subtree) (omega (arith, h.short.even_around.0)))
 
-    -- the sibling that was read
+    -- the child that was read on the far side of q is the root of the sibling's subtree
     pub sib_top : (far : Side) (o : Option Place) (w : Place) → far ≡ across d → o ≡ child_on far (n (v.entry q)) → o ≡ Some w → top sib ≡ Some w
     sib_top far o w ef eo is = sym sib_read ∙ (ap (λ (x : Side). child_on x (n (v.entry q))) (sym ef) ∙ (sym eo ∙ is))
 
     pub sib_there : (far : Side) (o : Option Place) → far ≡ across d → o ≡ child_on far (n (v.entry q)) → o ≡ Some sib_some.0
     sib_there far o ef eo = eo ∙ (ap (λ (x : Side). child_on x (n (v.entry q))) ef ∙ (sib_read ∙ sib_some.1))
 
-    -- its color that was read
+    -- the color that was read at the sibling w is the color of the root of the sibling's subtree
     pub sib_color : (w : Place) (b : Bool) → top sib ≡ Some w → b ≡ red_at n v (Some w) → b ≡ is_red (top_color sib)
     sib_color w b e eb = eb ∙ red_tells v (Some q) (Some w) sib (sym e) sib_tree
 
@@ -88,7 +88,7 @@ module _ {E : Type 0} (n : E → Node) where
       opened : ShortAt n v root q d c (branch d Red sib_red.0 w sib_red.1) k
       opened = subst (λ (x : Tree). ShortAt n v root q d c x k) sib_red.2 h
 
-      -- the rotation
+      -- the red sibling w is rotated above q, so that w is black and q is red
       module _ {z : Table E} {new_root : Option Place} (rot : Rotates n v z root new_root q w d Red Black) where
         pub lowered : ShortAt n z new_root q d Red sib_red.0 (record k { frames = frame d Black w sib_red.1 ∷ k.frames })
         lowered =

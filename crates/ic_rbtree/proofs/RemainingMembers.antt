@@ -1,4 +1,4 @@
--- The members that a walk has left are taken off one after the other, from the front.
+-- The members that remain for a walk are removed one after the other, from the first to the last.
 use Rattle.std.proofs.Common.{◌≡◌, ◌<◌, true, Option, Some, None, List, [], ◌∷◌, ◌++◌, drop, length, refl, sym, ap, ◌∙◌, subst, arith, append_assoc, append-nil}
 use Rattle.ic_link_ops.specs.Prelude.{Place, first, IsAbsent, Table, IsCovered, ChangesOnlyIn}
 use Rattle.ic_link_ops.specs.RedBlackTree.{Node, RepresentsEnds}
@@ -7,7 +7,7 @@ use Rattle.ic_rbtree.specs.Members.{members_around}
 use Rattle.ic_rbtree.proofs.Members.{members_between_ends}
 
 module _ {E : Type 0} (n : E → Node) where
-  -- of w the members `done` are taken off, and the rest is represented between the ends
+  -- THE WALK IS FINISHED IN PART: the members `done` of w are removed, and the table represents the rest of w between the two ends
   pub record Finishes (base v : Table E) (front back : Option Place) (w : List Place) : Type 0 where
     pub done : List Place
     pub rest : List Place
@@ -28,7 +28,7 @@ module _ {E : Type 0} (n : E → Node) where
   )
 
   module _ {base v : Table E} {front back : Option Place} {w : List Place} (k : Finishes base v front back w) where
-    -- one more
+    -- if the first remaining member p is removed, it is the last one of `done`
     pub finish_more : {u : Table E} {front' back' : Option Place} (p : Place) → Some p ≡ first k.rest → RepresentsEnds n u front' back' (drop 1 k.rest) → ChangesOnlyIn v u k.rest
         → (k' : Finishes base u front' back' w) × (k'.done ≡ k.done ++ p ∷ [])
     finish_more p e left keeps = (
@@ -45,7 +45,7 @@ module _ {E : Type 0} (n : E → Node) where
       refl,
     )
 
-    -- no more
+    -- if no member remains, all members of w are done
     pub finish_all : None ≡ first k.rest → k.done ≡ w
     finish_all e = sym (append-nil k.done) ∙ ap (λ (s : List Place). k.done ++ s) (sym (nothing_first k.rest e)) ∙ sym k.parts
 

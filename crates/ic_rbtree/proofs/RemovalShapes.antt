@@ -1,4 +1,5 @@
--- THE CASES OF A REPAIR AFTER A REMOVAL, on trees alone: what is one black short before each, and what after it.
+-- Lemmas about the cases of a repair after a removal, as statements about trees alone: which subtree is one black member short before each case and after
+-- it.
 use Rattle.std.proofs.Common.{◌≡◌, ℕ, suc, ◌+◌, List, [], ◌∷◌, refl, sym, ap, ◌∙◌, subst, arith}
 use Rattle.ic_unsafe_ref.specs.declared.place.Place.{Place}
 use Rattle.ic_link_ops.specs.declared.color.Color.{Color}
@@ -10,7 +11,7 @@ use Rattle.ic_link_ops.specs.Frames.{Frame, frame, branch, plug}
 use Rattle.ic_rbtree.specs.Shortage.{color_above, EvenAround, PairsAround, IsShort}
 use Rattle.ic_rbtree.proofs.InsertionShapes.{top_color_branch, blacks_branch, even_branch, pairs_branch, of_pairs, of_even, right_plug, not_red, red_not_black}
 
--- a tree with a black member on its paths has a top
+-- a tree with a black member on each of its paths is not empty
 pub not_leaf : (t : Tree) (n : ℕ) → blacks t ≡ suc n → t ≡ leaf → ⊥
 not_leaf leaf n e h = omega arith
 not_leaf (fork c a p b) n e h = cc
@@ -18,7 +19,7 @@ not_leaf (fork c a p b) n e h = cc
 pub short_root : (t : Tree) → IsShort [] t → IsRight t
 short_root t s = record { black_root = s.black; no_red_pair = s.pairs; even = s.even }
 
--- the sibling is red: it comes up, and a black one takes its place
+-- CASE 1: the sibling is red. The sibling is rotated above q, and after this q has a black sibling
 pub short_lowered : (fs : List Frame) (d : Side) (c : Color) (q : Place) (a : Tree) (w : Place) (b t : Tree) →
     IsShort (frame d c q (branch d Red a w b) ∷ fs) t →
     IsShort (frame d Red q a ∷ frame d Black w b ∷ fs) t × (top_color a ≡ Black)
@@ -41,7 +42,7 @@ short_lowered fs d c q a w b t s =
       (wp.0 refl).0,
     )
 
--- the sibling and its children are black: the sibling turns red, and the shortage goes up
+-- CASE 2: the sibling and its children are black. The sibling turns red, and the subtree with the root q is one black member short
 module _ (fs : List Frame) (d : Side) (q : Place) (a : Tree) (w : Place) (b t : Tree) where
   pub short_up : IsShort (frame d Black q (branch d Black a w b) ∷ fs) t → top_color a ≡ Black → top_color b ≡ Black →
       IsShort fs (branch d Black t q (branch d Red a w b))
@@ -63,7 +64,7 @@ module _ (fs : List Frame) (d : Side) (q : Place) (a : Tree) (w : Place) (b t : 
         even_around = subst (λ (k : ℕ). EvenAround fs k) e ea.2;
       }
 
-  -- a red parent turns black, and all is right
+  -- if the parent q is red in case 2, it turns black, and the tree is right
   pub short_ends : IsShort (frame d Red q (branch d Black a w b) ∷ fs) t → top_color a ≡ Black → top_color b ≡ Black →
       IsRight (plug fs (branch d Black t q (branch d Red a w b)))
   short_ends s ha hb =
@@ -81,7 +82,7 @@ module _ (fs : List Frame) (d : Side) (q : Place) (a : Tree) (w : Place) (b t : 
       (even_branch d Black t q (branch d Red a w b) level s.even (even_branch d Red a w b we.0 we.1 we.2))
       pa.3 (subst (λ (k : ℕ). EvenAround fs k) e ea.2) (λ r. top_color_branch d Black t q (branch d Red a w b))
 
--- the sibling is black, its near child red and its far child black: the near child comes up
+-- CASE 3: the sibling is black, its near child red and its far child black. The near child is rotated above the sibling
 pub short_turned : (fs : List Frame) (d : Side) (c : Color) (q : Place) (m : Tree) (z : Place) (n : Tree) (w : Place) (b t : Tree) →
     IsShort (frame d c q (branch d Black (branch d Red m z n) w b) ∷ fs) t → top_color b ≡ Black →
     IsShort (frame d c q (branch d Black m z (branch d Red n w b)) ∷ fs) t
@@ -111,7 +112,7 @@ short_turned fs d c q m z n w b t s hb =
       even_around = (omega (arith, all, ws, zs, ea.0), even_branch d Black m z (branch d Red n w b) level ze.1 (even_branch d Red n w b low ze.2 we.2), ea.2);
     }
 
--- the sibling is black and its far child red: the sibling comes up with the parent's color, and all is right
+-- CASE 4: the sibling is black and its far child red. The sibling is rotated above q and gets the color of q, and the tree is right
 pub short_restored : (fs : List Frame) (d : Side) (c : Color) (q : Place) (a : Tree) (w : Place) (k : Side) (m : Tree) (f : Place) (n t : Tree) →
     IsShort (frame d c q (branch d Black a w (branch k Red m f n)) ∷ fs) t →
     IsRight (plug fs (branch d c (branch d Black t q a) w (branch k Black m f n)))
@@ -136,7 +137,7 @@ short_restored fs d c q a w k m f n t s =
     (even_branch d c (branch d Black t q a) w (branch k Black m f n) high (even_branch d Black t q a level s.even we.1) (even_branch k Black m f n fe.0 fe.1 fe.2))
     pa.3 (subst (λ (k : ℕ). EvenAround fs k) e ea.2) (λ r. top_color_branch d c (branch d Black t q a) w (branch k Black m f n) ∙ pa.1 r)
 
--- A SHAPE OPENED at one of its subtrees
+-- A TREE OF THE RIGHT SHAPE is opened at one of its subtrees t: both t and the frames above t have right colors
 pub shape_open : (fs : List Frame) (t : Tree) → IsRight (plug fs t)
     → NoRedPair t × IsEven t × PairsAround fs × EvenAround fs (blacks t) × (color_above fs ≡ Red → top_color t ≡ Black)
 shape_open [] t r = (r.no_red_pair, r.even, tt, tt, λ e. r.black_root)

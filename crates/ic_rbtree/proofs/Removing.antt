@@ -1,4 +1,4 @@
--- A member is removed: found by the sequence, taken out, and released.
+-- A member is removed from a tree: it is found in the sequence, taken out of the tree, and unlinked.
 use Rattle.std.proofs.Common.{◌≡◌, ◌<◌, Bool, inl, inr, true, false, Option, Some, None, List, [], ◌∷◌, ◌++◌, refl, sym, ap, ◌∙◌, subst, arith, append-nil, append_assoc, drop, length}
 use Rattle.std.proofs.lemmas.List.{append_cancel_left}
 use Rattle.ic_link_ops.specs.Prelude.{Place, Cut, join, first, IsAbsent, IsDistinct, Table, ChangesOnly}
@@ -27,7 +27,7 @@ use Rattle.ic_rbtree.proofs.Low.{represented_low, frames_low}
 use Rattle.ic_rbtree.proofs.NextInPlace.{way, short_placed, length_same}
 use Rattle.ic_rbtree.proofs.Transplants.{order_only}
 
--- the sequence of a tree around one of its members
+-- the sequence of a tree around a member p has the members before p, then p, and then the members after p
 pub order_around : (fs : List Frame) (c : Color) (a : Tree) (p : Place) (b : Tree) (front back : List Place) → before fs ++ in_order a ≡ front → in_order b ++ after fs ≡ back
     → in_order (plug fs (fork c a p b)) ≡ front ++ p ∷ back
 order_around fs c a p b front back ef eb =
@@ -37,7 +37,7 @@ order_around fs c a p b front back ef eb =
     ∙ ap (λ (s : List Place). s ++ p ∷ (in_order b ++ after fs)) ef
     ∙ ap (λ (s : List Place). front ++ p ∷ s) eb
 
--- another place with the same color keeps the shape
+-- if another place q replaces p in a tree of the right shape, with the color of p, the shape stays right
 pub renamed : (fs : List Frame) (c : Color) (a : Tree) (p q : Place) (b : Tree) → IsRight (plug fs (fork c a p b)) → IsRight (plug fs (fork c a q b))
 renamed fs c a p q b r =
     let o = shape_open fs (fork c a p b) r in right_plug fs (fork c a q b) o.0 o.1 o.2 o.3 o.4
@@ -50,7 +50,7 @@ module _ {E : Type 0} (n : E → Node) where
   go_into root [] t ps h = h
   go_into root (frame d c p b ∷ fs) t ps h = go_down n d c p b t (go_into root fs (branch d c t p b) ps h)
 
-  -- FROM THE SEQUENCE to the member
+  -- THE POSITION OF A MEMBER p in the tree, found from the sequence: the frames above p, its color, and its two subtrees
   pub record PositionWithNext (base v : Table E) (root : Option Place) (front : List Place) (p : Place) (back : List Place) (ps : List Piece) : Type 0 where
     pub fs : List Frame
     pub c : Color
@@ -75,7 +75,7 @@ module _ {E : Type 0} (n : E → Node) where
         back_is = f.6 ∙ append-nil back;
       }
 
-  -- another place stands in the member's place
+  -- if the place z takes the place of the member p, the table represents the sequence with z instead of p
   pub placed : {base w u : Table E} {root1 root2 : Option Place} {front : List Place} {p : Place} {back : List Place} {ps : List Piece} (z : Place)
       → PositionWithNext base w root1 front p back (loose z ∷ ps) → TakesPlace n w u root1 root2 p z → Represented n base u root2 (front ++ z ∷ back) (loose p ∷ ps)
   placed {base} {w} {u} {root1} {root2} {front} {p} {back} {ps} z x swapped = record {
@@ -89,7 +89,7 @@ module _ {E : Type 0} (n : E → Node) where
     pub spot_linked : (n (v.entry p)).linked ≡ true
     spot_linked = x.stands.are.1.0.0.linked
 
-    -- at most one child
+    -- if p does not have both children, one of its subtrees is empty
     pub lone : (o : Option Place) → o ≡ both_of (n (v.entry p)).left (n (v.entry p)).right → o ≡ None → IsLone x.a x.b
     lone o eo none =
         let at = x.stands.are.1.0.0 in
@@ -100,7 +100,7 @@ module _ {E : Type 0} (n : E → Node) where
         pick (fork c a q b) leaf e = inr refl
         pick (fork c a q b) (fork k l r m) e = absurd (none_not r (sym e))
 
-    -- what is left of the tree without it
+    -- what remains of the tree without p: it is right, or its paths on side d of `up` have one black member too few. p is a piece of its own
     abbrev pub Remains : Table E → Option Place → Bool → Option Place → Side → Type 0
     Remains w new_root short up d =
         (fs : List Frame) × (t : Tree) × (length fs < turns)
@@ -123,7 +123,7 @@ module _ {E : Type 0} (n : E → Node) where
             ∙ (ap (λ (z : List Place). before fs ++ z) (append_assoc (in_order a) (in_order b) (after fs))
             ∙ (sym (append_assoc (before fs) (in_order a) (in_order b ++ after fs)) ∙ (ap (λ (z : List Place). z ++ (in_order b ++ after fs)) ef ∙ ap (λ (z : List Place). front ++ z) eb)))
 
-    -- both children: the next member stands leftmost on the right
+    -- if p has both children, the next member is the leftmost member of the right subtree of p
     module _ (r : Place) (o : Option Place) (eo : o ≡ both_of (n (v.entry p)).left (n (v.entry p)).right) (is : o ≡ Some r) where
       right_top : top x.b ≡ Some r
       right_top =
@@ -137,7 +137,7 @@ module _ {E : Type 0} (n : E → Node) where
       right_stands = go_down n Right x.c p x.a x.b x.stands
 
       module _ (z : Place) (leftmost : IsOutermostWithin n v r Left z) where
-        -- the next member, at its place
+        -- THE NEXT MEMBER z has no left child. The record has the frames above z, its color, and its right subtree
         pub record Next : Type 0 where
           pub gs : List Frame
           pub k : Color
@@ -176,7 +176,7 @@ module _ {E : Type 0} (n : E → Node) where
             subst (λ (s : List Place). Represented n base w new_root s (loose z ∷ ps)) next.order
             ((taken base next.gs (parts next.k leaf next.m) ps next.stands (inl refl) next.right).0 e)
 
-        -- it comes in the place of p, and above the gap stands what stood there, or it does where p stood there
+        -- the next member z takes the position of p. The parent of the gap is the old one, or z if the parent of the gap was p
         pub place_taken : {w u : Table E} {root1 root2 up up' : Option Place} {short : Bool} {d : Side} → SplicesOut n v w root root1 z short up d → TakesPlace n w u root1 root2 p z
             → (up ≡ Some p → up' ≡ Some z) → ((up ≡ Some p → ⊥) → up' ≡ up) → Remains u root2 short up' d
         place_taken {w} {u} {root1} {root2} {up} {up'} {short} {d} taken swapped moved kept =
@@ -192,8 +192,7 @@ module _ {E : Type 0} (n : E → Node) where
               ),
             )
 
-  -- INTO THE PIECES, and out of them
-  -- the represented tree stands at the root
+  -- A REPRESENTED TREE is a piece of the table, with no frames above its root
   pub stands_of : {v : Table E} {root : Option Place} {s : List Place} (h : Represents n v root s) → ClimbState n v v root [] h.tree []
   stands_of {v} {root} {s} h = record {
     are = ((tt, h.starts), (h.held.entries, tt));
@@ -218,7 +217,7 @@ module _ {E : Type 0} (n : E → Node) where
     shape = h.shape;
   }
 
-  -- what is on its own is no member
+  -- a place that is a piece of its own is no member of the tree
   pub loose_absent : {base v : Table E} {root : Option Place} {s : List Place} {p : Place} {ps : List Piece} → Represented n base v root s (loose p ∷ ps) → IsAbsent p s
   loose_absent {base} {v} {root} {s} {p} {ps} h =
       subst (λ (x : List Place). IsAbsent p x) h.order (times_absent p (in_order h.tree) (omega (arith, h.stands.once p, one_at_self p, times_order p h.tree)))
@@ -230,7 +229,7 @@ module _ {E : Type 0} (n : E → Node) where
         begins [] e = absurd (none_not p e)
         begins (x ∷ s) e = (s, ap (λ (y : Place). y ∷ s) (some_same e))
 
-  -- THE WHOLE REMOVAL, in the words of edits
+  -- THE WHOLE REMOVAL: if the member p is taken out of the tree and then unlinked, the edit removes p at the gap, as `Removes` states
   pub removes : (v w z : Table E) (root new_root : Option Place) (p : Place) (gap : Cut) (rest : List Place)
       → gap.back ≡ p ∷ rest → Represented n v v root (gap.front ++ p ∷ rest) [] → Represented n v w new_root (gap.front ++ rest) (loose p ∷ [])
       → ChangesOnly w z p → Removes (Represents n) v z new_root gap

@@ -1,4 +1,4 @@
--- A member is replaced.
+-- A member of a tree is replaced by another place.
 use Rattle.std.proofs.Common.{◌≡◌, ◌≢◌, Bool, Option, Some, List, [], ◌∷◌, ◌++◌, sym, ap, ◌∙◌, subst, arith, drop}
 use Rattle.ic_link_ops.specs.Prelude.{Place, Cut, join, first, IsAbsent, Table, ChangesOnly, IsLinked, IsUnlinked}
 use Rattle.ic_link_ops.specs.Edits.{Replaces}
@@ -12,7 +12,7 @@ use Rattle.ic_rbtree.proofs.Removing.{placed, PositionWithNext, represents_of, l
 use Rattle.ic_rbtree.proofs.Attaching.{acquired_represented}
 
 module _ {E : Type 0} (n : E → Node) where
-  -- the member, beside a place that has just been linked
+  -- THE TREE AND A NEW PLACE: after the place `new` has been linked, the table consists of the tree with the member p and of the place `new`
   pub member_represented : (linked : E → Bool) → ((e : E) → (n e).linked ≡ linked e) → (old v : Table E) (root : Option Place) (gap : Cut) (p new : Place) → Represents n old root (join gap) → first gap.back ≡ Some p
       → IsUnlinked linked old new → IsLinked linked v new → ChangesOnly old v new → (rest : List Place) × (gap.back ≡ p ∷ rest) × Represented n v v root (gap.front ++ p ∷ rest) (loose new ∷ [])
   member_represented linked alike old v root gap p new shown e was is only =

@@ -1,4 +1,4 @@
--- The members of a represented tree are a closed set.
+-- The members of a represented tree are a closed set, out of which no link leads.
 use Rattle.std.proofs.Common.{◌≡◌, ◌≢◌, ◌||◌, ◌⊎◌, Bool, true, false, nat_eq, Option, Some, None, List, [], ◌∷◌, ◌++◌, refl, sym, ap, subst, inl, inr, eq-eqb, eqb-true}
 use Rattle.ic_link_ops.specs.Prelude.{Place, index_of, Cut, first, last_or, Table}
 use Rattle.ic_unsafe_ref.proofs.PlaceLemmas.{same_index}
@@ -21,7 +21,7 @@ abbrev pub among : Place → List Place → Bool
 among q [] = false
 among q (x ∷ s) = is_it q x || among q s
 
--- the members, and a place
+-- whether a place is p or a member of the sequence
 abbrev pub with_place : Place → List Place → Place → Bool
 with_place p s q = is_it q p || among q s
 
@@ -61,7 +61,7 @@ among_parts q (x ∷ s) t e = elim (one_of (is_it q x) (among q (s ++ t)) e) [
   ]
 ]
 
--- the member in the middle
+-- a member in the middle of a sequence is a member of the sequence
 pub among_there : (p : Place) (s t : List Place) → among p (s ++ p ∷ t) ≡ true
 among_there p s t = among_right p s (p ∷ t) (or_left (is_it p p) (among p t) (itself p))
 
@@ -79,7 +79,7 @@ among_last q (x ∷ y ∷ s) o e out = or_right (is_it q x) (among q (y ∷ s)) 
     among_last_more y (z ∷ s) e = or_right (is_it q y) (among q (z ∷ s)) (among_last_more z s e)
 
 module _ {E : Type 0} (n : E → Node) where
-  -- where a member's node leads
+  -- the node of q leads into S: q is linked, and its children and its parent are none or in S
   record LeadsInto (v : Table E) (S : Place → Bool) (q : Place) : Type 0 where
     linked : IsNode n v q
     left : IsIn S (n (v.entry q)).left
@@ -107,7 +107,7 @@ module _ {E : Type 0} (n : E → Node) where
       ]
 
   module _ {base v : Table E} {root : Option Place} {s : List Place} where
-    -- the members of a tree that stands there, whatever its shape
+    -- the members of a tree in the table, whatever its shape, are a closed set
     pub stands_closed : {ps : List Piece} (tree : Tree) → in_order tree ≡ s → ClimbState n base v root [] tree ps → IsClosed n v root (λ q. among q s)
     stands_closed {ps} tree order stands =
         let all : (q : Place) → among q (in_order tree) ≡ true → among q s ≡ true = λ q m. subst (λ (x : List Place). among q x ≡ true) order m in
@@ -121,11 +121,11 @@ module _ {E : Type 0} (n : E → Node) where
           starts = read_in (λ x. among x s) (top_in (λ x. among x s) tree all) stands.are.0.1;
         }
 
-    -- SHOWN, AND SO CLOSED
+    -- THE MEMBERS of a represented tree are a closed set
     pub represented_closed : {ps : List Piece} → Represented n base v root s ps → IsClosed n v root (λ q. among q s)
     represented_closed {ps} h = stands_closed h.tree h.order h.stands
 
-    -- with a place on its own, closed but there
+    -- the members of a tree and a place p, which is a piece of its own, are a set that is closed except at p
     module _ {p : Place} {ps : List Piece} (h : Represented n base v root s (loose p ∷ ps)) where
       pub represented_closed_but : IsClosedBut n v root (Some p) (with_place p s)
       represented_closed_but =
@@ -160,12 +160,12 @@ module _ {E : Type 0} (n : E → Node) where
       pub with_member : (q : Place) → among q s ≡ true → with_place p s q ≡ true
       with_member q m = or_right (is_it q p) (among q s) m
 
-  -- the parent at a hole
+  -- the parent at a hole is none or a member of the tree
   pub hole_in : (v : Table E) (p : Place) (parent : Option Place) (d : Side) (gap : Cut) → IsInsertPos n v parent d gap → IsIn (with_place p (gap.front ++ gap.back)) parent
   hole_in v p None d gap h = tt
   hole_in v p (Some q) Left gap h = or_right (is_it q p) (among q (gap.front ++ gap.back)) (among_right q gap.front gap.back (among_first q gap.back (sym h.1)))
   hole_in v p (Some q) Right gap h = or_right (is_it q p) (among q (gap.front ++ gap.back)) (among_left q gap.front gap.back (among_last q gap.front None (sym h.1) (none_not q)))
 
-  -- a member is another place than the one on its own
+  -- a member of the tree is different from a place that is a piece of its own
   pub member_apart : {base v : Table E} {root : Option Place} (front : List Place) (p new : Place) (back : List Place) {ps : List Piece} → Represented n base v root (front ++ p ∷ back) (loose new ∷ ps) → p ≢ new
   member_apart front p new back h e = (absent_right new front (p ∷ back) (loose_absent n h)).0 (sym e)

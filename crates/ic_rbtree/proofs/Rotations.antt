@@ -1,4 +1,4 @@
--- A branch opened and closed, and what `adopt`, `change_child` and `rotate` do to the pieces.
+-- A branch is divided into pieces and put together again. The lemmas state what `adopt`, `change_child` and `rotate` do to the pieces.
 use Rattle.std.proofs.Common.{◌≡◌, ◌≤◌, Option, Some, None, List, [], ◌∷◌, true, false, Bool, refl, sym, ap, ◌∙◌, subst, arith, eq-eqb, eqb-true}
 use Rattle.ic_link_ops.specs.Prelude.{Place, index_of, Table, ChangesOnly}
 use Rattle.ic_unsafe_ref.proofs.PlaceLemmas.{same_index}
@@ -17,7 +17,7 @@ use Rattle.ic_rbtree.specs.Steps.{Turn, Adopts, ChangesChild, Rotates, IsSideOf}
 use Rattle.ic_rbtree.proofs.Branches.{top_branch, branch_open, branch_close, side_near, side_far, side_up, side_linked}
 use Rattle.ic_rbtree.proofs.Pieces.{regroup, set_near, set_far, set_up, set_parent_and_color}
 
--- a turn by its parts
+-- a turn, which describes a rotation, is made of its parts
 abbrev pub turn : Color → Tree → Color → Tree → Place → Tree → Turn
 turn c a k b y e = record { color = c; near = a; upper_color = k; inner = b; upper = y; outer = e }
 
@@ -25,7 +25,7 @@ pub times_top : (p : Place) (t : Tree) → top t ≡ Some p → 1 ≤ times p t
 times_top p leaf e = absurd (none_not p e)
 times_top p (fork c a q b) e = let h : one_at p q ≡ 1 = rw (some_same e) (one_at_self p) in omega arith
 
--- what a comparison with a place says
+-- if the comparison of an optional place with p is true, the optional place is p
 pub end_is : (o : Option Place) (p : Place) (b : Bool) → b ≡ is_end o p → b ≡ true → o ≡ Some p
 end_is None p b e t = let k : false ≡ true = sym e ∙ t in cc
 end_is (Some q) p b e t = ap Some (same_index q p (eqb-true (index_of q) (index_of p) (sym e ∙ t)))
@@ -65,7 +65,7 @@ module _ {E : Type 0} (n : E → Node) where
         regroup n (below up (branch d c a p b) ∷ ps) h
         (λ q. omega (arith, times_branch q d c a p b)) (branch_close n v.entry up d c a p b h.are.0 h.are.1.0 h.are.1.1.0, h.are.1.1.1)
 
-    -- the same at the place where a tree stands below frames
+    -- a tree below frames is opened at its root p: the table consists of the entry of p, its two subtrees, the surroundings and the other pieces
     pub open_at : (root : Option Place) (fs : List Frame) (d : Side) (c : Color) (a : Tree) (p : Place) (b : Tree) (ps : List Piece)
         → ClimbState n base v root fs (branch d c a p b) ps
         → Held n base v (cell d p c (top a) (top b) (above fs) ∷ below (Some p) a ∷ below (Some p) b ∷ around root fs (Some p) ∷ ps)
@@ -82,7 +82,7 @@ module _ {E : Type 0} (n : E → Node) where
         let ring = subst (λ (x : Option Place). IsAround n v.entry fs x × (root ≡ topmost fs x)) (sym (top_branch d c a p b)) h.are.1.0 in
         regroup n (around root fs (top (branch d c a p b)) ∷ below (above fs) (branch d c a p b) ∷ ps) h (λ q. omega arith) (ring, (h.are.0, h.are.1.1))
 
-  -- the root of a tree gets another parent
+  -- if the parent is written at the root q of a tree, the tree is below this parent
   pub adopts_some : (v w : Table E) (q : Place) (child parent : Option Place) → child ≡ Some q
       → n (w.entry q) ≡ record (n (v.entry q)) { parent = parent } → ChangesOnly v w q → Adopts n v w child parent
   adopts_some v w q child parent is set only base up x leaf ps e ex h = absurd (none_not q (sym e ∙ is))
@@ -90,7 +90,7 @@ module _ {E : Type 0} (n : E → Node) where
       close_below x (top a) (top b) Left c a p b ps refl refl
       (set_up n Left p c (top a) (top b) up (below (Some p) a ∷ below (Some p) b ∷ ps) (open_below up Left c a p b ps h) q parent x (some_same (sym is ∙ e)) ex set only)
 
-  -- another tree hangs on the side of the lowest frame
+  -- if `to` is written as the child of the lowest frame's member on side d, the subtree below the frames has the root `to`
   pub changes_child_side : {base v w : Table E} (root : Option Place) (parent : Place) (was to x : Option Place) (d : Side) (c : Color) (p : Place) (b : Tree) (fs : List Frame) (ps : List Piece)
       → parent ≡ p → to ≡ x → n (w.entry parent) ≡ with_child d (n (v.entry parent)) to → ChangesOnly v w parent
       → Held n base v (around root (frame d c p b ∷ fs) was ∷ ps) → Held n base w (around root (frame d c p b ∷ fs) x ∷ ps)
@@ -113,7 +113,7 @@ module _ {E : Type 0} (n : E → Node) where
   changes_child_some v w root parent to q was Right is l set only base (frame Left c p b ∷ fs) x ps e ex out h =
       absurd (l (ap (λ (z : Place). (n (v.entry z)).left) (some_same (sym is ∙ e)) ∙ side_near n v.entry Left p c (Some was) (top b) (above fs) h.are.0.0.0))
 
-  -- A ROTATION, write by write
+  -- A ROTATION is made by six writes: the lemma states that these writes rotate p down and z up, as `Rotates` states
   pub rotates : (v v1 v2 v3 v4 v5 v6 : Table E) (root new_root inner parent : Option Place) (z p : Place) (d far : Side) (low high : Color) → far ≡ across d
       → inner ≡ child_on d (n (v.entry z)) → parent ≡ (n (v.entry p)).parent
       → n (v1.entry p) ≡ with_child far (n (v.entry p)) inner → ChangesOnly v v1 p → Adopts n v1 v2 inner (Some p)

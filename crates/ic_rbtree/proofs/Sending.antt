@@ -1,4 +1,4 @@
--- A DESCENT that comparisons send from the root of a represented tree to a gap.
+-- Lemmas about a descent from the root of a represented tree to the gap to which the comparisons lead.
 use Rattle.std.proofs.Common.{◌≡◌, ℕ, ◌+◌, ◌^◌, ◌≤◌, ◌<◌, Bool, true, false, not, cond, Option, Some, None, IsSome, List, [], ◌∷◌, ◌++◌, length, refl, sym, ap, ◌∙◌, subst, arith, append_assoc, append-nil}
 use Rattle.std.specs.declared.cmp.Ordering.{Ordering}
 use Rattle.std.specs.declared.cmp.Ordering.TheVariants.{Less, Equal, Greater}
@@ -36,7 +36,7 @@ use Rattle.ic_rbtree.proofs.Heights.{looks_few, looks_fewer}
 use Rattle.ic_rbtree.proofs.Nearest.{nearest_frame}
 use Rattle.ic_rbtree.proofs.Removing.{order_around, stands_of}
 
--- a gap of a subtree, seen from above the frames
+-- a gap of the subtree below the frames, as a gap of the whole tree
 abbrev pub gap_around : List Frame → Cut → Cut
 gap_around fs gap = record { front = before fs ++ gap.front; back = gap.back ++ after fs }
 
@@ -48,7 +48,7 @@ right_is : (x : Bool) → Right ≡ side_of x → x ≡ false
 right_is true e = cc
 right_is false e = refl
 
--- THE TEST SENDS into the subtree, and there on
+-- A TEST THAT LEADS A DESCENT through the frames leads to a gap of the subtree below them, and this gap is the gap of the whole tree
 pub gap_plug : (test : Place → Bool) (fs : List Frame) (t : Tree) → SendsPast test fs → gap_in test (plug fs t) ≡ gap_around fs (gap_in test t)
 gap_plug test [] t h = λ k. record { front = (gap_in test t).front; back = sym (append-nil (gap_in test t).back) k }
 gap_plug test (frame Left c p b ∷ fs) t h =
@@ -67,19 +67,19 @@ gap_plug test (frame Right c p b ∷ fs) t h =
     ∙ ap (λ x. gap_around fs (cond x left right)) (right_is (test p) h.0)
     ∙ (λ k. record { front = same k; back = (gap_in test t).back ++ after fs })
 
--- the last member that compared equal did, whichever side it was passed on
+-- the member that the descent stores as the last equal one is equal to the searched key, whichever side of it the descent took
 module _ (at : Place → Ordering) where
   marked : (old : Option Place) (p : Place) (equal : Bool) → equal ≡ equal_at at p → ((q : Place) → old ≡ Some q → equal_at at q ≡ true)
       → (q : Place) → last_equal old p equal ≡ Some q → equal_at at q ≡ true
   marked old p true same was q is = subst (λ z. equal_at at z ≡ true) (some_same is) (sym same)
   marked old p false same was q is = was q is
 
-  -- and an equal one on the left of which the descent went is the last one then,
+  -- if the descent goes left at an equal member, this member is the last one that compared equal
   marked_here : (old : Option Place) (p q : Place) (equal : Bool) → equal ≡ equal_at at p → Some p ≡ Some q → equal_at at q ≡ true → last_equal old p equal ≡ Some q
   marked_here old p q true same is here_too = is
   marked_here old p q false same is here_too = let k : false ≡ true = same ∙ ap (equal_at at) (some_same is) ∙ here_too in cc
 
-  -- since none is passed on the right where equal ones are passed on the left
+  -- a descent does not go right at one equal member and left at another, because the side at equal members is fixed
   never : (equals : Side) (a b : Ordering) → true ≡ is_eq a → false ≡ goes_left equals a → goes_left equals b ≡ true → is_eq b ≡ true → ⊥
   never Left Less b e goes back here_too = cc
   never Left Equal b e goes back here_too = cc
@@ -93,13 +93,13 @@ module _ (at : Place → Ordering) where
   marked_back equals old p q true same goes back here_too is = absurd (never equals (at p) (at q) same goes back here_too)
   marked_back equals old p q false same goes back here_too is = is
 
--- the objects at a sequence's members are placed, and so is each of them
+-- if all members of a sequence are placed, the member p of the sequence has an object
 pub placed_there : {V : Type 0} (objects : Objects V) (s : List Place) (p : Place) (t : List Place) → ArePlaced objects (s ++ p ∷ t) → IsSome (object_at objects p)
 placed_there objects [] p t h = h.0
 placed_there objects (x ∷ s) p t h = placed_there objects s p t h.1
 
 module _ {E : Type 0} (n : E → Node) where
-  -- ON THE WAY: the descent has come to `here`, past these frames, one look each
+  -- A DESCENT IN PROGRESS has come to the subtree with the root `here`, below the frames fs. The descent has made one comparison for each frame
   pub record Sent (v : Table E) (root : Option Place) (at : Place → Ordering) (equals : Side) (tree : Tree) (here : Option Place) (d : Descent) (start count : ℕ) : Type 0 where
     pub fs : List Frame
     pub t : Tree
@@ -140,7 +140,7 @@ module _ {E : Type 0} (n : E → Node) where
 
     module _ {tree : Tree} {here : Option Place} {d : Descent} {start count : ℕ} (x : Sent v root at equals tree here d start count) where
       module _ {p : Place} (is : here ≡ Some p) where
-        -- the member is linked, and there is room for a look at it,
+        -- the member p to which the descent has come is linked, and the probe can count a comparison with it without an overflow
         pub sent_linked : (n (v.entry p)).linked ≡ true
         sent_linked = (opened n Left x.fs x.t x.stands (sym x.here_is ∙ is)).linked
 
@@ -156,7 +156,7 @@ module _ {E : Type 0} (n : E → Node) where
         pub sent_room : {s : List Place} (h : Represents n v root s) → h.tree ≡ tree → start + 66 ≤ 18446744073709551615 → count < 18446744073709551615
         sent_room h same room = let few = sent_low h same in omega (arith, few, room, x.counted)
 
-        -- and its object is placed
+        -- the member p to which the descent has come has an object
         pub sent_placed : {V : Type 0} (objects : Objects V) {s : List Place} (h : Represents n v root s) → h.tree ≡ tree → ArePlaced objects s → IsSome (object_at objects p)
         sent_placed objects {s} h same placed =
             let o = opened n Left x.fs x.t x.stands (sym x.here_is ∙ is) in
@@ -203,20 +203,20 @@ module _ {E : Type 0} (n : E → Node) where
               counted = omega (arith, more_is, x.counted);
             }
 
-        -- ONE STEP DOWN, to the side that the comparison tells
+        -- ONE STEP DOWN from the member p, to the side that the comparison selects, keeps the state of the descent right
         pub sent_on : {d' : Descent} (left : Bool) {equal : Bool} → d' ≡ passed d p left equal → {order : Ordering} → order ≡ at p → left ≡ goes_left equals order → equal ≡ is_eq order
             → {next : Option Place} → next ≡ child_on (side_of left) (n (v.entry p)) → {more : ℕ} → more ≡ count + 1 → Sent v root at equals tree next d' start more
         sent_on left is_passed there goes equal_is {next} next_is {more} more_is =
             subst (λ z. Sent v root at equals tree next z start more) (sym is_passed) (past left there goes equal_is next_is more_is)
 
-      -- after so many looks there is no member further down
+      -- after 66 comparisons the descent has come to a missing child
       pub sent_over : {s : List Place} (h : Represents n v root s) → h.tree ≡ tree → 66 ≤ length x.fs → here ≡ None
       sent_over h same all = by here refl where
         by : (o : Option Place) → here ≡ o → o ≡ None
         by None e = refl
         by (Some p) e = let few = sent_low e h same in absurd (omega (arith, few, all))
 
-      -- THE END
+      -- THE END OF THE DESCENT is a missing child: `here` is none
       module _ (none : here ≡ None) where
         bare : x.t ≡ leaf
         bare = top_leaf x.t (sym x.here_is ∙ none)
@@ -249,32 +249,32 @@ module _ {E : Type 0} (n : E → Node) where
 
         pub sent_ends : EndsAt n v at equals tree d
         sent_ends = record {
-          hole = subst (IsInsertPos n v d.parent d.side) (sym gap_is) hole_is;
+          insert_pos = subst (IsInsertPos n v d.parent d.side) (sym gap_is) hole_is;
           front_is = x.front_is ∙ sym (ap (λ (g : Cut). last g.front) gap_is);
           back_is = x.back_is ∙ sym (ap (λ (g : Cut). first g.back) gap_is);
           equal_is = equal_by d.back refl;
         }
 
-        -- there was a look at the root, if there is one
+        -- if the tree has a member, a descent that has ended has made at least one comparison
         pub sent_some : {s : List Place} (h : Represents n v root s) → h.tree ≡ tree → 1 ≤ length s → 1 ≤ length x.fs
         sent_some {s} h same some = by x.fs (sym h.held.order ∙ ap in_order (same ∙ sym x.same ∙ ap (plug x.fs) bare)) where
           by : (fs : List Frame) → s ≡ in_order (plug fs leaf) → 1 ≤ length fs
           by [] empty = omega (arith, some, ap length empty)
           by (f ∷ fs) there = omega arith
 
-      -- as many looks as members on the way
+      -- the number of comparisons, one for each member on the path down, is within the bound of a descent
       pub sent_few : {s : List Place} (h : Represents n v root s) → h.tree ≡ tree → 2 ^ length x.fs ≤ (length s + 1) ^ 2
       sent_few {s} h same =
           subst (λ z. 2 ^ length x.fs ≤ (length z + 1) ^ 2) (ap in_order (x.same ∙ sym same) ∙ h.held.order)
           (looks_few x.fs x.t (length x.fs) (subst IsRight (sym (x.same ∙ sym same)) h.shape) (omega arith))
 
-      -- and one more would be few, too
+      -- if the tree has a member, even one comparison more would be within the bound of a descent
       pub sent_fewer : {s : List Place} (h : Represents n v root s) → h.tree ≡ tree → 1 ≤ length s → 2 ^ (length x.fs + 1) ≤ (length s + 1) ^ 2
       sent_fewer {s} h same =
           subst (λ z. 1 ≤ length z → 2 ^ (length x.fs + 1) ≤ (length z + 1) ^ 2) (ap in_order (x.same ∙ sym same) ∙ h.held.order)
           (looks_fewer x.fs x.t (length x.fs) (subst IsRight (sym (x.same ∙ sym same)) h.shape) (omega arith))
 
-  -- THE LOOKS of a descent that has ended
+  -- THE COMPARISONS of a descent that has ended are as many as `Looks` states
   pub sent_looks : {P V : Type 0} (order : P → V → Ordering) (count : P → ℕ) {old new : P} {v : Table E} {root : Option Place} {at : Place → Ordering} {equals : Side} {s : List Place} (h : Represents n v root s)
       {here : Option Place} {d : Descent} → Sent v root at equals h.tree here d (count old) (count new) → here ≡ None → order new ≡ order old → Looks order count old new s
   sent_looks order count h x none same = record {
@@ -285,7 +285,7 @@ module _ {E : Type 0} (n : E → Node) where
     order_is = same;
   }
 
-  -- ON THE WAY of a probe: it compares as at the root, where it was `old`
+  -- A DESCENT OF A PROBE IN PROGRESS: the probe compares as it did at the root, where it was `old`
   pub record Comes {P V : Type 0} (order : P → V → Ordering) (count : P → ℕ) (objects : Objects V) (v : Table E) (root : Option Place) (equals : Side) (old now : P) (here : Option Place) (d : Descent) : Type 0 where
     pub each : (s : List Place) (h : Represents n v root s) → Sent v root (compared (order old) objects) equals h.tree here d (count old) (count now)
     pub same : order now ≡ order old
@@ -294,7 +294,7 @@ module _ {E : Type 0} (n : E → Node) where
     pub comes_first : {d : Descent} → d ≡ at_root → Comes order count objects v root equals old old root d
     comes_first is = record { each = λ s h. sent_first is (count old) h; same = refl }
 
-    -- one look further
+    -- after one more comparison of the probe, the state of the descent is right again
     pub comes_on : {now more : P} {here next : Option Place} {d d' : Descent} {p : Place} → Comes order count objects v root equals old now here d → here ≡ Some p → (left : Bool)
         → d' ≡ passed d p left (is_eq (compared (order now) objects p)) → left ≡ goes_left equals (compared (order now) objects p)
         → next ≡ child_on (side_of left) (n (v.entry p)) → count more ≡ count now + 1 → order more ≡ order now
@@ -304,7 +304,7 @@ module _ {E : Type 0} (n : E → Node) where
       same = same ∙ x.same;
     }
 
--- THE ANSWERS of searches, by where a descent ends
+-- THE RESULTS OF SEARCHES follow from the gap in which a descent ends. The member after the gap is the result if it is equal to the searched key
 equal_kept : (at : Place → Ordering) (o : Option Place) (x : Bool) → x ≡ equal_there at o → (result : Option Place) → result ≡ cond x o None → result ≡ if_passes (equal_at at) o
 equal_kept at None true e result is = is
 equal_kept at None false e result is = is
@@ -321,7 +321,7 @@ not_gt Equal = refl
 not_gt Greater = refl
 
 module _ {E : Type 0} (n : E → Node) where
-  -- whatever word there is for the root
+  -- if a descent from the optional place `other` ends in a gap, and `other` is the root, then the descent from the root ends in this gap
   pub ends_at_root : {v : Table E} {root other : Option Place} {at : Place → Ordering} {equals : Side} {d : Descent} → other ≡ root
       → ((s : List Place) (h : Represents n v other s) → EndsAt n v at equals h.tree d) → {s : List Place} (h : Represents n v root s) → EndsAt n v at equals h.tree d
   ends_at_root is ends {s} h = ends s (record { tree = h.tree; held = h.held; starts = is ∙ h.starts; shape = h.shape })
@@ -336,35 +336,35 @@ module _ {E : Type 0} (n : E → Node) where
         answer = equal_kept at d.back (is_equal d) x.equal_is result is ∙ ap (if_passes (equal_at at)) x.back_is;
       }
 
-      -- AN ENTRY is occupied where the member after the gap compares equal,
+      -- AN ENTRY IS OCCUPIED if the member after the gap is equal to the searched key. The search finds this member
       pub occupies : EndsAt n v at Left h.tree d → is_equal d ≡ true → {result : Option Place} → result ≡ d.back → Finds at s result × IsSome result
       occupies x equal {result} is = (finds x (is ∙ ap (λ z. cond z d.back None) (sym equal)), subst IsSome (sym is) (some d.back (sym x.equal_is ∙ equal))) where
         some : (o : Option Place) → equal_there at o ≡ true → IsSome o
         some None e = e
         some (Some p) e = refl
 
-      -- the member before the gap, as an upper bound has it
+      -- the member before the gap of a descent is the member before the gap to which the test of an upper bound leads
       pub beyond_included : EndsAt n v at Right h.tree d → {result : Option Place} → result ≡ d.front → result ≡ last (gap_in (is_beyond (Included at)) h.tree).front
       beyond_included x is = is ∙ x.front_is ∙ ap (λ (g : Cut). last g.front) (gap_same (λ p. is_lt (at p)) (is_beyond (Included at)) (λ p. not_ge (at p)) h.tree)
 
       pub beyond_excluded : EndsAt n v at Left h.tree d → {result : Option Place} → result ≡ d.front → result ≡ last (gap_in (is_beyond (Excluded at)) h.tree).front
       beyond_excluded x is = is ∙ x.front_is ∙ ap (λ (g : Cut). last g.front) (gap_same (λ p. is_le (at p)) (is_beyond (Excluded at)) (λ p. not_gt (at p)) h.tree)
 
-    -- without a bound the gap is at the end
+    -- if there is no lower bound, the gap of the bound is before the first member
     pub lower_unbounded : {result : Option Place} → result ≡ first s → result ≡ first (gap_in (meets_lower Unbounded) h.tree).back
     lower_unbounded is = is ∙ ap first (sym h.held.order) ∙ sym (ap (λ (g : Cut). first g.back) (gap_all h.tree))
 
     pub upper_unbounded : {result : Option Place} → result ≡ last s → result ≡ last (gap_in (is_beyond Unbounded) h.tree).front
     upper_unbounded is = is ∙ ap last (sym h.held.order) ∙ sym (ap (λ (g : Cut). last g.front) (gap_none h.tree))
 
-  -- and is a border of the bound
+  -- the member after the gap of a lower bound, or none, is a lower border of this bound
   pub lower_border : {v : Table E} {root : Option Place} {s : List Place} (h : Represents n v root s) (b : Bound (Place → Ordering)) {result : Option Place} → result ≡ first (gap_in (meets_lower b) h.tree).back → IsLowerBorder b s result
   lower_border h b is = record { gap = gap_in (meets_lower b) h.tree; same = gap_join (meets_lower b) h.tree ∙ h.held.order; before = is; border = gap_border (meets_lower b) h.tree }
 
   pub upper_border : {v : Table E} {root : Option Place} {s : List Place} (h : Represents n v root s) (b : Bound (Place → Ordering)) {result : Option Place} → result ≡ last (gap_in (is_beyond b) h.tree).front → IsUpperBorder b s result
   upper_border h b is = record { gap = gap_in (is_beyond b) h.tree; same = gap_join (is_beyond b) h.tree ∙ h.held.order; after = is; border = gap_border (is_beyond b) h.tree }
 
--- and vacant else, at a gap before which all is smaller and after which all is larger
+-- an entry is vacant if the member after the gap is not equal to the searched key. All members before this gap are smaller, and all after it are larger
 le_lt : (o : Ordering) → is_le o ≡ false → is_lt o ≡ false
 le_lt Less e = e
 le_lt Equal e = refl
@@ -384,7 +384,7 @@ module _ {E : Type 0} (n : E → Node) {A L H : Type 0} where
       record {
         gap = gap;
         same = gap_join (at_most_at at) h.tree ∙ h.held.order;
-        is_at = subst (λ o. IsInsertPos n v o c.side gap) (sym parent_is) (subst (λ k. IsInsertPos n v d.parent k gap) (sym side_is) x.hole);
+        is_at = subst (λ o. IsInsertPos n v o c.side gap) (sym parent_is) (subst (λ k. IsInsertPos n v d.parent k gap) (sym side_is) x.insert_pos);
         smaller = border;
         larger = record {
           fails = λ q e. le_lt (at q) (border.fails q e);
@@ -392,18 +392,18 @@ module _ {E : Type 0} (n : E → Node) {A L H : Type 0} where
         };
       }
 
--- a search for the same key
+-- two searches with equal adapters and equal keys compare in the same order
 pub same_order : {A V K : Type 0} (cmp : K → K → Ordering) (key_of : A → V → K) {a b : A} {key other : K} → b ≡ a → other ≡ key → order_of cmp (key_of b) other ≡ order_of cmp (key_of a) key
 same_order cmp key_of {a} {b} {key} {other} adapter same = ap (λ z. order_of cmp (key_of z) other) adapter ∙ ap (order_of cmp (key_of a)) same
 
--- a border of the same bound, under other words
+-- a lower border of a bound is a lower border of an equal bound
 pub lower_same : {b other : Bound (Place → Ordering)} {s : List Place} {o k : Option Place} → b ≡ other → k ≡ o → IsLowerBorder b s o → IsLowerBorder other s k
 lower_same {b} {other} {s} {o} {k} same is x = subst (λ z. IsLowerBorder z s k) same (record { gap = x.gap; same = x.same; before = is ∙ x.before; border = x.border })
 
 pub upper_same : {b other : Bound (Place → Ordering)} {s : List Place} {o k : Option Place} → b ≡ other → k ≡ o → IsUpperBorder b s o → IsUpperBorder other s k
 upper_same {b} {other} {s} {o} {k} same is x = subst (λ z. IsUpperBorder z s k) same (record { gap = x.gap; same = x.same; after = is ∙ x.after; border = x.border })
 
--- A POSITION STANDS that a search answers
+-- A POSITION THAT A SEARCH RETURNS is valid for a cursor
 module _ {L E H : Type 0} {Represents : Table E → H → List Place → Type 0} {table : L → Table E} {site : CursorState L H} {s : List Place} (shown : RepresentsAt Represents table site s) {o : Option Place} (is : site.position ≡ o) where
   pub found_stands : {at : Place → Ordering} → Finds at s o → PositionStands Represents table site
   found_stands {at} f = by (first f.gap.back) refl where

@@ -1,4 +1,4 @@
--- What an insert beside a position says, by sides.
+-- Lemmas about an insert beside a position, for either side.
 use Rattle.std.proofs.Common.{◌≡◌, List, [], ◌∷◌, Bool}
 use Rattle.std.specs.Bool.{OnTrue, OnFalse}
 use Rattle.ic_link_ops.specs.Prelude.{Place, Cut, join, Table, CursorState, RepresentsAt, IsValidCursor, LinkStep, acquires}
@@ -12,7 +12,7 @@ use Rattle.ic_cursors.proofs.Placed.{put_after, put_before}
 use Rattle.ic_rbtree.specs.Sides.{IsBeside}
 
 module _ {L E H : Type 0} {Represents : Table E → H → List Place → Type 0} {table : L → Table E} where
-  -- the gap beside a position that stands
+  -- a valid position has a gap beside it on either side, and the table represents the sequence of this gap
   pub gap_beside : {at : CursorState L H} (d : Side) → IsValidCursor Represents table at → (gap : Cut) × RepresentsAt Represents table at (join gap) × IsBeside d gap at.position
   gap_beside Left stands = gap_there stands
   gap_beside Right stands = (stands.gap, stands.shown, stands.after)

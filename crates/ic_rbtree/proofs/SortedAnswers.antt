@@ -1,4 +1,4 @@
--- For callers: in a sorted sequence the answers of keyed calls are filters of it, whatever the bounds are.
+-- Laws for callers: in a sorted sequence, calls that search by keys return what filters of the sequence keep, whatever the bounds are.
 use Rattle.std.proofs.Common.{◌≡◌, Bool, true, false, not, cond, ◌&&◌, Option, Some, None, List, [], ◌∷◌, ◌++◌, map, refl, sym, ap, ◌∙◌, append-nil, true≢false}
 use Rattle.std.specs.Cmp.{IsTotalOrder}
 use Rattle.std.specs.List.{AllByRecursion, filter}
@@ -17,7 +17,7 @@ use Rattle.ic_rbtree.proofs.RangeLaws.{range_is}
 use Rattle.ic_rbtree.proofs.Ranges.{Rises, le_fails, lt_fails}
 use Rattle.ic_rbtree.proofs.Sending.{not_ge, not_gt}
 
--- a test that is the same cuts alike
+-- if two tests agree at all places, and one of them cuts a sequence, the other cuts it too
 same_cuts : {f g : Place → Bool} {s : List Place} → ((p : Place) → f p ≡ g p) → Cuts f s → Cuts g s
 same_cuts same k = record {
   front = k.front;
@@ -27,13 +27,13 @@ same_cuts same k = record {
   pass = all_map (λ p h. sym (same p) ∙ h) k.back k.pass;
 }
 
--- a test that is never passed, or always
+-- a test that has one fixed result for all members has this result for each of them
 all_same : {X : Type 0} (b : Bool) (s : List X) → AllByRecursion (λ p. b ≡ b) s
 all_same b [] = tt
 all_same b (p ∷ s) = (refl, all_same b s)
 
--- THE GAP OF AN INSERT IN ORDER is after all that are not greater than what is searched: members with the same key stand in the
--- order of their insertion
+-- THE GAP OF AN INSERT IN ORDER is after all members that are not greater than the searched key. Therefore members with equal keys are in the order of
+-- their insertion
 pub put_after : {at : Place → Ordering} {s : List Place} → IsSortedFor at s → (gap : Cut) → join gap ≡ s → IsBorder (less_at at) gap → (p : Place)
     → insert gap p ≡ filter (λ q. not (less_at at q)) s ++ p ∷ filter (less_at at) s
 put_after {at} {s} sorted gap same border p =
@@ -49,7 +49,7 @@ not_equal Less h = refl
 not_equal Equal h = cc
 not_equal Greater h = cc
 
--- WHERE WHAT IS SEARCHED WOULD STAND, between smaller members and greater ones, a search for it finds none
+-- IF THE GAP FOR THE SEARCHED KEY is between smaller and greater members, a search for the key finds none
 pub vacant_finds : {at : Place → Ordering} {s : List Place} (gap : Cut) → join gap ≡ s → IsBorder (at_most_at at) gap → IsBorder (less_at at) gap → Finds at s None
 vacant_finds {at} gap same smaller larger = record { gap = gap; same = same; border = smaller; answer = nobody (first gap.back) refl }
   where
@@ -61,7 +61,8 @@ module _ {A V K : Type 0} {cmp : K → K → Ordering} (total : IsTotalOrder cmp
   abbrev within : Bound K → Bound (Place → Ordering)
   within bound = compared_within (order_of cmp (key_of adapter)) objects bound
 
-  -- a member that doesn't meet a lower bound has a smaller key than one that does
+  -- a member that doesn't meet a lower bound has a smaller key than a member that does. `seen` turns a comparison with a place into one with the key of its
+  -- object
   seen : (key : K) (f : Ordering → Bool) (x : Place) {u : V} {b : Bool} → object_at objects x ≡ Some u → f (compared (order_of cmp (key_of adapter) key) objects x) ≡ b
       → f (cmp key (key_of adapter u)) ≡ b
   seen key f x is h = sym (ap (λ o. f (answer_at (order_of cmp (key_of adapter) key) o)) is) ∙ h
@@ -72,16 +73,16 @@ module _ {A V K : Type 0} {cmp : K → K → Ordering} (total : IsTotalOrder cmp
   rises Unbounded = record { less = λ x y u v ex ey h g. absurd (true≢false h) }
 
   module _ {s : List Place} (placed : ArePlaced objects s) (sorted : IsSorted cmp (map (key_of adapter) (values_at objects s))) where
-    -- it is sorted for each key
+    -- a sequence that is sorted by its members' keys is sorted for each searched key
     pub for_key : (key : K) → IsSortedFor (compared (order_of cmp (key_of adapter) key) objects) s
     for_key key = sorted_for total (key_of adapter) objects key s placed sorted
 
-    -- THE FIRST EQUAL member is found
+    -- THE FIRST MEMBER that is equal to the searched key is what the search finds
     pub found_first : (key : K) {o : Option Place} → Finds (compared (order_of cmp (key_of adapter) key) objects) s o
         → o ≡ first (filter (equal_at (compared (order_of cmp (key_of adapter) key) objects)) s)
     found_first key finds = found_is (for_key key) finds
 
-    -- the members that meet a bound stand at an end of it
+    -- the members that meet a lower bound are all members after some gap of the sequence
     lower_cuts : (bound : Bound K) → Cuts (meets_lower (within bound)) s
     lower_cuts (Included key) = cuts_at_most (for_key key)
     lower_cuts (Excluded key) = cuts_less (for_key key)
@@ -92,14 +93,14 @@ module _ {A V K : Type 0} {cmp : K → K → Ordering} (total : IsTotalOrder cmp
     upper_cuts (Excluded key) = same_cuts (λ p. not_gt (compared (order_of cmp (key_of adapter) key) objects p)) (cuts_at_most (for_key key))
     upper_cuts Unbounded = record { front = s; back = []; same = append-nil s; fail = all_same false s; pass = tt }
 
-    -- THE FIRST that meets a lower bound, and the last that meets an upper one
+    -- A LOWER BORDER is the first member that meets the lower bound, and an upper border is the last member that meets the upper bound
     pub lower_first : (bound : Bound K) {o : Option Place} → IsLowerBorder (within bound) s o → o ≡ first (filter (meets_lower (within bound)) s)
     lower_first bound border = lower_is (lower_cuts bound) border
 
     pub upper_last : (bound : Bound K) {o : Option Place} → IsUpperBorder (within bound) s o → o ≡ last (filter (meets_upper (within bound)) s)
     upper_last bound border = upper_is (upper_cuts bound) border
 
-    -- A RANGE is the filter by both bounds
+    -- A RANGE consists of the members of the sequence that meet both bounds
     pub range_filter : (min max : Bound K) {w : List Place} → IsDistinct s → IsRange (within min) (within max) (runs_up cmp (key_of adapter) objects) s w
         → w ≡ filter (λ p. meets_lower (within min) p && meets_upper (within max) p) s
     range_filter min max distinct range = range_is total key_of adapter objects (rises min) (lower_cuts min) (upper_cuts max) distinct placed sorted range

@@ -1,4 +1,4 @@
--- Sequences whose objects stand by their keys: with one more, and with one less.
+-- Lemmas about sequences whose objects are in the order of their keys: one object more or one object less keeps this order.
 use Rattle.std.proofs.Common.{◌≡◌, ◌≢◌, ℕ, ◌≤◌, Bool, true, false, cond, Option, Some, None, IsSome, Result, Ok, Err, OnOk, OnErr, IfErr, List, [], ◌∷◌, ◌++◌, map, filter, refl, sym, ap, subst, arith, true≢false, ◌<◌}
 use Rattle.std.proofs.lemmas.Cmp.{nat_cmp_total, ranked}
 use Rattle.std.specs.List.{AllByRecursion, cons_option}
@@ -22,7 +22,7 @@ use Rattle.ic_rbtree.specs.Tree.{root_of}
 use Rattle.ic_rbtree.proofs.KeyLaws.{value_there, stays_sorted}
 use Rattle.ic_rbtree.proofs.SortedValues.{own_order_is}
 
--- `not greater`, as numbers have it
+-- if the number k does not compare as greater than the number l, then k is at most l
 pub up_is : (k l : ℕ) → nat_cmp k l ≢ Greater → k ≤ l
 up_is k l h = by (nat_cmp k l) refl h where
   by : (r : Ordering) → r ≡ nat_cmp k l → r ≢ Greater → k ≤ l
@@ -33,7 +33,7 @@ up_is k l h = by (nat_cmp k l) refl h where
 pub is_up : (k l : ℕ) → k ≤ l → nat_cmp k l ≢ Greater
 is_up k l h = λ e. let less : l < k = ranked k l Greater (sym e) in omega (arith, less, h)
 
--- WHAT RISES BY ITS KEYS, with one less
+-- A LIST SORTED BY KEYS stays sorted if one element is left out
 module _ {T : Type 0} (key : T → ℕ) where
   skip : (p q : T) (s : List T) → IsSorted nat_cmp (map key (p ∷ q ∷ s)) → IsSorted nat_cmp (map key (p ∷ s))
   skip p q [] h = tt
@@ -56,18 +56,18 @@ module _ {T : Type 0} (key : T → ℕ) where
   sorted_back [] back h = h
   sorted_back (p ∷ front) back h = sorted_back front back (sorted_after p (front ++ back) h)
 
-  -- THE FIRST HAS THE LEAST KEY
+  -- THE FIRST ELEMENT of a sorted list has the least key
   pub first_is_least : (p : T) (s : List T) → IsSorted nat_cmp (map key (p ∷ s)) → AllByRecursion (λ q. key p ≤ key q) s
   first_is_least p [] h = tt
   first_is_least p (q ∷ s) h = (up_is _ _ h.0, first_is_least p s (skip p q s h))
 
-  -- no key before a member is greater
+  -- in a sorted list, no key before an element p is greater than the key of p
   pub front_is_least : (front : List T) (p : T) (back : List T) → IsSorted nat_cmp (map key (front ++ p ∷ back)) → AllByRecursion (λ q. key q ≤ key p) front
   front_is_least [] p back sorted = tt
   front_is_least (q ∷ front) p back sorted =
       ((all_back (λ x. key q ≤ key x) front (p ∷ back) (first_is_least q (front ++ p ∷ back) sorted)).0, front_is_least front p back (sorted_after q (front ++ p ∷ back) sorted))
 
-  -- AND WITH ONLY THOSE that pass a test
+  -- A SORTED LIST stays sorted if only the elements that pass a test are kept. First, what holds for all elements holds for those that are kept
   all_kept : (P : T → Type 0) (test : T → Bool) (s : List T) → AllByRecursion P s → AllByRecursion P (filter test s)
   all_kept P test [] h = tt
   all_kept P test (x ∷ s) h = by (test x) (all_kept P test s h.1) where
@@ -87,11 +87,11 @@ module _ {T : Type 0} (key : T → ℕ) where
     by false rest = rest
 
 module _ {T : Type 0} (key : T → ℕ) (objects : Objects T) where
-  -- NOTHING IS SORTED: what a table represents for a new tree
+  -- THE EMPTY SEQUENCE IS SORTED: the table represents this sequence for a new tree
   pub new_is_sorted : {E : Type 0} {n : E → Node} {t : Table E} {root : Option Place} → root ≡ None → RepresentsSorted key (Trees.Represents n t root) objects
   new_is_sorted {n = n} {t} e = record { placed = record { members = []; shown = rw e (represents_nothing {n = n} t); placed = tt }; sorted = tt }
 
-  -- the keys of the placed objects, as the laws of sorted sequences have them
+  -- if all members are placed, the list of the keys at the members is the list of the keys of their values
   pub keys_are : (s : List Place) → ArePlaced objects s → keys_at key objects s ≡ map key (values_at objects s)
   keys_are [] placed = refl
   keys_are (p ∷ s) placed = by (object_at objects p) placed.0 (keys_are s placed.1) where
@@ -99,7 +99,7 @@ module _ {T : Type 0} (key : T → ℕ) (objects : Objects T) where
     by None h rest = absurd (true≢false (sym h))
     by (Some v) h rest = ap (λ l. key v ∷ l) rest
 
-  -- WHATEVER SEQUENCE IS SHOWN, as the laws of sorted sequences take it
+  -- THE SEQUENCE THAT IS REPRESENTED has an object at each member, and the keys of these objects are sorted
   pub represented_sorted : {shows : List Place → Type 0} → ((s u : List Place) → shows s → shows u → s ≡ u) → RepresentsSorted key shows objects → {s : List Place} → shows s
       → ArePlaced objects s × IsSorted nat_cmp (map key (values_at objects s))
   represented_sorted one q {s} shown =
@@ -107,7 +107,7 @@ module _ {T : Type 0} (key : T → ℕ) (objects : Objects T) where
       let sorted = subst (IsSorted nat_cmp) (keys_are q.placed.members q.placed.placed) q.sorted in
       (subst (ArePlaced objects) same q.placed.placed, subst (λ (t : List Place). IsSorted nat_cmp (map key (values_at objects t))) same sorted)
 
-  -- as for the placed ones
+  -- if the table represents a sorted sequence, and a place with an object is inserted in order, the table represents a sorted sequence again
   inserted : {E H : Type 0} (Represents : Table E → H → List Place → Type 0) (old new : Table E) (head new_head : H) {p : Place} → IsSome (object_at objects p)
       → (q : RepresentsSorted key (Represents old head) objects) → InsertsInOrder Represents (against key objects p) old new new_head q.placed.members p → RepresentsSorted key (Represents new new_head) objects
   inserted Represents old new head new_head {p} here q x =
@@ -122,7 +122,7 @@ module _ {T : Type 0} (key : T → ℕ) (objects : Objects T) where
         sorted = subst (IsSorted nat_cmp) (sym (keys_are (insert x.gap p) all)) (stays_sorted nat_cmp_total key objects p own.1 x.gap placed sorted border);
       }
 
-  -- WHAT IS SHOWN STAYS SORTED when a tree puts an object in where its key belongs, or refuses it,
+  -- A SORTED SEQUENCE STAYS SORTED if a tree inserts an object where its key belongs, or if the insert is refused
   pub sorted_inserted : {A L E : Type 0} {n : E → Node} {table : L → Table E} {Refused : L → L → Place → Type 0} → ((a b : L) (q : Place) → Refused a b q → table b ≡ table a)
       → {old new : L} (tree after : RBTree A (Option Place)) (p : Place) → IsSome (object_at objects p) → (q : RepresentsSorted key (Trees.Represents n (table old) (root_of tree)) objects)
       → {X Y : Type 0} (r : Result X (AlreadyLinked Y)) → OnOk r (InsertsInOrder (Trees.Represents n) (against key objects p) (table old) (table new) (root_of after) q.placed.members p)
@@ -133,7 +133,7 @@ module _ {T : Type 0} (key : T → ℕ) (objects : Objects T) where
     sorted = q.sorted;
   }
 
-  -- and when a member is taken off
+  -- a sorted sequence stays sorted if a member is removed
   module _ {old new : List Place → Type 0} (one : (s u : List Place) → old s → old u → s ≡ u) where
     pub sorted_less : {p : Place} → HasMember old p → ((front back : List Place) → old (front ++ p ∷ back) → new (front ++ back))
         → RepresentsSorted key old objects → RepresentsSorted key new objects
@@ -145,14 +145,14 @@ module _ {T : Type 0} (key : T → ℕ) (objects : Objects T) where
         }
 
   module _ {L E H : Type 0} {Represents : Table E → H → List Place → Type 0} {table : L → Table E} {Trace : L → L → List LinkStep → Type 0} {old new : CursorState L H} where
-    -- and when a member is taken off at a position
+    -- a sorted sequence stays sorted if the member at a position is removed
     pub sorted_taken : ((s u : List Place) → RepresentsAt Represents table old s → RepresentsAt Represents table old u → s ≡ u) → IsValidCursor Represents table old → (r : Option Place)
         → RemovesThere Represents table Trace old r new → RepresentsSorted key (RepresentsAt Represents table old) objects → RepresentsSorted key (RepresentsAt Represents table new) objects
     sorted_taken one stands None off q = subst (λ (z : CursorState L H). RepresentsSorted key (RepresentsAt Represents table z) objects) (sym off.null) q
     sorted_taken one stands (Some p) off q = sorted_less one (member_there stands (sym off.answer))
         (λ front back shown. (off.removed (record { front = front; back = p ∷ back }) shown (sym off.answer)).shows) q
 
--- THE ORDER STAYS where what stands at one place changes, which is no member
+-- THE ORDER STAYS if only the object at one place changes, and this place is no member
 module _ {T : Type 0} (key : T → ℕ) (old new : Objects T) (p : Place) (others : (q : Place) → q ≢ p → object_at new q ≡ object_at old q) where
   keys_beside : (s : List Place) → IsAbsent p s → keys_at key new s ≡ keys_at key old s
   keys_beside [] out = refl

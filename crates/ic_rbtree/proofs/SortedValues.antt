@@ -1,4 +1,4 @@
--- For callers: a tree and its objects, after each kind of step.
+-- Laws for callers about a tree and its objects after each kind of step.
 use Rattle.std.proofs.Common.{◌≡◌, ◌≢◌, Bool, true, Option, Some, None, IsSome, List, [], ◌∷◌, ◌++◌, map, drop, refl, sym, ap, ◌∙◌, subst, true≢false}
 use Rattle.std.proofs.lemmas.List.Elements.{filter_map-append}
 use Rattle.std.specs.Cmp.{IsTotalOrder}
@@ -19,7 +19,7 @@ use Rattle.ic_rbtree.specs.SortedValues.{HasSorted, InsertsValue}
 use Rattle.ic_rbtree.proofs.KeyLaws.{cuts_less, one_border, sorted_for, sorted_tail, stays_sorted}
 
 module _ {V K : Type 0} (cmp : K → K → Ordering) (key_of : V → K) (objects : Objects V) where
-  -- AN OBJECT'S OWN ORDER, as an insert has it, is that of its key, as the laws of sorted sequences have it
+  -- THE ORDER OF AN OBJECT'S OWN KEY, by which an insert compares, is the order of the key of the value at its place
   pub own_order_is : (p : Place) {v : V} → object_at objects p ≡ Some v → compared (own_order cmp key_of objects p) objects ≡ compared (order_of cmp key_of (key_of v)) objects
   own_order_is p there = ap (λ (o : Option V). compared (λ value. answer_at (λ own. cmp (key_of own) (key_of value)) o) objects) there
 
@@ -33,7 +33,7 @@ module _ {V K : Type 0} {cmp : K → K → Ordering} (total : IsTotalOrder cmp) 
     by None here less rest = absurd (true≢false (sym here))
     by (Some x) here less rest = (less, rest)
 
-  -- BEHIND A BORDER OF A KEY in a sorted sequence all keys are greater
+  -- AFTER A BORDER OF A KEY in a sorted sequence, all keys are greater than this key
   pub greater_after : (k : K) (gap : Cut) → ArePlaced objects (join gap) → IsSorted cmp (map key_of (values_at objects (join gap)))
       → IsBorder (less_at (compared (order_of cmp key_of k) objects)) gap → AllByRecursion (λ x. is_lt (cmp k (key_of x)) ≡ true) (values_at objects gap.back)
   greater_after k gap placed sorted border =
@@ -44,7 +44,7 @@ module _ {V K : Type 0} {cmp : K → K → Ordering} (total : IsTotalOrder cmp) 
 
 module _ {V K E H : Type 0} {Represents : Table E → H → List Place → Type 0} {linked : E → Bool} {empty : H} (kind : IsKind Represents linked empty)
     {cmp : K → K → Ordering} (total : IsTotalOrder cmp) {key_of : V → K} where
-  -- A TABLE THAT LINKS NOTHING has an empty tree
+  -- A TABLE WITHOUT LINKED PLACES has a tree without members
   pub has_none : {t : Table E} {root : H} (objects : Objects V) → root ≡ empty → ((p : Place) → IsUnlinked linked t p) → HasSorted cmp key_of Represents linked t root objects []
   has_none {t} objects none unlinked = record {
     members = [];
@@ -55,7 +55,7 @@ module _ {V K E H : Type 0} {Represents : Table E → H → List Place → Type 
   }
 
   module _ {old : Table E} {root : H} {objects : Objects V} {values : List V} (has : HasSorted cmp key_of Represents linked old root objects values) where
-    -- AFTER `cover`, whatever it answered
+    -- AFTER `cover`, whatever its result is, the table still has the tree with these values
     pub has_covered : {new : Table E} → ((q : Place) → new.entry q ≡ old.entry q) → HasSorted cmp key_of Represents linked new root objects values
     has_covered stays = record {
       members = has.members;
@@ -65,7 +65,7 @@ module _ {V K E H : Type 0} {Represents : Table E → H → List Place → Type 
       only = λ p out. ap linked (stays p) ∙ has.only p out;
     }
 
-    -- AFTER AN OBJECT was placed or taken out that is not linked here
+    -- AFTER AN OBJECT THAT IS NOT LINKED was placed or taken out, the table still has the tree with these values
     pub has_beside : {new : Objects V} {p : Place} → IsUnlinked linked old p → ((q : Place) → q ≢ p → object_at new q ≡ object_at objects q)
         → HasSorted cmp key_of Represents linked old root new values
     has_beside {new} {p} off same = record {
@@ -76,7 +76,7 @@ module _ {V K E H : Type 0} {Represents : Table E → H → List Place → Type 
       only = has.only;
     }
 
-    -- AFTER `from_box` AND AN INSERT IN ORDER of the new object
+    -- AFTER `from_box` AND AN INSERT IN ORDER of the new object, the table has the tree with one value more
     module _ {new : Table E} {after : H} {more : Objects V} {p : Place} {v : V} (places : Places objects more p v)
         (put : (s : List Place) → Represents old root s → InsertsInOrder Represents (compared (own_order cmp key_of more p) more) old new after s p) (also : LinksAlso linked old new p) where
       pub has_inserted : (all : List V) × InsertsValue cmp key_of values v all × HasSorted cmp key_of Represents linked new after more all
@@ -115,7 +115,7 @@ module _ {V K E H : Type 0} {Represents : Table E → H → List Place → Type 
           rises : IsSorted cmp (map key_of (values_at more gap.front ++ v ∷ values_at more gap.back))
           rises = subst (λ l. IsSorted cmp (map key_of l)) stand.are (stays_sorted total key_of more p (placed_there places) gap stood.placed sorted border)
 
-    -- AFTER A REMOVAL OF THE FIRST, which stays placed
+    -- AFTER A REMOVAL OF THE FIRST MEMBER, whose object stays placed, the table has the tree without the first value
     module _ {p : Place} {v : V} (is : Some p ≡ first has.members) (there : object_at objects p ≡ Some v) where
       pub has_first : values ≡ v ∷ drop 1 values
       has_first = stand_first objects p there is has.stand

@@ -1,4 +1,4 @@
--- Down a side of a tree, counting its black members.
+-- Lemmas about a descent along one side of a tree, which counts the black members.
 use Rattle.std.proofs.Common.{◌≡◌, ℕ, suc, ◌+◌, ◌-◌, ◌≤◌, true, Option, Some, None, List, ◌∷◌, length, refl, sym, ap, ◌∙◌, subst, arith}
 use Rattle.std.proofs.Math.Nat.{le-max_left}
 use Rattle.ic_link_ops.specs.Prelude.{Place, Table}
@@ -22,7 +22,7 @@ pub none_is_leaf : (t : Tree) → None ≡ top t → t ≡ leaf
 none_is_leaf leaf e = refl
 none_is_leaf (fork c a p b) e = absurd (none_not p e)
 
--- a weight of 1 is black
+-- a color of the weight 1 is black
 pub black_weight : (c : Color) → weight c ≡ 1 → c ≡ Black
 black_weight Red e = absurd (omega (arith, e))
 black_weight Black e = refl
@@ -32,7 +32,7 @@ weight_small Red = omega arith
 weight_small Black = omega arith
 
 module _ {E : Type 0} (n : E → Node) where
-  -- at the root of a tree
+  -- AT THE ROOT p OF A TREE: p is linked, and the record has its color, its left subtree, and their black heights
   pub record AtRoot (entry : Place → E) (p : Place) (t : Tree) : Type 0 where
     pub linked : (n (entry p)).linked ≡ true
     pub color : (n (entry p)).color ≡ top_color t
@@ -54,10 +54,10 @@ module _ {E : Type 0} (n : E → Node) where
     lower = omega (arith, le-max_left (height a) (height b));
   })
 
-  -- one step down the side
+  -- ONE STEP DOWN THE SIDE from the subtree u, which is below the frames gs
   module _ {base v : Table E} {root : Option Place} {d : Side} {t : Tree} {ps : List Piece} {at parent : Option Place} {count : ℕ} (gs : List Frame) (u : Tree)
       (x : IsSpine n base v root d t ps at parent count gs u) where
-    -- the same place, in other words
+    -- if `near` equals the place to which the descent has come, and `want` is the black height of u, the state of the descent holds for both
     pub spine_as : {near : Option Place} {want : ℕ} → near ≡ at → blacks u ≡ want → IsSpine n base v root d t ps near parent want gs u
     spine_as same are = record { stands = x.stands; same = x.same; near_is = same ∙ x.near_is; parent_is = x.parent_is; side_is = x.side_is; nothing = x.nothing; blacks_are = are }
 

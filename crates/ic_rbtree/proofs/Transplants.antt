@@ -1,4 +1,4 @@
--- A member is spliced out, and a place takes another's.
+-- A member with at most one child is taken out of a tree, and a place takes the position of a member.
 use Rattle.std.proofs.Common.{◌≡◌, ℕ, ◌+◌, inl, inr, true, Option, Some, None, List, [], ◌∷◌, ◌++◌, refl, sym, ap, ◌∙◌, subst, arith, append-nil}
 use Rattle.ic_link_ops.specs.Prelude.{Place, Table, ChangesOnly}
 use Rattle.ic_link_ops.specs.declared.color.Color.{Color}
@@ -40,7 +40,7 @@ pub not_red_black : (c : Color) → (c ≡ Red → ⊥) → c ≡ Black
 not_red_black Red h = absurd (h refl)
 not_red_black Black h = refl
 
--- what is missing where a member is spliced out
+-- if a member with at most one child is taken out of a tree of the right shape, only this member is missing between the frames and its subtree
 pub gap_open : (c : Color) (fs : List Frame) (a : Tree) (p : Place) (b : Tree) → IsLone a b → IsRight (plug fs (fork c a p b)) → IsGap c fs (only a b)
 gap_open c fs a p b h r = let o = shape_open fs (fork c a p b) r in open_gap a b h o.0 o.1 o.2 o.3 where
   open_gap : (a b : Tree) → IsLone a b → NoRedPair (fork c a p b) → IsEven (fork c a p b) → PairsAround fs → EvenAround fs (weight c + blacks a) → IsGap c fs (only a b)
@@ -68,9 +68,9 @@ module _ {E : Type 0} (n : E → Node) where
   side_on v base root [] t ps q parent d h e up is = tt
   side_on v base root (frame k c p b ∷ fs) t ps q parent d h e up is = side_found n v base root k c p b fs t ps q d h e (is p up)
 
-  -- the ways in which a gap is closed
+  -- the child of the missing member gets its new parent. The lemmas state the resulting tree for each case
   module _ {v : Table E} {root child parent : Option Place} {d : Side} {c : Color} {k : Focus E} (h : Gap n v root c child parent d k) where
-    -- a missing child names no parent
+    -- if the missing member has no child, no parent has to be set, and the empty subtree counts as black
     bare : child ≡ None → IsInFocus n v root k × (top_color k.subtree ≡ Black)
     bare none = at k.subtree h.stands (sym h.child_is ∙ none) where
       at : (t : Tree) → Held n k.base v (around root k.frames (top t) ∷ below h.named t ∷ k.pieces) → top t ≡ None
@@ -101,7 +101,7 @@ module _ {E : Type 0} (n : E → Node) where
       order = h.order;
     }
 
-    -- a lone child is red, and so the member was black
+    -- if the missing member has a child, the child is red and the member was black. The child turns black, and the tree is right
     pub close_lone : {w : Table E} (q : Place) → child ≡ Some q → n (w.entry q) ≡ record (n (v.entry q)) { parent = parent; color = Black } → ChangesOnly v w q → IsRestored n w root k
     close_lone {w} q is set only = at k.subtree h where
       at : (t : Tree) → Gap n v root c child parent d (record k { subtree = t }) → IsRestored n w root k
@@ -122,11 +122,11 @@ module _ {E : Type 0} (n : E → Node) where
             shape = right_plug k.frames all (red_not_black, h.gap.pairs.1, h.gap.pairs.2) h.gap.even h.gap.pairs_around (subst (λ (m : ℕ). EvenAround k.frames m) level h.gap.even_around) (λ r. refl);
           }
 
-  -- the tree without the member
+  -- the tree without the member, in which its only subtree is in focus
   abbrev pub without : Table E → List Frame → Parts → List Piece → Focus E
   without base fs x ps = record { base = base; sequence = before fs ++ (in_order (only x.left x.right) ++ after fs); frames = fs; subtree = only x.left x.right; pieces = ps }
 
-  -- THE WRITES OF TAKING OUT
+  -- THE WRITE THAT TAKES OUT THE MEMBER p: the child of p becomes the child of the parent of p
   pub taken_out : {base v v1 : Table E} (root new_root child parent : Option Place) (k : Color) (d : Side) (fs : List Frame) (y : Parts) (p : Place) (ps : List Piece)
       → child ≡ or_else (n (v.entry p)).left (n (v.entry p)).right → parent ≡ (n (v.entry p)).parent → k ≡ (n (v.entry p)).color → IsSideBelow n v p parent d
       → ChangesChild n v v1 root new_root parent p child
@@ -161,7 +161,7 @@ module _ {E : Type 0} (n : E → Node) where
       lone_times q (fork c a p b) r (inl e) = cc
       lone_times q (fork c a p b) r (inr e) = omega (arith, ap (λ (t : Tree). times q t) e)
 
-  -- what is read where a member stands
+  -- the member p, its children and its parent are linked, so that they can be read
   pub record Reads (v : Table E) (p : Place) : Type 0 where
     pub here : (n (v.entry p)).linked ≡ true
     pub left : (q : Place) → (n (v.entry p)).left ≡ Some q → (n (v.entry q)).linked ≡ true
@@ -178,7 +178,7 @@ module _ {E : Type 0} (n : E → Node) where
         parent = λ q e. around_linked n v.entry fs (Some p) q h.are.0.0 (sym at.parent ∙ e);
       }
 
-  -- THE WRITES OF TAKING A PLACE
+  -- THE WRITES by which the place `new` takes the position of p: the parent and the children of p get `new`, and `new` gets them
   pub taken_place : (v v1 v2 v3 w : Table E) (root new_root left right parent : Option Place) (color : Color) (p new : Place)
       → parent ≡ (n (v.entry p)).parent → left ≡ (n (v.entry p)).left → right ≡ (n (v.entry p)).right → color ≡ (n (v.entry p)).color
       → ChangesChild n v v1 root new_root parent p (Some new) → Adopts n v1 v2 left (Some new) → Adopts n v2 v3 right (Some new)

@@ -1,4 +1,4 @@
--- Vines: cut and glued at a member, hung after, grown into trees, and laid out of them.
+-- Lemmas about vines: a vine is cut at a member and put together again, a place is appended, a vine becomes a tree, and a tree becomes a vine.
 use Rattle.std.proofs.Common.{◌≡◌, ℕ, zero, suc, max, inl, inr, ◌+◌, ◌-◌, ◌/◌, ◌^◌, ◌≤◌, ◌<◌, true, Option, Some, None, List, [], ◌∷◌, ◌++◌, length, refl, sym, ap, ◌∙◌, subst, arith, length-append}
 use Rattle.std.proofs.Math.Nat.{le-max_left, le-max_right, max-eq_left, max-eq_right}
 use Rattle.std.proofs.lemmas.Bool.{cases_lt}
@@ -26,14 +26,14 @@ use Rattle.ic_rbtree.proofs.Rotations.{below_linked, close_below}
 use Rattle.ic_rbtree.proofs.Branches.{as_branch, top_leaf}
 use Rattle.ic_rbtree.specs.Height.{height, IsLowest}
 
--- the sequence around its member number k
+-- a sequence with more than k members consists of k members, the next member p, and the rest
 pub split_at : (k : ℕ) (s : List Place) → k < length s → (a : List Place) × (p : Place) × (b : List Place) × (s ≡ a ++ p ∷ b) × (length a ≡ k)
 split_at k [] h = absurd (omega (arith, h))
 split_at zero (x ∷ s) h = ([], x, s, refl, refl)
 split_at (suc k) (x ∷ s) h =
     let r = split_at k s (omega (arith, h)) in (x ∷ r.0, r.1, r.2, ap (λ (l : List Place). x ∷ l) r.3, omega (arith, r.4))
 
--- what distinct places tell of a member and of both sides of it
+-- if the places of a sequence are distinct, the member p is in neither side of the sequence, and the two sides share no place
 pub record Apart (a : List Place) (p : Place) (b : List Place) : Type 0 where
   pub front : IsDistinct a
   pub back : IsDistinct b
@@ -53,7 +53,8 @@ outside : (q : Place) (s t : List Place) → IsDisjoint s t → IsMember q t →
 outside q [] t d m = tt
 outside q (x ∷ s) t d m = ((λ e. m (rw e d.0)), outside q s t d.1 m)
 
--- half of them and the other half, but one, are as many as trees may have that are one lower
+-- `count` members are divided into `before` members, one middle member, and the rest. A tree of the black height `lower` can have as many members as either
+-- part
 pub record Halved (count height before lower : ℕ) : Type 0 where
   pub enough : 2 ^ lower ≤ before + 1
   pub few : before + 1 ≤ 2 ^ (lower + 1)
@@ -101,7 +102,7 @@ pow_max a b m h k = elim (cases_lt a b) [
   | inr more ↦ omega (arith, h, ap (λ (z : ℕ). 2 ^ z) (max-eq_left {n = a} {m = b} more))
 ]
 
--- of a tree that is as low as can be, and of one that has one member more at most
+-- if a tree has the least height, and at most m + 1 members, then 2 ^ height is at most the number of its members plus m + 1
 lowest_even : (t : Tree) (m : ℕ) → IsLowest t → length (in_order t) ≤ m + 1 → 2 ^ height t ≤ length (in_order t) + m + 1
 lowest_even leaf m low few = omega arith
 lowest_even (fork c a p b) m low few = omega (arith, low, few, pow-add 2 1 (max (height a) (height b)))
@@ -115,36 +116,36 @@ lowest_fork c a p b less few low_a low_b =
     omega (arith, all, most, pow-add 2 1 (max (height a) (height b)))
 
 module _ {E : Type 0} (n : E → Node) where
-  -- what stands before a vine doesn't count
+  -- a vine stays a vine if another place is before it
   pub vine_from : (t : Place → E) (b b' : Option Place) (s : List Place) (a : Option Place) → IsChain (IsFollowed (along n)) t b s a → IsChain (IsFollowed (along n)) t b' s a
   vine_from t b b' [] a c = tt
   vine_from t b b' (x ∷ s) a c = (record { linked = c.0.linked; next = c.0.next }, c.1)
 
-  -- a vine is cut at a member,
+  -- a vine is cut at its member p into the vine before p and the vine after p
   pub vine_cut : (t : Place → E) (s : List Place) (p : Place) (r : List Place) (a : Option Place) → IsVine n t (s ++ p ∷ r) a
       → IsVine n t s (Some p) × ((n (t p)).linked ≡ true) × ((n (t p)).right ≡ first_or r a) × IsVine n t r a
   vine_cut t s p r a c =
       let k = chain_cut (IsFollowed (along n)) t None s (p ∷ r) a c in (k.0, k.1.0.linked, k.1.0.next, vine_from t (Some p) None r a k.1.1)
 
-  -- and glued at one
+  -- a vine that ends before p, the linked place p, and the vine that follows p are one vine
   pub vine_glue : (t : Place → E) (s : List Place) (p : Place) (r : List Place) (a : Option Place) → IsVine n t s (Some p)
       → (n (t p)).linked ≡ true → (n (t p)).right ≡ first_or r a → IsVine n t r a → IsVine n t (s ++ p ∷ r) a
   vine_glue t s p r a front linked right back =
       chain_glue (IsFollowed (along n)) t None s (p ∷ r) a front (record { linked = linked; next = right }, vine_from t None (Some p) r a back)
 
-  -- its first member is linked
+  -- the first member of a vine, or the end after it if the vine is empty, is none or linked
   pub vine_named : (v : Table E) (s : List Place) (a : Option Place) → IsVine n v.entry s a → IsNamed n v a → IsNamed n v (first_or s a)
   vine_named v [] a c named = named
   vine_named v (x ∷ s) a c named = λ q e. subst (λ z. IsNode n v z) (some_same e) c.0.linked
 
-  -- trees and vines stay where only entries of other places change
+  -- trees and vines stay as they are if only entries of other places are changed
   pub tree_beside : (v w : Table E) (up : Option Place) (t : Tree) (s : List Place) → IsDisjoint s (in_order t) → ChangesOnlyIn v w s → IsTree n v.entry up t → IsTree n w.entry up t
   tree_beside v w up t s d keeps = tree_kept n v.entry w.entry up t (λ q m. keeps.others q (outside q s (in_order t) d m))
 
   pub vine_beside : (v w : Table E) (r : List Place) (a : Option Place) (s : List Place) → IsDisjoint r s → ChangesOnlyIn v w s → IsVine n v.entry r a → IsVine n w.entry r a
   vine_beside v w r a s d keeps = chain_frame (IsFollowed (along n)) v.entry w.entry None r a s d keeps.others
 
-  -- A VINE, CUT IN TWO HALVES at a member
+  -- A VINE IS CUT IN TWO HALVES at its middle member
   module _ {v : Table E} {first : Option Place} {count height : ℕ} {s : List Place} {after : Option Place} (x : IsVineOf n v first count height s after)
       {before lower : ℕ} (some : 1 ≤ count) (half : before ≡ (count - 1) / 2) (low : lower ≡ height - 1) where
     abbrev pub halves : (a : List Place) × (p : Place) × (b : List Place) × (s ≡ a ++ p ∷ b) × (length a ≡ before)
@@ -169,7 +170,7 @@ module _ {E : Type 0} (n : E → Node) where
       few = sizes.few;
     }
 
-    -- while the front half is a tree,
+    -- the front half of the vine has become a tree, and `place` is the middle member
     module _ {v1 : Table E} {left middle : Option Place} (g : BecomesTree n v v1 left middle lower halves.0 (Some halves.1)) {place : Place} (is : middle ≡ Some place) where
       abbrev pub at_place : halves.1 ≡ place
       at_place = some_same (sym g.next_is ∙ is)
@@ -180,7 +181,7 @@ module _ {E : Type 0} (n : E → Node) where
       pub place_linked : IsNode n v1 place
       place_linked = ap (λ (e : E). (n e).linked) entry_same ∙ subst (λ z. (n (v.entry z)).linked ≡ true) at_place cut.1
 
-      -- the other half follows on the member between them
+      -- after the front half has become a tree, the back half is still a vine, which begins at the right child of the middle member
       pub back_half : {next : Option Place} → next ≡ (n (v1.entry place)).right → IsVineOf n v1 next (count - 1 - before) lower halves.2 after
       back_half read = record {
         vine = vine_beside v v1 halves.2 after halves.0 parts.back_front g.frame cut.3;
@@ -191,7 +192,7 @@ module _ {E : Type 0} (n : E → Node) where
         few = sizes.few_after;
       }
 
-      -- AND BOTH TREES HANG BELOW IT
+      -- BOTH HALVES HAVE BECOME TREES and are made the left and the right subtree of the middle member
       module _ {v2 : Table E} {right rest : Option Place} (h : BecomesTree n v1 v2 right rest lower halves.2 after) where
         whole : s ≡ halves.0 ++ place ∷ halves.2
         whole = subst (λ z. s ≡ halves.0 ++ z ∷ halves.2) at_place halves.3
@@ -262,7 +263,7 @@ module _ {E : Type 0} (n : E → Node) where
             omega (arith, ap length h.order, x.counted, ap length halves.3, length-append halves.0 (halves.1 ∷ halves.2), halves.4),
           )
 
-          -- a red member has nothing below
+          -- if the middle member is red, both subtrees are empty, so a red member has no red child
           below_red : c ≡ Red → (top_color g.tree ≡ Black) × (top_color h.tree ≡ Black)
           below_red e =
               let none : height ≡ 0 = omega (arith, weighs, ap weight e) in
@@ -286,7 +287,7 @@ module _ {E : Type 0} (n : E → Node) where
             frame = record { extent = hung.extent ∙ (h.frame.extent ∙ g.frame.extent); others = others };
           }
 
-  -- NO MEMBERS make the empty tree
+  -- A VINE WITHOUT MEMBERS becomes the empty tree
   pub none_left : {v : Table E} {first : Option Place} {count height : ℕ} {s : List Place} {after : Option Place} → IsVineOf n v first count height s after → count ≡ 0
       → BecomesTree n v v None first height s after
   none_left {v} {first} {count} {height} {s} {after} x none =
@@ -306,7 +307,8 @@ module _ {E : Type 0} (n : E → Node) where
         frame = record { extent = refl; others = λ q out. refl };
       }
 
-  -- A TREE IS LAID OUT: first what is on the right of its root, then the root, and then what is on the left
+  -- A TREE BECOMES A VINE in three steps. The right subtree of the root becomes a vine, the root is put before this vine, and the left subtree becomes a
+  -- vine before the root
   module _ {v : Table E} {root up : Option Place} {t : Tree} (x : IsTreeOf n v root up t) {place : Place} (is : root ≡ Some place) where
     abbrev pub opened : (a : Tree) × (b : Tree) × (t ≡ fork (top_color t) a place b)
     opened = as_branch Left t place (sym x.root_is ∙ is)

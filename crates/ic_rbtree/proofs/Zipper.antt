@@ -1,4 +1,4 @@
--- One step up or down a tree, across to a sibling, and a member painted.
+-- A change of the subtree in focus: one step up or down a tree, or across to a sibling. Also, a member gets another color.
 use Rattle.std.proofs.Common.{◌≡◌, Option, Some, List, [], ◌∷◌, refl, sym, subst, arith}
 use Rattle.ic_link_ops.specs.Prelude.{Place, Table, ChangesOnly}
 use Rattle.ic_link_ops.specs.declared.color.Color.{Color}
@@ -12,7 +12,7 @@ use Rattle.ic_rbtree.proofs.Pieces.{regroup, set_tint}
 use Rattle.ic_rbtree.proofs.Rotations.{open_at, close_at}
 
 module _ {E : Type 0} (n : E → Node) where
-  -- up: the lowest frame joins the tree
+  -- ONE STEP UP: the lowest frame and the subtree below it become one subtree
   pub go_up : {base v : Table E} {root : Option Place} {d : Side} {c : Color} {p : Place} {b : Tree} {fs : List Frame} {t : Tree} {ps : List Piece}
       → ClimbState n base v root (frame d c p b ∷ fs) t ps → ClimbState n base v root fs (branch d c t p b) ps
   go_up {base} {v} {root} {d} {c} {p} {b} {fs} {t} {ps} h =
@@ -27,20 +27,20 @@ module _ {E : Type 0} (n : E → Node) where
       regroup n (around root (frame d c p b ∷ fs) (top t) ∷ below (Some p) t ∷ ps) h1
       (λ q. omega arith) (((h1.are.0, h1.are.1.1.0, h1.are.1.1.1.0.0), h1.are.1.1.1.0.1), (h1.are.1.0, h1.are.1.1.1.1))
 
-  -- to the sibling, by way of the parent
+  -- ONE STEP TO THE SIBLING: the sibling becomes the subtree in focus, and the old subtree becomes part of the lowest frame
   pub go_across : {base v : Table E} {root : Option Place} {d : Side} {c : Color} {p : Place} {b : Tree} {fs : List Frame} {t : Tree} {ps : List Piece}
       → ClimbState n base v root (frame d c p b ∷ fs) t ps → ClimbState n base v root (frame (across d) c p t ∷ fs) b ps
   go_across {base} {v} {root} {d} {c} {p} {b} {fs} {t} {ps} h =
       go_down (across d) c p t b (subst (λ (x : Tree). ClimbState n base v root fs x ps) (sym (branch_across d c t p b)) (go_up h))
 
-  -- all the way up
+  -- ALL STEPS UP: all frames and the subtree become the whole tree
   pub go_top : {base v : Table E} {root : Option Place} {fs : List Frame} {t : Tree} {ps : List Piece} → ClimbState n base v root fs t ps → ClimbState n base v root [] (plug fs t) ps
   go_top {base} {v} {root} {fs} {t} {ps} h = climb fs t h where
     climb : (fs : List Frame) (t : Tree) → ClimbState n base v root fs t ps → ClimbState n base v root [] (plug fs t) ps
     climb [] t h = h
     climb (frame d c p b ∷ fs) t h = climb fs (branch d c t p b) (go_up h)
 
-  -- THE ROOT OF A SUBTREE IS PAINTED
+  -- THE ROOT OF A SUBTREE gets another color, and nothing else in the table changes
   pub painted_top : {base v w : Table E} {root : Option Place} {fs : List Frame} {ps : List Piece} {x y : Color} {q : Place} (d : Side) (c : Color) (a : Tree) (p : Place) (b : Tree)
       → q ≡ p → y ≡ x → n (w.entry q) ≡ record (n (v.entry q)) { color = y } → ChangesOnly v w q
       → ClimbState n base v root fs (branch d c a p b) ps → ClimbState n base w root fs (branch d x a p b) ps
@@ -48,7 +48,7 @@ module _ {E : Type 0} (n : E → Node) where
       close_at n root (top a) (top b) fs d x a p b ps refl refl
       (set_tint n d p c (top a) (top b) (above fs) (below (Some p) a ∷ below (Some p) b ∷ around root fs (Some p) ∷ ps) (open_at n root fs d c a p b ps h) q y x eq ey set only)
 
-  -- the member right above is painted
+  -- the member right above the subtree gets another color, and nothing else in the table changes
   pub painted_above : {base v w : Table E} {root : Option Place} {d : Side} {c x y : Color} {p q : Place} {b : Tree} {fs : List Frame} {t : Tree} {ps : List Piece}
       → q ≡ p → y ≡ x → n (w.entry q) ≡ record (n (v.entry q)) { color = y } → ChangesOnly v w q
       → ClimbState n base v root (frame d c p b ∷ fs) t ps → ClimbState n base w root (frame d x p b ∷ fs) t ps

@@ -9,6 +9,6 @@ steps_up zero parent o = 0
 steps_up (suc k) parent None = 0
 steps_up (suc k) parent (Some p) = suc (steps_up k parent (parent p))
 
--- the members on the path up from a place
+-- the depth of a place: the number of members on the path from the place up to the root, both included
 abbrev pub depth : {E : Type 0} → (E → Node) → Table E → Option Place → ℕ
 depth n v o = steps_up v.extent.places (λ q. (n (v.entry q)).parent) o

@@ -1,4 +1,4 @@
--- The split of a tree at a hole, from the hole up.
+-- A loop splits a tree at a hole, which is a missing child. The loop goes from the hole up to the root.
 use Rattle.std.specs.Prelude.{◌≡◌, ℕ, ◌+◌, ◌<◌, length, Option, Some, None, List, ◌∷◌, ◌++◌}
 use Rattle.ic_link_ops.specs.Prelude.{Place, Cut, Table}
 use Rattle.ic_link_ops.specs.declared.color.Color.{Color}
@@ -14,8 +14,9 @@ use Rattle.ic_rbtree.specs.Pieces.{Piece, below, around, Held}
 use Rattle.ic_rbtree.specs.Removal.{IsOn}
 use Rattle.ic_rbtree.specs.Shortage.{PairsAround, EvenAround}
 
--- the state of the loop: the old table, the gap, the frames above the hole, the child that the lowest frame names there, the number
--- of black members on each path down there, both parts of what was below, and the pieces beside the tree
+-- THE STATE OF THE LOOP that splits a tree: the old table, the gap, and the frames above the hole. The state also has the child that the lowest frame's
+-- member still has at the hole, and the number of black members on each path down there. `front` and `back` are the two trees made of the members below,
+-- and `pieces` are the pieces beside the tree
 pub record CutUp (E : Type 0) : Type 0 where
   pub base : Table E
   pub gap : Cut
@@ -27,8 +28,8 @@ pub record CutUp (E : Type 0) : Type 0 where
   pub pieces : List Piece
 
 module _ {E : Type 0} (n : E → Node) where
-  -- THE LOOP'S INVARIANT: both parts are trees of the right shape with these black heights, and together with the frames they have
-  -- the members on both sides of the gap
+  -- THE LOOP'S INVARIANT: both parts are trees of the right shape, and `left` and `right` have their roots and black heights. Together with the frames,
+  -- `front` has the members before the gap, and `back` the members after it
   pub record IsCutUp (v : Table E) (root : Option Place) (left right : Measured) (k : CutUp E) : Type 0 where
     pub held : Held n k.base v (around root k.frames k.named ∷ below None k.front ∷ below None k.back ∷ k.pieces)
     pub left_is : IsMeasured left k.front
@@ -40,33 +41,36 @@ module _ {E : Type 0} (n : E → Node) where
     pub front_is : before k.frames ++ in_order k.front ≡ k.gap.front
     pub back_is : in_order k.back ++ after k.frames ≡ k.gap.back
 
-  -- and the hole is on side d of `parent`, where each path down had this many black members
+  -- THE LOOP'S INVARIANT AT A HOLE: the hole is on side d of `parent`, and each path down had `height` black members there
   pub record IsCutBelow (v : Table E) (root parent : Option Place) (d : Side) (height : ℕ) (left right : Measured) (k : CutUp E) : Type 0 where
     pub cut : IsCutUp v root left right k
     pub parent_is : parent ≡ above k.frames
     pub side_is : IsOn d k.frames
     pub height_is : height ≡ k.count
 
-  -- the invariant holds for some frames and parts, below fewer than m frames
+  -- the loop's invariant holds at the hole on side d of `parent`, for some two parts and fewer than m frames above the hole
   abbrev pub IsCutting : Table E → Table E → Option Place → Option Place → Side → ℕ → Measured → Measured → Cut → List Piece → ℕ → Type 0
   IsCutting base v root parent d height left right gap ps m =
       (fs : List Frame) × (o : Option Place) × (count : ℕ) × (front back : Tree)
       × IsCutBelow v root parent d height left right (record { base = base; gap = gap; frames = fs; named = o; count = count; front = front; back = back; pieces = ps })
       × (length fs < m)
 
-  -- a subtree with this root and black height becomes a tree of its own, with a black root
+  -- the subtree with the root `child` and the black height `height` becomes a tree of its own with a black root. `alone` has the root and the black height
+  -- of this tree
   abbrev pub Detaches : Table E → Table E → Option Place → ℕ → Measured → Type 0
   Detaches v w child height alone =
       (base : Table E) (up : Option Place) (t : Tree) (ps : List Piece) → child ≡ top t → height ≡ blacks t → Held n base v (below up t ∷ ps)
       → Held n base w (below None (blackened t) ∷ ps) × IsMeasured alone (blackened t)
 
-  -- the hole is one member further up, and that member and its other subtree are in one of the parts
+  -- one turn of the loop: the member p above the hole and the subtree on its other side are joined to one of the two parts. The hole is then at the old
+  -- position of p
   abbrev pub CutsOff : Table E → Table E → Place → Side → ℕ → Measured → Measured → Measured → Measured → Type 0
   CutsOff v w p d height left right new_left new_right =
       (root : Option Place) (k : CutUp E) (c : Color) (b : Tree) (fs : List Frame) → k.frames ≡ frame d c p b ∷ fs → height ≡ k.count → IsCutUp v root left right k
       → (front back : Tree) × IsCutUp w root new_left new_right (record k { frames = fs; named = Some p; count = weight c + k.count; front = front; back = back })
 
-  -- TWO TREES with the members on the two sides of the gap
+  -- THE TREE IS CUT APART into two trees. The tree with the root `left` has the members before the gap, and the tree with the root `right` has the members
+  -- after the gap
   pub record AreCutApart (base w : Table E) (left right : Option Place) (gap : Cut) (ps : List Piece) : Type 0 where
     pub front : Tree
     pub back : Tree

@@ -1,4 +1,4 @@
--- An entry, as contracts see it: a member with a key, or a gap where the key would be inserted.
+-- Contracts describe an entry by these definitions. An entry is a member with a key, or the gap where the key would be inserted.
 use Rattle.std.specs.Prelude.{◌≡◌, ⊤, Some, Result, IfOk, IfErr, List, [], ◌∷◌}
 use Rattle.std.specs.declared.cmp.Ordering.{Ordering}
 use Rattle.std.specs.Borrow.{MutBor}
@@ -18,7 +18,7 @@ use Rattle.ic_rbtree.specs.Kept.{Kept, RepresentsKept}
 use Rattle.ic_rbtree.specs.Tree.{head_of}
 
 module _ {A L H V K : Type 0} where
-  -- this holds for the cursor if the entry is occupied, and that for the gap if it is vacant
+  -- if the entry is occupied, P holds for the cursor in the entry. `IfVacant` states that P holds for the gap in the entry if the entry is vacant
   abbrev pub IfOccupied : Entry A L H V K → (CursorOf A L V H → Type 0) → Type 0
   IfOccupied (Occupied c) P = P c
   IfOccupied (Vacant v) P = ⊤
@@ -28,25 +28,25 @@ module _ {A L H V K : Type 0} where
   IfVacant (Vacant v) P = P v
 
 module _ {A L H : Type 0} where
-  -- the tree and the table that it edits
+  -- the tree that the insert cursor edits. `links_of` is the table that the insert cursor edits
   abbrev pub tree_of : InsertCursor A L H → RBTree A H
   tree_of v = v.tree.now
 
   abbrev pub links_of : InsertCursor A L H → L
   links_of v = v.links.now
 
-  -- the entry edits this tree and this table, which are as they were
+  -- the vacant entry v borrows the tree `tree` and the table `links`, and neither of them has changed
   abbrev pub IsBorrowed : MutBor (RBTree A H) → MutBor L → InsertCursor A L H → Type 0
   IsBorrowed tree links v =
       (v.tree.ghost_name ≡ tree.ghost_name) × (v.links.ghost_name ≡ links.ghost_name) × (v.tree.now ≡ tree.now) × (v.links.now ≡ links.now)
 
   module _ {E : Type 0} (node : E → Node) where
-    -- THE GAP at which the entry inserts
+    -- THE GAP of a vacant entry: the entry v inserts at the gap `gap` of the tree in the table t
     abbrev pub IsVacantAt : Table E → InsertCursor A L H → Cut → Type 0
     IsVacantAt t v gap = IsInsertPos node t v.parent v.side gap
 
-    -- VACANT FOR THE SEARCHED KEY: the entry inserts at a gap of s whose member before is less than the key, and whose
-    -- member after is greater
+    -- VACANT FOR THE SEARCHED KEY: the entry inserts at a gap of s. The member before the gap, if any, is less than the key, and the member after the gap,
+    -- if any, is greater
     pub record IsVacantFor (at : Place → Ordering) (t : Table E) (s : List Place) (v : InsertCursor A L H) : Type 0 where
       pub gap : Cut
       pub same : join gap ≡ s
@@ -54,17 +54,18 @@ module _ {A L H : Type 0} where
       pub smaller : IsBorder (at_most_at at) gap
       pub larger : IsBorder (less_at at) gap
 
-  -- the entry inserts at a gap of the sequence that is represented
+  -- the table represents a sequence for the entry's tree, and the entry inserts at a gap of this sequence
   abbrev pub CanInsert : {E : Type 0} → (H → Kept) → (E → Node) → (L → Table E) → InsertCursor A L H → Type 0
   CanInsert kept node table v =
       (gap : Cut) × RepresentsKept kept node (table (links_of v)) (head_of (tree_of v)) (join gap) × IsVacantAt node (table (links_of v)) v gap
 
-  -- the same gap of the same tree and table, and the tree is as it was
+  -- the insert cursor v has the gap of the insert cursor `old`, and borrows the tree and the table that `old` borrowed. The tree is as it was
   abbrev pub IsLeft : InsertCursor A L H → InsertCursor A L H → Type 0
   IsLeft old v = (v.tree.ghost_name ≡ old.tree.ghost_name) × (v.links.ghost_name ≡ old.links.ghost_name) × (tree_of v ≡ tree_of old)
       × (v.parent ≡ old.parent) × (v.side ≡ old.side)
 
--- THE OBJECT IS INSERTED at the gap, and the cursor is on it; or its link is refused, the object is returned with the gap, and nothing has changed
+-- THE OBJECT IS INSERTED at the gap, and the result is a cursor on the object. If the object's link is refused, the object and the gap are returned, and
+-- nothing has changed
 module _ {A L H T K E : Type 0} (kept : H → Kept) (node : E → Node) (table : L → Table E) (Trace : L → L → List LinkStep → Type 0) (Refused : L → L → Place → Type 0) where
   pub record InsertsInto (v : InsertCursor A L H) (object : Place) (result : Result (CursorOf A L T H) (RefusedInsert A L H T K)) : Type 0 where
     pub inserted : (gap : Cut) → RepresentsKept kept node (table (links_of v)) (head_of (tree_of v)) (join gap) → IsVacantAt node (table (links_of v)) v gap

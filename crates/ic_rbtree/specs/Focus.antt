@@ -1,4 +1,4 @@
--- A tree with one of its subtrees in focus.
+-- A subtree is in focus if the tree is given by this subtree and by its surroundings.
 use Rattle.std.specs.Prelude.{Option, List}
 use Rattle.ic_link_ops.specs.Prelude.{Place, Table}
 use Rattle.ic_link_ops.specs.Trees.{Tree}
@@ -6,7 +6,8 @@ use Rattle.ic_link_ops.specs.RedBlackTree.{Node}
 use Rattle.ic_link_ops.specs.Frames.{Frame}
 use Rattle.ic_rbtree.specs.Pieces.{Piece, ClimbState, Represented}
 
--- the old table, the tree's members in order, the frames above the subtree, the subtree, and the pieces beside the tree
+-- A TREE WITH A SUBTREE IN FOCUS. The record has the old table, the tree's members in order, the frames above the subtree, the subtree, and the pieces of
+-- the table beside the tree
 pub record Focus (E : Type 0) : Type 0 where
   pub base : Table E
   pub sequence : List Place
@@ -15,10 +16,10 @@ pub record Focus (E : Type 0) : Type 0 where
   pub pieces : List Piece
 
 module _ {E : Type 0} (n : E → Node) where
-  -- the table has the subtree below these frames
+  -- the table v has a tree with the root `root`, in which the subtree of k is below the frames of k
   abbrev pub IsInFocus : Table E → Option Place → Focus E → Type 0
   IsInFocus v root k = ClimbState n k.base v root k.frames k.subtree k.pieces
 
-  -- all is right: the table has a tree of the right shape with that sequence
+  -- THE TREE IS RIGHT: the table v has a tree of the right shape with the root `root`, and the tree has the sequence of k
   abbrev pub IsRestored : Table E → Option Place → Focus E → Type 0
   IsRestored v root k = Represented n k.base v root k.sequence k.pieces

@@ -1,4 +1,4 @@
--- Where an object belongs in a tree, and how many looks find the hole.
+-- Where an object belongs in a tree, and how many comparisons find the hole. A hole is a missing child, where a new member can be inserted.
 use Rattle.std.specs.Prelude.{◌≡◌, ℕ, ◌+◌, ◌*◌, ◌^◌, ◌≤◌, Bool, false, not, Option, None, Some, List, length}
 use Rattle.std.specs.declared.cmp.Ordering.{Ordering}
 use Rattle.ic_link_ops.specs.Prelude.{Place, Objects, Cut, join, IsBefore, Table}
@@ -8,30 +8,31 @@ use Rattle.ic_rbtree.specs.Borders.{IsBorder, less_at}
 use Rattle.ic_rbtree.specs.Comparing.{compared}
 use Rattle.ic_rbtree.specs.Insertion.{IsInsertPos}
 
--- whether the searched key is less than the member at a position; false at null
+-- whether the searched key is less than the member at a position, and false if the position is null
 abbrev pub less_there : (Place → Ordering) → Option Place → Bool
 less_there at None = false
 less_there at (Some p) = less_at at p
 
--- whether there is a member at the position, and the searched key is not less
+-- whether there is a member at the position, and the searched key is not less than the member
 abbrev pub after_there : (Place → Ordering) → Option Place → Bool
 after_there at None = false
 after_there at (Some p) = not (less_at at p)
 
--- how many looks this takes
+-- the number of comparisons with the member at a position: one, or zero if there is no member
 abbrev pub looks_there : Option Place → ℕ
 looks_there None = 0
 looks_there (Some p) = 1
 
 module _ {E : Type 0} (n : E → Node) where
-  -- THE HOLE IS WHERE THE SEARCHED KEY BELONGS: after the members that are less or equal
+  -- THE HOLE IS WHERE THE SEARCHED KEY BELONGS, at a gap of s. The member before the gap, if any, is at most the key, and the member after the gap, if any,
+  -- is greater
   pub record IsInOrder (v : Table E) (at : Place → Ordering) (s : List Place) (parent : Option Place) (d : Side) : Type 0 where
     pub gap : Cut
     pub same : join gap ≡ s
     pub border : IsBorder (less_at at) gap
-    pub hole : IsInsertPos n v parent d gap
+    pub insert_pos : IsInsertPos n v parent d gap
 
--- the gap before this member of s is a border of the test
+-- the gap before the member p of s is a border of the test: p passes the test, and the member before p, if any, fails it
 pub record BelongsBefore (test : Place → Bool) (p : Place) (s : List Place) : Type 0 where
   pub gap : Cut
   pub same : join gap ≡ s
@@ -39,7 +40,8 @@ pub record BelongsBefore (test : Place → Bool) (p : Place) (s : List Place) : 
   pub border : IsBorder test gap
 
 module _ {P V : Type 0} (order : P → V → Ordering) (count : P → ℕ) where
-  -- THE LOOKS OF ONE INSERT WITH A HINT: at most two if the searched key belongs before the hint, otherwise at most one more than a descent makes
+  -- THE COMPARISONS OF ONE INSERT WITH A HINT: the insert makes at most two if the searched key belongs before the hint. Otherwise it makes at most one
+  -- more than a descent
   pub record HintedLooks (objects : Objects V) (hint : Place) (old new : P) (s : List Place) : Type 0 where
     pub looks : ℕ
     pub counted : count new ≡ count old + looks

@@ -1,4 +1,4 @@
--- The effect of each step of a repair after an insert.
+-- These definitions state the effect of each step of a repair after an insert.
 use Rattle.std.specs.Prelude.{◌≡◌, ℕ, ◌+◌, ◌<◌, Bool, true, false, cond, Option, Some, None, List, [], ◌∷◌, ◌++◌, length}
 use Rattle.ic_link_ops.specs.Prelude.{Place, Cut, Table}
 use Rattle.ic_link_ops.specs.declared.color.Color.{Color}
@@ -27,37 +27,38 @@ are_across Left Right = true
 are_across Right Left = true
 are_across Right Right = false
 
--- the surroundings of a red pair: the side of the lower one and its sibling, and the color and the other subtree of the
--- parent of both
+-- THE SURROUNDINGS OF A RED PAIR, which is a red member below a red parent. The record has the side and the sibling of the lower member, the color of the
+-- grandparent, and the uncle, which is the grandparent's other subtree
 pub record RedPair : Type 0 where
   pub low : Side
   pub sibling : Tree
   pub color : Color
   pub uncle : Tree
 
--- the frames above the lower one; q is the upper one, on side i of g
+-- the frames above the lower member of a red pair: its upper member q is on side i of the grandparent g
 abbrev pub above_pair : Place → Place → Side → RedPair → List Frame → List Frame
 above_pair q g i m fs = frame m.low Red q m.sibling ∷ frame i m.color g m.uncle ∷ fs
 
--- the same tree with a black root
+-- the tree with its root turned black
 abbrev pub blackened : Tree → Tree
 blackened leaf = leaf
 blackened (fork c a p b) = fork Black a p b
 
 module _ {E : Type 0} (n : E → Node) where
-  -- THE LOOP'S INVARIANT: all is right, except that x, the subtree's root, is red and may be below a red member
+  -- THE LOOP'S INVARIANT: the tree is right, except that x, the root of the subtree, may be a red member below a red member. x is black only if it is the
+  -- root of the whole tree
   pub record RedAt (v : Table E) (root : Option Place) (x : Place) (k : Focus E) : Type 0 where
     pub stands : IsInFocus n v root k
     pub top_is : top k.subtree ≡ Some x
     pub nearly : IsNearlyRight k.frames k.subtree
     pub order : in_order (plug k.frames k.subtree) ≡ k.sequence
 
-  -- all is right, with this many black members on each path down
+  -- the tree is right, with `count` black members on each path down
   abbrev pub IsRestoredWith : Table E → Option Place → Focus E → ℕ → Type 0
   IsRestoredWith w root k count = (h : IsRestored n w root k) × (blacks h.tree ≡ count)
 
-  -- the result of one step: if it returns a place, the invariant holds there, below fewer than m frames, and each path
-  -- down has one black member more if that is the root; otherwise all is right
+  -- THE RESULT OF ONE STEP of the repair. If the step returns a place g, the loop's invariant holds at g, below fewer than m frames. If g is the root, each
+  -- path down has one black member more. If the step returns none, the tree is right, with `count` black members on each path down
   abbrev pub IsFixedOrHigher : Table E → Option Place → Focus E → ℕ → ℕ → Option Place → Type 0
   IsFixedOrHigher w root k m count None = IsRestoredWith w root k count
   IsFixedOrHigher w root k m count (Some g) =
@@ -66,14 +67,14 @@ module _ {E : Type 0} (n : E → Node) where
   abbrev pub FixesRedParent : Table E → Table E → Option Place → Option Place → Place → Option Place → Option Place → Type 0
   FixesRedParent v w root new_root x parent result = (k : Focus E) → RedAt v root x k → parent ≡ above k.frames → IsFixedOrHigher w new_root k (length k.frames) (blacks (plug k.frames k.subtree)) result
 
-  -- all is right, and each path down has one black member more if the tree has grown. If x was the root, this increase is
-  -- counted already
+  -- the repair makes the tree right, and each path down has one black member more if `grown` is true. If x was the root before the repair, the black member
+  -- x is this increase
   abbrev pub FixesInsertion : Table E → Table E → Option Place → Option Place → Place → Option Place → Bool → Type 0
   FixesInsertion v w root new_root x parent grown =
       (k : Focus E) → RedAt v root x k → parent ≡ above k.frames → length k.frames < turns
       → (h : IsRestored n w new_root k) × (blacks h.tree + weight (wanted k.frames) ≡ blacks (plug k.frames k.subtree) + cond grown 1 0)
 
-  -- the red parent q of x is on side i of its parent g; the frames are those above g
+  -- x has the red parent q, and q is on side i of its parent g. The frames of k are those above g
   pub record PairAt (v : Table E) (root : Option Place) (x q g : Place) (i : Side) (m : RedPair) (k : Focus E) : Type 0 where
     pub red : RedAt v root x (record k { frames = above_pair q g i m k.frames })
 
@@ -84,29 +85,30 @@ module _ {E : Type 0} (n : E → Node) where
   abbrev pub FixesRedPair : Table E → Table E → Option Place → Option Place → Place → Place → Place → Option Place → Type 0
   FixesRedPair v w root new_root x q g result = (i : Side) → FixesRedPairOn v w root new_root x q g i result
 
-  -- CASE 1, a red uncle: both children of g turn black, and g red, unless it is the root
+  -- CASE 1, a red uncle: both children of g turn black, and g turns red unless it is the root
   abbrev pub Recolors : Table E → Table E → Place → Place → Place → Type 0
   Recolors v w q y g =
       (root : Option Place) (i : Side) (m : RedPair) (k : Focus E) → top m.uncle ≡ Some y
       → ClimbState n k.base v root (above_pair q g i m k.frames) k.subtree k.pieces
       → ClimbState n k.base w root k.frames (branch i (wanted k.frames) (branch m.low Black k.subtree q m.sibling) g (blackened m.uncle)) k.pieces
 
-  -- a red child of `upper` is an outer grandchild of g: it is on the same side as `upper`
+  -- `upper` is on side i of g, and a red child x of `upper` is an outer grandchild of g, because x is on side i of `upper`
   abbrev pub HasOuterGrandchild : Table E → Option Place → Place → Place → Side → RedPair → Focus E → Type 0
   HasOuterGrandchild w root upper g i m k =
       (x : Place) × (b : Tree) × (t : Tree) × PairAt w root x upper g i (record m { low = i; sibling = b }) (record k { subtree = t })
 
-  -- CASE 2, an inner grandchild: it is rotated above its parent
+  -- CASE 2, an inner grandchild x of g: x is rotated above its parent q. After this, `upper` is the upper one of x and q, and has a red child that is an
+  -- outer grandchild
   abbrev pub RotatesInnerGrandchild : Table E → Table E → Option Place → Option Place → Place → Place → Side → Place → Type 0
   RotatesInnerGrandchild v w root new_root x q i upper =
       (g : Place) (m : RedPair) (k : Focus E) → PairAt v root x q g i m k → HasOuterGrandchild w new_root upper g i m k
 
-  -- THE HOLE on side d of q, which has no child there, is at this gap; if there is no q, the tree is empty
+  -- THE HOLE on side d of the member q, which has no child there, is at the gap `gap`. If there is no member q, the tree is empty
   abbrev pub IsInsertPos : Table E → Option Place → Side → Cut → Type 0
   IsInsertPos v None d gap = (gap.front ≡ []) × (gap.back ≡ [])
   IsInsertPos v (Some q) d gap = (child_on d (n (v.entry q)) ≡ None) × IsBeside d gap (Some q)
 
-  -- p is inserted at the gap
+  -- the linked place p is inserted into the tree at the gap of the hole on side d of `parent`
   abbrev pub Attaches : Table E → Table E → Option Place → Option Place → Option Place → Side → Place → Type 0
   Attaches v w root new_root parent d p =
       (base : Table E) (gap : Cut) (ps : List Piece) → Represented n base v root (gap.front ++ gap.back) (loose p ∷ ps) → IsInsertPos v parent d gap

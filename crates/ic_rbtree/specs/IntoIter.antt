@@ -1,4 +1,4 @@
--- A walk that removes the members, as contracts see it.
+-- Contracts describe a walk that removes the members of a tree by these definitions.
 use Rattle.std.specs.Prelude.{Option, List}
 use Rattle.ic_link_ops.specs.Prelude.{Place, Table, LinkStep}
 use Rattle.ic_link_ops.specs.Chains.{Ends}
@@ -9,7 +9,7 @@ use Rattle.ic_rbtree.specs.Ends.{RepresentsWithin}
 use Rattle.ic_rbtree.specs.Members.{members_around}
 use Rattle.ic_rbtree.specs.declared.into_iter.IntoIter.{IntoIter}
 
--- the two ends of the members that remain, and the table that the walk borrows
+-- the state of the walk: the first and the last member that remain, and the table that the walk borrows
 abbrev pub rest_of : {A L : Type 0} → IntoIter A L → Taking L Ends
 rest_of t = record { head = record { head = t.front; tail = t.back }; links = t.links }
 
@@ -22,12 +22,13 @@ module _ {A L E : Type 0} (n : E → Node) (table : L → Table E) where
   abbrev pub CanTake : IntoIter A L → Type 0
   CanTake t = (w : List Place) × Leaves t w
 
-  -- the members that remain, in the order of the entries
+  -- the members that remain for the walk, in their order in the tree
   abbrev pub members_left : IntoIter A L → List Place
   members_left t = members_around n (table t.links.now) t.front
 
   module _ (Trace : L → L → List LinkStep → Type 0) where
-    -- one call from state s returned r and left state t: it removed the first remaining member, or the last
+    -- one call changes the walk from the state s to the state t and returns r: the call removes the first remaining member. `TakesLast` states this for the
+    -- last remaining member
     abbrev pub TakesFirst : IntoIter A L → Option Place → IntoIter A L → Type 0
     TakesFirst s r t = taking.TakesFirst (RepresentsWithin n) table Trace (rest_of s) r (rest_of t)
 

@@ -1,4 +1,4 @@
--- A search for a key, as contracts see it.
+-- Contracts describe a search for a key by these definitions.
 use Rattle.std.specs.Prelude.{◌≡◌, ℕ}
 use Rattle.ic_rbtree.specs.declared.keys.key_adapter.Bound.{Bound}
 use Rattle.ic_rbtree.specs.declared.keys.key_adapter.Bound.TheVariants.{Included, Excluded, Unbounded}
@@ -8,7 +8,7 @@ use Rattle.ic_rbtree.specs.declared.keys.probe.KeyProbe.{KeyProbe}
 use Rattle.ic_rbtree.specs.declared.keys.probe.KeyFirst.{KeyFirst}
 
 module _ {A V K : Type 0} where
-  -- the adapter by which it finds keys
+  -- the adapter by which the search finds the keys of objects
   abbrev pub adapter_of : KeyProbe A V K → A
   adapter_of p = p.adapter
 
@@ -16,19 +16,19 @@ module _ {A V K : Type 0} where
   abbrev pub key_of_probe : KeyProbe A V K → K
   key_of_probe p = p.key.now
 
-  -- the number of looks that the search has made
+  -- the number of comparisons that the search has made
   abbrev pub looks_of : KeyProbe A V K → ℕ
   looks_of p = p.looks
 
-  -- the search that an insert makes
+  -- the search for a key that an insert makes. A `KeyFirst` is the form in which the insert uses this search
   abbrev pub probe_of : KeyFirst A V K → KeyProbe A V K
   probe_of p = p.probe
 
-  -- how the search compares with a value
+  -- how the searched key compares with the key of a value
   abbrev pub key_order : (K → K → Ordering) → (A → V → K) → KeyProbe A V K → V → Ordering
   key_order cmp key_of p = order_of cmp (key_of (adapter_of p)) (key_of_probe p)
 
-  -- a search within the bound has this adapter
+  -- the search in the bound, if there is one, has the adapter `adapter`
   abbrev pub HasAdapter : A → Bound (KeyProbe A V K) → Type 0
   HasAdapter adapter (Included p) = adapter_of p ≡ adapter
   HasAdapter adapter (Excluded p) = adapter_of p ≡ adapter

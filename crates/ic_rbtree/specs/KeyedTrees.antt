@@ -1,4 +1,4 @@
--- Trees over a table with a number beside each link, which is the key of its place.
+-- These trees are over a table that stores a number beside each link. The number is the key of the link's place.
 use Rattle.std.specs.Prelude.{ℕ, Option}
 use Rattle.ic_link_ops.specs.Prelude.{Place, Objects, at_indexes, Table}
 use Rattle.ic_link_ops.specs.declared.link.Link.{Link}
@@ -11,7 +11,7 @@ use Rattle.ic_link_ops.specs.Widths.{wide}
 use Rattle.ic_rbtree.specs.SortedObjects.{RepresentsSorted}
 
 module _ {A : Type 0} where
-  -- the table as contracts see it, and its keys by place
+  -- the table of tree links, in the form that contracts use. `keys_of` gives the key that is stored at each place of the table
   abbrev pub keyed_table : PlainTable ThreeWords A ℕ → Table (Link ThreeWords ℕ)
   keyed_table links = table_beside wide no_words 0 (λ s. s) links
 

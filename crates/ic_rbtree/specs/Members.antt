@@ -5,17 +5,17 @@ use Rattle.ic_link_ops.specs.Trees.{Tree, leaf, fork, in_order}
 use Rattle.ic_link_ops.specs.RedBlackTree.{Node, Represents}
 use Rattle.ic_link_ops.specs.Walk.{is_end}
 
--- the second of two, or the first if there is no second
+-- the second of two optional places, or the first if the second is none
 abbrev pub some_or : Option Place → Option Place → Option Place
 some_or o None = o
 some_or o (Some q) = Some q
 
--- the members of a sequence up to this one
+-- the members of a sequence from its start up to the member `tail`, or all members if `tail` is not among them
 abbrev pub up_to : Option Place → List Place → List Place
 up_to tail [] = []
 up_to tail (x ∷ s) = x ∷ cond (is_end tail x) [] (up_to tail s)
 
--- the members from one to the other, none if the first is none
+-- the members of a sequence from the member `head` to the member `tail`, no members if `head` is none
 abbrev pub between : Option Place → Option Place → List Place → List Place
 between head tail [] = []
 between head tail (x ∷ s) = cond (is_end head x) (up_to tail (x ∷ s)) (between head tail s)
@@ -28,7 +28,7 @@ module _ {E : Type 0} (n : E → Node) where
   tree_below entry (suc k) (Some p) =
       fork (n (entry p)).color (tree_below entry k (n (entry p)).left) p (tree_below entry k (n (entry p)).right)
 
-  -- the last place on the path along the parents, after at most the given number of steps
+  -- the last place on the path that leads up from a place along the parents, after at most the given number of steps
   unfoldable pub top_above : (Place → E) → ℕ → Option Place → Option Place
   top_above entry zero o = o
   top_above entry (suc k) None = None
@@ -38,7 +38,7 @@ module _ {E : Type 0} (n : E → Node) where
   abbrev pub members : Table E → Option Place → List Place
   members t root = in_order (tree_below t.entry t.extent.places root)
 
-  -- the members of the tree that this place is in
+  -- the members of the tree in which the place p is
   abbrev pub members_around : Table E → Option Place → List Place
   members_around t p = members t (top_above t.entry t.extent.places p)
 
@@ -48,12 +48,12 @@ module _ {E : Type 0} (n : E → Node) where
     pub linked : (n (t.entry q)).linked ≡ true
     pub child : ((n (t.entry q)).left ≡ Some p) ⊎ ((n (t.entry q)).right ≡ Some p)
 
-  -- A PATH DOWN from this place: each member of it is a child of the one before
+  -- A PATH DOWN from the place o: the list begins with o, and each member of the list is a child of the member before it
   abbrev pub IsPathDown : Table E → Option Place → List Place → Type 0
   IsPathDown t o [] = Unit {0}
   IsPathDown t o (p ∷ path) = (o ≡ Some p) × (IsPathDown t (n (t.entry p)).left path ⊎ IsPathDown t (n (t.entry p)).right path)
 
-  -- the members w are consecutive in the tree, and the ends are the first and the last of them (none if w is empty)
+  -- the members w are consecutive in the tree, and `head` and `tail` are the first and the last member of w (none if w is empty)
   pub record IsWalk (t : Table E) (root head tail : Option Place) (w : List Place) : Type 0 where
     pub front : List Place
     pub back : List Place

@@ -11,13 +11,13 @@ use Rattle.ic_link_ops.specs.Times.{one_at, times, times_around}
 
 -- one piece of a table
 pub data Piece : Type 0 where
-  -- a linked place: a side, the place, its color, its child on that side, the other child, its parent
+  -- a linked place, described by a side, the place, its color, its child on this side, its child on the opposite side, and its parent
   cell : Side → Place → Color → Option Place → Option Place → Option Place → Piece
   -- a linked place, whatever its entry contains
   loose : Place → Piece
-  -- a tree, below the parent of its root
+  -- a tree, with the parent of its root, which may be none
   below : Option Place → Tree → Piece
-  -- the root of the whole tree, and the surroundings of a subtree with this root
+  -- the surroundings of a subtree: the root of the whole tree, the frames above the subtree, and the root of the subtree
   around : Option Place → List Frame → Option Place → Piece
 
 -- how often a place occurs in a piece
@@ -32,7 +32,7 @@ times_all q [] = 0
 times_all q (x ∷ ps) = times_piece q x + times_all q ps
 
 module _ {E : Type 0} (n : E → Node) where
-  -- the entries are those of this piece
+  -- the entries of the table are as the piece describes them
   abbrev pub IsPiece : (Place → E) → Piece → Type 0
   IsPiece entry (cell d p c near far up) = IsAtSide n entry d p c near far up
   IsPiece entry (loose p) = (n (entry p)).linked ≡ true
@@ -43,7 +43,7 @@ module _ {E : Type 0} (n : E → Node) where
   ArePieces entry [] = Unit {0}
   ArePieces entry (x ∷ ps) = IsPiece entry x × ArePieces entry ps
 
-  -- THE TABLE v CONSISTS OF THESE PIECES, and only entries of their members differ from those of `base`
+  -- THE TABLE v CONTAINS THE PIECES of the list ps, which share no place. Only the entries of their members differ from the entries of the table `base`
   pub record Held (base v : Table E) (ps : List Piece) : Type 0 where
     pub are : ArePieces v.entry ps
     pub once : (q : Place) → times_all q ps ≤ 1
@@ -51,11 +51,11 @@ module _ {E : Type 0} (n : E → Node) where
     pub linked : (q : Place) → (n (v.entry q)).linked ≡ (n (base.entry q)).linked
     pub extent : v.extent ≡ base.extent
 
-  -- the tree t is below these frames, beside the pieces ps
+  -- the table v contains the tree t below the frames fs, and beside the whole tree the pieces ps
   abbrev pub ClimbState : Table E → Table E → Option Place → List Frame → Tree → List Piece → Type 0
   ClimbState base v root fs t ps = Held base v (around root fs (top t) ∷ below (above fs) t ∷ ps)
 
-  -- the table has a tree of the right shape with the in-order list s
+  -- the table v has a tree of the right shape with the in-order list s, and beside the tree the pieces ps
   pub record Represented (base v : Table E) (root : Option Place) (s : List Place) (ps : List Piece) : Type 0 where
     pub tree : Tree
     pub stands : ClimbState base v root [] tree ps

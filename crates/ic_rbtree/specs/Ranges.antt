@@ -1,4 +1,4 @@
--- The members between two bounds.
+-- These definitions state which members are between two bounds.
 use Rattle.std.specs.Prelude.{◌≡◌, Bool, true, false, Option, Some, List, [], ◌++◌}
 use Rattle.std.specs.declared.cmp.Ordering.{Ordering}
 use Rattle.std.specs.Ordering.{is_ge}
@@ -7,7 +7,7 @@ use Rattle.ic_link_ops.specs.Prelude.{Place, Objects, first, last, object_there}
 use Rattle.ic_rbtree.specs.declared.keys.key_adapter.Bound.{Bound}
 use Rattle.ic_rbtree.specs.Borders.{IsLowerBorder, IsUpperBorder}
 
--- w is the segment of s from one member to the other
+-- w is the segment of s from the member `low` to the member `high`, and both are none if w is empty
 pub record IsSegment (s : List Place) (low high : Option Place) (w : List Place) : Type 0 where
   pub front : List Place
   pub back : List Place
@@ -20,12 +20,12 @@ abbrev pub not_less : {K : Type 0} → (K → K → Ordering) → Option K → O
 not_less cmp (Some low) (Some high) = is_ge (cmp high low)
 not_less cmp _ _ = false
 
--- two positions are on members, and the key at the second is not less than that at the first
+-- the positions `low` and `high` are on members, and the key at `high` is not less than the key at `low`
 abbrev pub runs_up : {V K : Type 0} → (K → K → Ordering) → (V → K) → Objects V → Option Place → Option Place → Bool
 runs_up cmp key_of objects low high = not_less cmp (option_map key_of (object_there objects low)) (option_map key_of (object_there objects high))
 
--- A RANGE: the segment of s from a lower border of the one bound to an upper border of the other, if the keys at these borders do not
--- fall; otherwise nothing
+-- A RANGE: w is the segment of s from a lower border of the bound `min` to an upper border of the bound `max`. If `runs` is false for these two borders,
+-- because the second key is less or a border is none, w is empty
 pub record IsRange (min max : Bound (Place → Ordering)) (runs : Option Place → Option Place → Bool) (s w : List Place) : Type 0 where
   pub low : Option Place
   pub high : Option Place

@@ -1,4 +1,4 @@
--- The effect of each step of a repair after a removal.
+-- These definitions state the effect of each step of a repair after a removal.
 use Rattle.std.specs.Prelude.{◌≡◌, ◌<◌, Bool, true, false, ◌||◌, ◌⊎◌, Option, Some, None, List, [], ◌∷◌, length}
 use Rattle.ic_link_ops.specs.Prelude.{Place, Table}
 use Rattle.ic_link_ops.specs.declared.color.Color.{Color}
@@ -17,17 +17,17 @@ abbrev pub is_red : Color → Bool
 is_red Red = true
 is_red Black = false
 
--- whether a member has a red child
+-- whether the root of the tree has a red child
 abbrev pub red_child : Tree → Bool
 red_child leaf = false
 red_child (fork c a p b) = is_red (top_color a) || is_red (top_color b)
 
--- the hole is on this side of the lowest frame
+-- the subtree below the frames is on side d of the lowest frame's member, if there is a frame
 abbrev pub IsOn : Side → List Frame → Type 0
 IsOn d [] = Unit {0}
 IsOn d (frame k c p b ∷ fs) = d ≡ k
 
--- there is a place, and this holds for it
+-- there is a place, and P holds for the place
 abbrev pub Has : Option Place → (Place → Type 0) → Type 0
 Has None P = ⊥
 Has (Some p) P = P p
@@ -38,8 +38,8 @@ module _ {E : Type 0} (n : E → Node) where
   red_at v None = false
   red_at v (Some p) = is_red (n (v.entry p)).color
 
-  -- THE LOOP'S INVARIANT: the subtree on side d of `parent` has one black member too few on each path, and all else is right. If there
-  -- is no parent, the subtree is the whole tree
+  -- THE LOOP'S INVARIANT: the subtree on side d of `parent` has one black member too few on each path, and the rest of the tree is right. If there is no
+  -- parent, the subtree is the whole tree
   pub record Short (v : Table E) (root parent : Option Place) (d : Side) (k : Focus E) : Type 0 where
     pub stands : IsInFocus n v root k
     pub parent_is : parent ≡ above k.frames
@@ -50,19 +50,21 @@ module _ {E : Type 0} (n : E → Node) where
   abbrev pub FixesDeletion : Table E → Table E → Option Place → Option Place → Option Place → Side → Type 0
   FixesDeletion v w root new_root parent d = (k : Focus E) → Short v root parent d k → length k.frames < turns → IsRestored n w new_root k
 
-  -- the same below a member q with the color c and another subtree; the frames are those above q
+  -- THE LOOP'S INVARIANT below a member q of the color c: the subtree on side d of q has one black member too few on each path. `sibling` is the other
+  -- subtree of q, and the frames are those above q
   pub record ShortAt (v : Table E) (root : Option Place) (q : Place) (d : Side) (c : Color) (sibling : Tree) (k : Focus E) : Type 0 where
     pub stands : ClimbState n k.base v root (frame d c q sibling ∷ k.frames) k.subtree k.pieces
     pub short : IsShort (frame d c q sibling ∷ k.frames) k.subtree
     pub order : in_order (plug (frame d c q sibling ∷ k.frames) k.subtree) ≡ k.sequence
 
-  -- y is the other child of q, and black
+  -- the subtree on side d of q has one black member too few on each path, and the child of q on the other side is y, which is black
   pub record Beside (v : Table E) (root : Option Place) (q : Place) (d : Side) (y : Place) (c : Color) (sibling : Tree) (k : Focus E) : Type 0 where
     pub at : ShortAt v root q d c sibling k
     pub top_is : top sibling ≡ Some y
     pub black : top_color sibling ≡ Black
 
-  -- the other child is y and black now. If the old one was red, it is above q, and q is red
+  -- the child of q on the other side is y, which is black. Either q is red, because a red sibling was rotated above it, or the frames above q are as they
+  -- were
   pub record HasBlackSibling (v : Table E) (root : Option Place) (q : Place) (d : Side) (y : Place) (k : Focus E) : Type 0 where
     pub color : Color
     pub sibling : Tree
@@ -70,7 +72,7 @@ module _ {E : Type 0} (n : E → Node) where
     pub beside : Beside v root q d y color sibling (record k { frames = frames })
     pub red_or_same : (color ≡ Red) ⊎ (frames ≡ k.frames)
 
-  -- CASE 1, a red sibling: it is rotated up, and the sibling is black then
+  -- CASE 1, a red sibling: the red sibling is rotated above q. The result is the sibling that q has after this, and this sibling is black
   abbrev pub BlackensSibling : Table E → Table E → Option Place → Option Place → Place → Side → Option Place → Type 0
   BlackensSibling v w root new_root q d result =
       (c : Color) (sibling : Tree) (k : Focus E) → ShortAt v root q d c sibling k → Has result (λ y. HasBlackSibling w new_root q d y k)
@@ -85,7 +87,7 @@ module _ {E : Type 0} (n : E → Node) where
     pub left : (q : Place) → (n (v.entry y)).left ≡ Some q → (n (v.entry q)).linked ≡ true
     pub right : (q : Place) → (n (v.entry y)).right ≡ Some q → (n (v.entry q)).linked ≡ true
 
-  -- the other child of q is `upper`, black, and its far child is red
+  -- the child of q on the other side is `upper`, which is black. The child of `upper` that is farther from the short subtree is red
   pub record HasRedFarNephew (v : Table E) (root : Option Place) (q : Place) (d : Side) (upper : Place) (c : Color) (k : Focus E) : Type 0 where
     pub near : Tree
     pub left : Tree
@@ -93,32 +95,32 @@ module _ {E : Type 0} (n : E → Node) where
     pub right : Tree
     pub at : ShortAt v root q d c (branch d Black near upper (fork Red left far right)) k
 
-  -- CASE 3, a red near nephew and a black far one: the near one is rotated above the sibling
+  -- CASE 3, a red near nephew and a black far nephew: the near nephew is rotated above the sibling y
   abbrev pub RotatesNearNephew : Table E → Table E → Option Place → Option Place → Side → Place → Option Place → Type 0
   RotatesNearNephew v w root new_root d y result =
       (q : Place) (c : Color) (sibling : Tree) (k : Focus E) → Beside v root q d y c sibling k → red_child sibling ≡ true
       → Has result (λ upper. HasRedFarNephew w new_root q d upper c k)
 
-  -- CASE 4, a red far nephew, if need be after case 3: the sibling is rotated above q
+  -- CASE 4, a red far nephew, if need be after case 3: the sibling y is rotated above q, and the tree is right
   abbrev pub RotatesFarNephew : Table E → Table E → Option Place → Option Place → Place → Side → Place → Type 0
   RotatesFarNephew v w root new_root q d y =
       (c : Color) (sibling : Tree) (k : Focus E) → Beside v root q d y c sibling k → red_child sibling ≡ true → IsRestored n w new_root k
 
-  -- the subtree has the root q, and one black member too few on each path
+  -- the subtree with the root q has one black member too few on each path, and the rest of the tree is right
   pub record Rises (w : Table E) (root : Option Place) (q : Place) (k : Focus E) : Type 0 where
     pub stands : IsInFocus n w root k
     pub top_is : top k.subtree ≡ Some q
     pub short : IsShort k.frames k.subtree
     pub order : in_order (plug k.frames k.subtree) ≡ k.sequence
 
-  -- CASE 2, black nephews: y turns red. If q is red, it turns black, and all is right; otherwise the subtree at q is
-  -- one black short
+  -- CASE 2, two black nephews: the sibling y turns red. If q is red, q turns black, and the tree is right. Otherwise the subtree with the root q has one
+  -- black member too few on each path
   abbrev pub ReddensSibling : Table E → Table E → Place → Place → Bool → Type 0
   ReddensSibling v w q y done =
       (root : Option Place) (d : Side) (c : Color) (sibling : Tree) (k : Focus E) → Beside v root q d y c sibling k → red_child sibling ≡ false
       → (done ≡ is_red c) × (done ≡ true → IsRestored n w root k) × (done ≡ false → (t : Tree) × Rises w root q (record k { subtree = t }))
 
-  -- one step of the loop
+  -- ONE STEP OF THE LOOP: if `done` is true, the tree is right. Otherwise the subtree with the root q has one black member too few on each path
   abbrev pub FixesDeletionStep : Table E → Table E → Option Place → Option Place → Place → Side → Bool → Type 0
   FixesDeletionStep v w root new_root q d done =
       (c : Color) (sibling : Tree) (k : Focus E) → ShortAt v root q d c sibling k

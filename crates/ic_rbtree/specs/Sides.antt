@@ -1,4 +1,4 @@
--- Gaps and descents by sides: each statement about one side holds for the other, mirrored.
+-- Gaps and descents are described by sides, so that each statement holds for the left side and, mirrored, for the right side.
 use Rattle.std.specs.Prelude.{◌≡◌, ◌<◌, Option, Some, None, List}
 use Rattle.ic_link_ops.specs.Prelude.{Place, Cut, first, last, IsAfter, IsBefore, Table}
 use Rattle.ic_link_ops.specs.declared.color.Color.{Color}
@@ -15,12 +15,12 @@ abbrev pub IsBeside : Side → Cut → Option Place → Type 0
 IsBeside Left = IsBefore
 IsBeside Right = IsAfter
 
--- the members beyond the subtree below these frames, on this side, in order
+-- the members of the tree before the subtree below the frames, if the side is left, or after this subtree, if the side is right, in order
 abbrev pub beyond : Side → List Frame → List Place
 beyond Left fs = before fs
 beyond Right fs = after fs
 
--- the member nearest to the subtree: the last of those on the left, or the first of those on the right
+-- the member of s that is nearest to a subtree: the last member if s is left of the subtree, or the first member if s is right of it
 abbrev pub nearest : Side → List Place → Option Place
 nearest Left s = last s
 nearest Right s = first s
@@ -30,7 +30,7 @@ module _ {E : Type 0} (n : E → Node) where
   abbrev pub IsInTree : Table E → Place → Type 0
   IsInTree v p = (base : Table E) × (root : Option Place) × (fs : List Frame) × (t : Tree) × (ps : List Piece) × ClimbState n base v root fs t ps × (top t ≡ Some p)
 
-  -- y is the outermost member on this side of the subtree t below the frames fs
+  -- y is the outermost member on side d of the subtree t below the frames fs
   pub record IsEnd (v : Table E) (d : Side) (y : Place) (fs : List Frame) (t : Tree) : Type 0 where
     pub gs : List Frame
     pub c : Color
@@ -40,18 +40,19 @@ module _ {E : Type 0} (n : E → Node) where
     pub nearest_is : nearest (across d) (in_order t) ≡ Some y
     pub childless : child_on d (n (v.entry y)) ≡ None
 
-  -- y is the outermost member on this side, at or below p
+  -- y is the outermost member on side d, at or below p
   abbrev pub IsOutermost : Table E → Place → Side → Place → Type 0
   IsOutermost v p d y =
       (base : Table E) (root : Option Place) (fs : List Frame) (t : Tree) (ps : List Piece) → ClimbState n base v root fs t ps → top t ≡ Some p → IsEnd v d y fs t
 
-  -- the result is the member nearest to the subtree at p, on this side of it, none if there is none
+  -- `result` is the member nearest to the subtree with the root p among the members beyond it on side d, none if no member is there
   abbrev pub IsNearestAbove : Table E → Place → Side → Option Place → Type 0
   IsNearestAbove v p d result =
       (base : Table E) (root : Option Place) (fs : List Frame) (t : Tree) (ps : List Piece) → ClimbState n base v root fs t ps → top t ≡ Some p
       → result ≡ nearest d (beyond d fs)
 
-  -- both results, in a tree low enough for the given number of turns
+  -- in a tree whose height is less than `turns`, y is the outermost member on side d, at or below p. `IsNearestAboveWithin` states for a tree of less than
+  -- this height that `result` is the nearest member
   abbrev pub IsOutermostWithin : Table E → Place → Side → Place → Type 0
   IsOutermostWithin v p d y =
       (base : Table E) (root : Option Place) (fs : List Frame) (t : Tree) (ps : List Piece) → ClimbState n base v root fs t ps → top t ≡ Some p

@@ -12,22 +12,23 @@ module _ {T : Type 0} (key : T → ℕ) where
   key_or None = 0
   key_or (Some object) = key object
 
-  -- the key of the object at a place, and of those at the members of s
+  -- the key of the object at a place, 0 if there is none. `keys_at` is the list of the keys at the members of s
   abbrev pub key_at : Objects T → Place → ℕ
   key_at objects p = key_or (object_at objects p)
 
   abbrev pub keys_at : Objects T → List Place → List ℕ
   keys_at objects s = map (key_at objects) s
 
-  -- how the key of one object compares with that of the object at each place: `Less` if it is less
+  -- how the key of the object at p compares with the key of the object at each place: `Less` if the key at p is less
   abbrev pub against : Objects T → Place → Place → Ordering
   against objects p = compared (own_order nat_cmp key objects p) objects
 
-  -- a sequence is represented, each of its members has an object, and no key is less than the one before it
+  -- a sequence is represented, each of its members has an object, and no key is less than the key before it
   pub record RepresentsSorted (shows : List Place → Type 0) (objects : Objects T) : Type 0 where
     pub placed : RepresentsPlaced shows objects
     pub sorted : IsSorted nat_cmp (keys_at objects placed.members)
 
-  -- whatever objects there are: if they were in the order of their keys, they still are
+  -- if the members that `old` states had objects in the order of their keys, the members that `new` states have them in order as well, whatever the objects
+  -- are
   abbrev pub StaysSorted : (List Place → Type 0) → (List Place → Type 0) → Type 0
   StaysSorted old new = (objects : Objects T) → RepresentsSorted old objects → RepresentsSorted new objects

@@ -7,8 +7,7 @@ use Rattle.ic_link_ops.specs.Prelude.{Place, Objects, IsAbsent, Table, IsUnlinke
 use Rattle.ic_rbtree.specs.Borders.{IsSorted}
 
 module _ {V K : Type 0} (cmp : K → K → Ordering) (key_of : V → K) where
-  -- THE TABLE HAS ONE TREE, with these values: they are the objects at its members, no key is less than the one before it,
-  -- and nothing else is linked
+  -- THE TABLE HAS ONE TREE, and `values` are the objects at its members, in order. No key is less than the key before it, and no other place is linked
   pub record HasSorted {E H : Type 0} (Represents : Table E → H → List Place → Type 0) (linked : E → Bool) (t : Table E) (root : H) (objects : Objects V) (values : List V) : Type 0 where
     pub members : List Place
     pub shown : Represents t root members
@@ -16,7 +15,7 @@ module _ {V K : Type 0} (cmp : K → K → Ordering) (key_of : V → K) where
     pub sorted : IsSorted cmp (map key_of values)
     pub only : (p : Place) → IsAbsent p members → IsUnlinked linked t p
 
-  -- ONE VALUE MORE, before exactly those whose key is greater
+  -- ONE VALUE MORE: `value` is inserted before exactly the values whose keys are greater, and the new list is sorted by keys
   pub record InsertsValue (old : List V) (value : V) (new : List V) : Type 0 where
     pub front : List V
     pub back : List V

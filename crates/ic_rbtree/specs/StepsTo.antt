@@ -1,4 +1,4 @@
--- The place to which a step leads, over any links.
+-- These definitions state to which place a step leads over any links, even if the links are not a tree.
 use Rattle.std.specs.Prelude.{◌≡◌, ◌⊎◌, List, [], ◌∷◌, Option, Some, None}
 use Rattle.ic_link_ops.specs.Prelude.{Place, Table}
 use Rattle.ic_link_ops.specs.Frames.{across, child_on}
@@ -6,27 +6,27 @@ use Rattle.ic_link_ops.specs.RedBlackTree.{Node, node_at}
 use Rattle.ic_link_ops.specs.declared.side.Side.{Side}
 
 module _ {E : Type 0} (n : E → Node) (v : Table E) (side : Side) where
-  -- the path from a place down to y through these places, each the child of the one before it on this side
+  -- a path leads from the place p down to y, through the places of the list. Each of them is the child of the place before it on the side `side`
   abbrev pub GoesDown : Place → List Place → Place → Type 0
   GoesDown p [] y = p ≡ y
   GoesDown p (x ∷ w) y = (child_on side (node_at n v p) ≡ Some x) × GoesDown x w y
 
-  -- y is a place, or below it on the path along children on this side
+  -- y is the place p, or y is below p on the path along the children on the side `side`
   abbrev pub IsBelow : Place → Place → Type 0
   IsBelow p y = (w : List Place) × GoesDown p w y
 
-  -- the path from a place up through these places to the parent of the last; each is the parent of the one before it, which is its
-  -- child on this side
+  -- a path leads from the place p up through the places of the list to `end`, the parent of the last. Each place is the parent of the place before it, and
+  -- has that place as its child on the side `side`
   abbrev pub GoesUp : Place → List Place → Option Place → Type 0
   GoesUp p [] end = (node_at n v p).parent ≡ end
   GoesUp p (x ∷ w) end = ((node_at n v p).parent ≡ Some x) × (child_on side (node_at n v x) ≡ Some p) × GoesUp x w end
 
-  -- the path up leads to this end
+  -- a path leads from the place p up along the parents to `end`. Before its last step the path goes only from children on the side `side` to their parents
   abbrev pub ComesUpTo : Place → Option Place → Type 0
   ComesUpTo p end = (w : List Place) × GoesUp p w end
 
--- A STEP to a side LEADS TO y. If the place has a child there, y is that child or below it, on the path along children on the other side. If
--- not, y is on the path up. A step from none begins at the root
+-- A STEP to a side LEADS TO y. If the place has a child there, y is that child or below it, on the path along children on the other side. If the place has
+-- no child there, y is on the path up. A step from none begins at the root
 module _ {E : Type 0} (n : E → Node) (v : Table E) (root : Option Place) (side : Side) where
   abbrev pub StepsTo : Option Place → Place → Type 0
   StepsTo None y = (q : Place) × (root ≡ Some q) × IsBelow n v (across side) q y

@@ -1,4 +1,4 @@
--- A tree, as contracts see it.
+-- Contracts describe a tree by these definitions.
 use Rattle.std.specs.Prelude.{Option}
 use Rattle.ic_unsafe_ref.specs.declared.place.Place.{Place}
 use Rattle.ic_rbtree.specs.declared.tree.RBTree.{RBTree}
@@ -9,16 +9,16 @@ module _ {A H : Type 0} where
   abbrev pub head_of : RBTree A H → H
   head_of t = t.head
 
-  -- its root, none if it has no member. `kept`: what a tree of this kind stores
+  -- the root of the tree, none if the tree has no member. `kept` says what the head of the tree stores
   abbrev pub root_in : (H → Kept) → RBTree A H → Option Place
   root_in kept t = root_kept (kept (head_of t))
 
-  -- the adapter that it was made with
+  -- the adapter with which the tree was made
   abbrev pub adapter_of : RBTree A H → A
   adapter_of t = t.adapter
 
 module _ {A : Type 0} where
-  -- the root of a tree that stores nothing else
+  -- the root of a tree that stores its root alone
   abbrev pub root_of : RBTree A (Option Place) → Option Place
   root_of t = head_of t
 

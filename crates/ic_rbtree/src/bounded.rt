@@ -1,4 +1,4 @@
-//! Steps that end after a fixed number of turns, whatever the words contain.
+//! Steps from a position in a tree to a neighbor, which end after a fixed number of turns, whatever the link words contain.
 //!
 //! ```text
 //! step_bounded(nodes, root, None, Side::Right) // the first member
@@ -18,7 +18,7 @@ use crate::repair::TURNS;
 use ic_link_ops::Side;
 use ic_unsafe_ref::Place;
 
-// The outermost member on a side, at or below a place.
+// Returns the outermost member on the side `side`, at or below the place `place`.
 #[inline]
 pub(crate) fn outermost_bounded<N: NodeStore>(nodes: &N, place: Place, side: Side) -> Place
     requires { (root : Option Place) × IsSafe N.node (N.table nodes.now) root (Some place ∷ []) }
@@ -36,9 +36,9 @@ pub(crate) fn outermost_bounded<N: NodeStore>(nodes: &N, place: Place, side: Sid
     place
 }
 
-// The lowest member above a place that is on this side of it, `None` if there is none. If the links are not a tree, it returns the place that
-// the last turn reached, so it returns `None` only at an end. It reads both words of each member above one after the other, and counts turns
-// after the test: in this form a turn takes half as many instructions.
+// Returns the lowest member above `place` that is on the side `side` of it, `None` if there is none. If the links are not a tree, the result is the place
+// that the last turn reached, so the result is `None` only at an end. The loop reads both link words of each member above one after the other, and counts
+// turns after the test. In this form a turn takes half as many instructions.
 #[inline]
 fn above_bounded<N: NodeStore>(nodes: &N, place: Place, side: Side) -> Option<Place>
     requires { (root : Option Place) × IsSafe N.node (N.table nodes.now) root (Some place ∷ []) }
@@ -63,12 +63,12 @@ fn above_bounded<N: NodeStore>(nodes: &N, place: Place, side: Side) -> Option<Pl
     None
 }
 
-/// The position to which a step to a side leads, in the tree with this root: the next member on that side; from null the end on the
-/// other side; from the last member on that side null.
+/// The position to which a step to a side leads, in the tree with this root. From a member the step leads to the next member on that side, or to null if
+/// there is none. From null it leads to the outermost member on the other side.
 ///
-/// It requires a closed set that contains the position, and leaves no closed set. The call terminates, whatever the words contain. It returns only
-/// a place to which the links lead, and `None` only if they end. O(log n), and O(1) on average over a walk. [`RBTree::step`](crate::RBTree::step)
-/// is the same call for a tree.
+/// It requires a closed set of places, out of which no link leads, that contains the position. The call follows no link out of a closed set. The call
+/// terminates, whatever the link words contain. It returns a place only if the links lead to this place, and `None` only if the links end. O(log n), and
+/// O(1) on average over a walk. [`RBTree::step`](crate::RBTree::step) is the same call for a tree.
 #[inline]
 pub fn step_bounded<N: NodeStore>(
     nodes: &N,

@@ -1,5 +1,4 @@
-//! Builds a tree in O(n) from objects that are pushed in order. The builder first chains the objects, and then makes
-//! the tree of the chain.
+//! Builds a tree in O(n) from objects that are pushed in order. The builder first chains the objects, and then makes a tree of the chain.
 //!
 //! ```text
 //! let mut builder = RBTreeBuilder::new(ByDeadline);
@@ -28,11 +27,11 @@ use ic_link_ops::rbtree::RBTreeOps;
 use ic_link_ops::{AlreadyLinked, LinkOps, PlaceWord, Side};
 use ic_unsafe_ref::{Place, UnsafeRef};
 
-/// Linked objects in the order in which they were pushed. `build` makes a tree of them.
+/// Linked objects in the order in which they were pushed. The call `build` makes a tree of these objects.
 ///
-/// Its members form a vine: each is stored as the right child of the one before. The builder stores the first and the last. It
-/// compares no keys: to build a tree for keyed calls, push the objects in the order of their keys. A builder that is dropped leaves
-/// its members linked.
+/// The members form a vine: each member is stored as the right child of the member before it. The builder stores the first and the last member. It compares
+/// no keys, so push the objects in the order of their keys to build a tree for calls that search by keys. A builder that is dropped leaves its members
+/// linked.
 pub struct RBTreeBuilder<A> {
     front: PlaceWord,
     back: PlaceWord,
@@ -58,7 +57,7 @@ impl<A> RBTreeBuilder<A> {
         RBTreeBuilder::from_ends(adapter, None, None)
     }
 
-    /// The builder with these ends, as [`first`](Self::first) and [`last`](Self::last) return them, and this adapter, for callers who
+    /// The builder with this adapter and these two members, which [`first`](Self::first) and [`last`](Self::last) return. The call is for callers who
     /// chained the members themselves. It reads no links. O(1).
     #[inline]
     pub fn from_ends(adapter: A, first: Option<Place>, last: Option<Place>) -> RBTreeBuilder<A>
@@ -165,8 +164,8 @@ impl<A: KeyAdapter> RBTreeBuilder<A> {
 }
 
 impl<A: Copy, E: TreeHead> RBTree<A, E> {
-    /// Makes a builder of the tree, with all its members in their order and its adapter. Use it to append members, or to rebuild the
-    /// tree with the least height.
+    /// Makes a builder of the tree, with all its members in their order and its adapter. Use the builder to append members, or to rebuild the tree with the
+    /// least height.
     ///
     /// It requires that the table represents the members. No link is acquired or released, and a collection that shares no member with the tree
     /// stays as it was. It reads no key and takes no memory. O(n).

@@ -1,4 +1,4 @@
-//! The test whether a place is that of a member, by a climb to the root.
+//! Tests whether a place is that of a member, by a climb from the place to the root.
 //!
 //! ```text
 //! tree.contains(&links, place) // at most 66 places are read, whatever stale links say
@@ -20,8 +20,8 @@ use ic_link_ops::{LinkValue, NodeWords, PlainTable};
 use ic_unsafe_ref::Place;
 use std::alloc::Allocator;
 
-// The greatest number of members on a path down a tree: a path of v members in a tree of n has 2^v <= (n + 1)^2, and
-// there are fewer than 2^33 places.
+// The greatest number of members on a path down a tree. A path of v members in a tree of n members has 2^v <= (n + 1)^2, and there are fewer than 2^33
+// places.
 const LONGEST_PATH: usize = 66;
 
 // Whether `parent` is covered and linked, and has the place as a child.
@@ -41,8 +41,8 @@ fn has_child<W: NodeWords, M: Allocator, V: LinkValue>(
 impl<A: KeyAdapter, E: TreeHead> RBTree<A, E> {
     /// Whether the place is that of a member. It requires that the place is covered. O(log n): it reads no more than 66 places.
     ///
-    /// It climbs along the parents, and tests at each step whether the parent has the place as a child. So it returns
-    /// false for an object that still has the links of a tree that `fast_clear` has emptied.
+    /// The call climbs along the parents, and tests at each step whether the parent has the place below it as a child. For this reason it returns false for
+    /// an object that still has the links of a tree that `fast_clear` has emptied.
     pub fn contains<W: NodeWords, M: Allocator, V: LinkValue>(
         &self,
         links: &PlainTable<W, M, V>,

@@ -58,7 +58,7 @@ impl<A: KeyAdapter, E: TreeHead> RBTree<A, E> {
         Cursor::new(self, links, PlaceWord::of(Some(object.place())))
     }
 
-    /// A cursor on the first member, null in an empty tree. O(log n), or O(1) if the tree stores it.
+    /// A cursor on the first member, or at null in an empty tree. O(log n), or O(1) if the tree stores its first member.
     ///
     /// It requires that the table represents the tree, unless the tree stores its ends.
     #[inline]
@@ -71,7 +71,7 @@ impl<A: KeyAdapter, E: TreeHead> RBTree<A, E> {
         Cursor::new(self, links, PlaceWord::of(self.first(links)))
     }
 
-    /// A cursor on the last member, null in an empty tree. O(log n), or O(1) if the tree stores it.
+    /// A cursor on the last member, or at null in an empty tree. O(log n), or O(1) if the tree stores its last member.
     ///
     /// It requires that the table represents the tree, unless the tree stores its ends.
     #[inline]
@@ -85,7 +85,7 @@ impl<A: KeyAdapter, E: TreeHead> RBTree<A, E> {
     }
 }
 
-/// A cursor that edits. It borrows the tree and the table of its links.
+/// A cursor that edits. The cursor borrows the tree and the table of the tree's links.
 ///
 /// A move, an insert and a removal take O(log n), a replacement O(1). Only `insert` compares keys. With all other edits the caller
 /// chooses the order.
@@ -119,7 +119,7 @@ impl<A: KeyAdapter, E: TreeHead> RBTree<A, E> {
         CursorMut::new(self, links, current)
     }
 
-    /// A cursor that edits, on the first member, null in an empty tree. O(log n), or O(1) if the tree stores it.
+    /// A cursor that edits, on the first member, or at null in an empty tree. O(log n), or O(1) if the tree stores its first member.
     ///
     /// It requires that the table represents the tree, unless the tree stores its ends.
     #[inline]
@@ -132,7 +132,7 @@ impl<A: KeyAdapter, E: TreeHead> RBTree<A, E> {
         CursorMut::new(self, links, current)
     }
 
-    /// A cursor that edits, on the last member, null in an empty tree. O(log n), or O(1) if the tree stores it.
+    /// A cursor that edits, on the last member, or at null in an empty tree. O(log n), or O(1) if the tree stores its last member.
     ///
     /// It requires that the table represents the tree, unless the tree stores its ends.
     #[inline]
@@ -146,8 +146,8 @@ impl<A: KeyAdapter, E: TreeHead> RBTree<A, E> {
     }
 }
 
-/// A cursor that owns its tree. Each call takes the table of the tree's links, and costs as much as the same call of
-/// [`CursorMut`](crate::CursorMut).
+/// A cursor that owns its tree. Each call takes the table of the tree's links, and costs as much as the call of [`CursorMut`](crate::CursorMut) with this
+/// name.
 pub type CursorOwning<A, E = Root> = ic_cursors::CursorOwning<RBTree<A, E>>;
 
 impl<A: KeyAdapter, E: TreeHead> RBTree<A, E> {
@@ -178,8 +178,7 @@ impl<A: KeyAdapter, E: TreeHead> RBTree<A, E> {
         CursorOwning::new(self, PlaceWord::of(Some(object.place())))
     }
 
-    /// A cursor that owns the tree, on the first member, null in an empty tree. O(log n), or O(1) if the tree stores
-    /// it.
+    /// A cursor that owns the tree, on the first member, or at null in an empty tree. O(log n), or O(1) if the tree stores its first member.
     ///
     /// It requires that the table represents the tree, unless the tree stores its ends.
     #[inline]
@@ -192,7 +191,7 @@ impl<A: KeyAdapter, E: TreeHead> RBTree<A, E> {
         CursorOwning::new(self, at)
     }
 
-    /// A cursor that owns the tree, on the last member, null in an empty tree. O(log n), or O(1) if the tree stores it.
+    /// A cursor that owns the tree, on the last member, or at null in an empty tree. O(log n), or O(1) if the tree stores its last member.
     ///
     /// It requires that the table represents the tree, unless the tree stores its ends.
     #[inline]

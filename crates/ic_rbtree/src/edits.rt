@@ -1,7 +1,7 @@
 //! What a tree implements for cursors: moves and edits at a position, each in O(log n), and a replacement in O(1).
 //!
-//! "After" is the gap after the position's member, or the first gap at null; "before" is the gap before it, or the last
-//! gap at null. No edit compares keys. The traits document what each call does.
+//! The gap "after" a position is the gap after the position's member, or the first gap if the position is null. The gap "before" a position is the gap
+//! before the position's member, or the last gap if the position is null. No edit compares keys. The traits document what each call does.
 
 ghost use Rattle.std.specs.Prelude.{◌≡◌, None, Option, List, [], ◌∷◌, ◌++◌};
 ghost use Rattle.ic_link_ops.specs.Prelude.{Place, IsCovered, ChangesOnlyIn, site, IsValidCursor, HasMember, releases};
@@ -14,7 +14,7 @@ ghost use Rattle.ic_rbtree.specs.Tree.{head_of, adapter_of};
 
 use crate::head::TreeHead;
 use crate::linking::{insert, remove, replace};
-use crate::steps::{hole_beside, step};
+use crate::steps::{insert_pos_beside, step};
 use crate::{KeyAdapter, RBTree};
 use ic_cursors::{Bidirectional, Collection, CursorOps};
 use ic_link_ops::rbtree::RBTreeOps;
@@ -22,7 +22,7 @@ use ic_link_ops::{LinkOps, PlaceWord, Side};
 use ic_unsafe_ref::{Place, UnsafeRef};
 
 impl<A: KeyAdapter, E: TreeHead> RBTree<A, E> {
-    /// The first member, `None` in an empty tree. O(log n), or O(1) if the tree stores it.
+    /// The first member, `None` in an empty tree. O(log n), or O(1) if the tree stores its first member.
     ///
     /// It requires that the table represents the tree, unless the tree stores its ends.
     #[inline]
@@ -33,7 +33,7 @@ impl<A: KeyAdapter, E: TreeHead> RBTree<A, E> {
         self.head.end(links, Side::Left)
     }
 
-    /// The last member, `None` in an empty tree. O(log n), or O(1) if the tree stores it.
+    /// The last member, `None` in an empty tree. O(log n), or O(1) if the tree stores its last member.
     ///
     /// It requires that the table represents the tree, unless the tree stores its ends.
     #[inline]
@@ -46,7 +46,7 @@ impl<A: KeyAdapter, E: TreeHead> RBTree<A, E> {
 
     /// Removes the object, which has to be a member, from the tree. O(log n). It compares no keys.
     ///
-    /// The other members stay in their order, and so does every other collection of the table.
+    /// The other members stay in their order, and every other collection of the table stays as it is.
     #[inline]
     pub fn remove<L: RBTreeOps>(&mut self, links: &mut L, object: &UnsafeRef<A::Value>)
         requires member { HasMember (RepresentsKept E.kept L.node (L.table links.old) (head_of self.old)) object.now }
@@ -76,7 +76,7 @@ impl<A: KeyAdapter, E: TreeHead> RBTree<A, E> {
             (site links.old (head_of self.old) at.now) object (answer.inserted {T = A.Value} object result) (site links.new (head_of self.new) at.now) }
         ensures adapter { adapter_of self.new ≡ adapter_of self.old }
     {
-        let (parent, below) = hole_beside(&*links, self.head.root(), at.get(), side);
+        let (parent, below) = insert_pos_beside(&*links, self.head.root(), at.get(), side);
         insert(links, &mut self.head, parent, below, object)
     }
 }

@@ -27,14 +27,14 @@ use ic_link_ops::{PlaceWord, Side};
 use ic_unsafe_ref::Place;
 use std::marker::Model;
 
-/// What a tree stores about its members: the root, and what its kind stores beside it.
+/// What a tree stores about its members: the root, and in one kind of tree also the first and the last member.
 ///
-/// A rotation does not change the ends of a tree. So only the calls that insert, remove or replace a member update stored ends.
+/// A rotation does not change the ends of a tree. Therefore only the calls that insert, remove or replace a member update stored ends.
 pub trait TreeHead: Drop {
-    // What is stored, as contracts see it.
+    // What the head stores, in the form that contracts use.
     ghost kept: { Self → Kept };
 
-    /// What a tree with no members stores.
+    /// The head of a tree with no members.
     fn empty() -> Self
         ensures { IsEmptied (kept result) };
 
@@ -76,25 +76,24 @@ pub trait TreeHead: Drop {
         ensures ends { (front back : List Place) → IsDistinct (front ++ place ∷ back) → TellsEnds (kept self.old) (front ++ place ∷ back)
             → TellsEnds (kept self.new) (front ++ new ∷ back) };
 
-    /// The outermost member on this side, `None` if the tree has no members. O(log n), or O(1) if the tree stores it.
+    /// The outermost member on this side, `None` if the tree has no members. O(log n), or O(1) if the tree stores its ends.
     fn end<L: RBTreeOps>(&self, links: &L, side: Side) -> Option<Place>
         requires shown { HasEnds L.node (L.table links.now) (kept self.now) }
         ensures { EndIs L.node side (L.table links.now) (kept self.now) result };
 
-    /// The last member as it is stored; `None` in an empty tree, and if the tree does not store its ends. O(1).
+    /// The last member, if the tree stores it. The result is `None` in an empty tree, and if the tree does not store its ends. O(1).
     fn kept_last(&self) -> Option<Place>
         ensures { result ≡ last_kept (kept self.now) };
 
-    /// Updates the head after a call has joined the members of both trees, with `place` between them, into the tree with this root.
-    /// `other` has no members then. O(1).
+    /// Updates the head after a call has joined the members of both trees, with `place` between them, into the tree with this root. After the call, `other`
+    /// is the head of a tree with no members. O(1).
     fn join(&mut self, root: Option<Place>, place: Place, other: &mut Self)
         ensures root { root_kept (kept self.new) ≡ root }
         ensures ends { (s t : List Place) → TellsEnds (kept self.old) s → TellsEnds (kept other.old) t → TellsEnds (kept self.new) (s ++ place ∷ t) }
         ensures emptied { IsEmptied (kept other.new) };
 
-    /// Updates the head after a call has split its members into the trees with the roots `front` and `back`. This head becomes that of
-    /// the first tree, and the head of the second is returned. `place` is the first member of the second tree. O(1), or O(log n) if the
-    /// ends are stored.
+    /// Updates the head after a call has split the members of its tree into the trees with the roots `front` and `back`. This head becomes that of the
+    /// first tree, and the head of the second is returned. `place` is the first member of the second tree. O(1), or O(log n) if the ends are stored.
     fn split<L: RBTreeOps>(
         &mut self,
         links: &L,
@@ -111,7 +110,7 @@ pub trait TreeHead: Drop {
 
 /// A head that stores the root alone, in one word.
 ///
-/// In contracts it is an `Option<Place>`.
+/// In contracts this head is an `Option<Place>`.
 #[derive(Drop)]
 pub struct Root {
     word: PlaceWord,
@@ -202,7 +201,7 @@ impl TreeHead for Root {
 
 /// A head that stores the root, the first member and the last one.
 ///
-/// Good for timers and run queues: the first member is removed, and new ones mostly go after all others.
+/// This head is good for timers and run queues, where the first member is removed, and where new members mostly go after all others.
 #[derive(Drop)]
 pub struct WithEnds {
     root: PlaceWord,
@@ -229,7 +228,7 @@ impl WithEnds {
     }
 }
 
-// The end after `new` has replaced the member `out`.
+// The end of a tree after `new` has replaced the member `out`: `new` if `out` was the end, otherwise the old end.
 #[inline]
 fn end_for(out: Place, new: Place, end: Option<Place>) -> Option<Place>
     ensures { result ≡ end_for out new end }
@@ -237,7 +236,8 @@ fn end_for(out: Place, new: Place, end: Option<Place>) -> Option<Place>
     if is_at(end, out) { Some(new) } else { end }
 }
 
-// The end on side d after the member at `place` is removed: if that was the end, the next member inwards is.
+// The end of a tree on side d after the member at `place` is removed. If this member is the end, the next member inwards will be the end, otherwise the end
+// stays.
 #[inline]
 fn end_without<N: NodeStore>(
     nodes: &N,

@@ -1,4 +1,4 @@
-//! A walk that removes the members.
+//! A walk through a tree that removes the members.
 //!
 //! ```text
 //! let mut rest = tree.into_iter(&mut links);
@@ -28,8 +28,8 @@ use std::marker::PhantomData;
 
 /// A walk that removes and returns the members of a tree: `next` takes the first, and `next_back` the last.
 ///
-/// The walk unlinks each member that it returns, and no other. When the two ends meet, both are exhausted. If the walk
-/// is dropped, the remaining members stay linked: call [`finish`](Self::finish) to unlink them.
+/// The walk unlinks each member that it returns, and no other. When the walks from the two ends have met, no member is left for either. If the walk is
+/// dropped, the remaining members stay linked: call [`finish`](Self::finish) to unlink them.
 pub struct IntoIter<'a, A, L> {
     front: PlaceWord,
     back: PlaceWord,
@@ -64,8 +64,8 @@ impl<'a, A: KeyAdapter, L: RBTreeOps> Iterator for IntoIter<'a, A, L> {
     /// Removes the first remaining member and returns it, or `None` if none is left. O(log n), and O(1) on average over
     /// the whole walk.
     ///
-    /// A child of the removed member takes its position and stays linked, whatever its color is, and also if it has no
-    /// parent then. No colors are repaired.
+    /// If the removed member has a child, this child takes the position of the removed member and stays linked, whatever the color of the child is. This
+    /// also holds if no parent is left for the child. No colors are repaired.
     #[inline]
     fn next(&mut self) -> Option<UnsafeRef<A::Value>> {
         let place = take_end(self.links, &mut self.front, &mut self.back, Side::Left)?;
@@ -80,7 +80,7 @@ impl<'a, A: KeyAdapter, L: RBTreeOps> DoubleEndedIterator for IntoIter<'a, A, L>
 
     ghost next_back_gives = { TakesLast L.node L.table L.Trace };
 
-    /// Removes the last remaining member and returns it, as [`next`](Self::next) does at the front.
+    /// Removes the last remaining member and returns it, as [`next`](Self::next) does with the first remaining member.
     #[inline]
     fn next_back(&mut self) -> Option<UnsafeRef<A::Value>> {
         let place = take_end(self.links, &mut self.back, &mut self.front, Side::Right)?;
@@ -99,7 +99,8 @@ impl<'a, A, L: RBTreeOps> IntoIter<'a, A, L> {
         self.links
     }
 
-    /// Unlinks the members that the walk has not returned, from the front on. One step for each of them, and no memory. O(n).
+    /// Unlinks the members that the walk has not returned, from the first to the last. The call takes one step for each of these members, and no memory.
+    /// O(n).
     pub fn finish(self)
         requires can_take { CanTake L.node L.table self }
         ensures released { (w : List Place) → Leaves L.node L.table self.entry w
@@ -140,9 +141,9 @@ impl<A: KeyAdapter, E: TreeHead> RBTree<A, E> {
     }
 }
 
-// Removes the member at the near end, which is the outermost one on this side, and unlinks it.
+// Removes the member at the near end, which is the outermost member on this side, and unlinks it.
 //
-// It has no child on this side, and its other child takes its position. Colors stay, and no root is stored.
+// The member has no child on this side, and its other child takes the position of the member. No other color is changed, and no root is stored.
 fn take_end<L: RBTreeOps>(
     links: &mut L,
     near: &mut PlaceWord,
@@ -171,7 +172,7 @@ fn take_end<L: RBTreeOps>(
     Some(place)
 }
 
-// Makes a subtree the child of a member on this side, if there is such a member.
+// Makes the subtree with the root `to` the child of `parent` on this side, if there is a parent.
 fn hang<L: RBTreeOps>(links: &mut L, parent: Option<Place>, side: Side, to: Option<Place>)
     requires parent { IsNamed L.node (L.table links.old) parent }
     requires named { IsNamed L.node (L.table links.old) to }
@@ -183,8 +184,8 @@ fn hang<L: RBTreeOps>(links: &mut L, parent: Option<Place>, side: Side, to: Opti
     }
 }
 
-// The outermost member on this side, given that all members there are at this child and below; if there is no child,
-// the parent.
+// Returns the outermost member on this side of a tree that has no member beyond the child `below` of `parent` and its subtree. If there is no child, the
+// result is the parent.
 fn outer<L: RBTreeOps>(
     links: &L,
     below: Option<Place>,

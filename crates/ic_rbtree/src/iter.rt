@@ -25,10 +25,10 @@ use ic_unsafe_ref::{Objects, Place, Values};
 use std::alloc::AllocError;
 use std::marker::PhantomData;
 
-/// A walk over the objects of a tree: `next` returns them from the front, `next_back` from the back.
+/// A walk over the objects of a tree: `next` returns the objects from the front, and `next_back` from the back.
 ///
-/// When the two ends meet, both are exhausted. The bound `A::Key: 'a` holds for every key that is a part of its object.
-/// Only callers that are generic in the adapter have to write it.
+/// When the walks from the two ends have met, no object is left for either. The bound `A::Key: 'a` holds for every key that is a part of its object. Only
+/// callers that are generic in the adapter have to write this bound.
 pub struct Iter<'a, A: KeyAdapter, L, O = Objects<<A as KeyAdapter>::Value>>
 where
     A::Key: 'a,
@@ -89,7 +89,7 @@ impl<'a, A: KeyAdapter, L: RBTreeOps, O: Values<A::Value>> DoubleEndedIterator
 
     ghost next_back_gives = { GivesLast (objects_left L.node L.table O.values) };
 
-    /// The next object from the back, or `None` if none is left. O(log n), as `next`.
+    /// The next object from the back, or `None` if none is left. It costs as much as `next`, O(log n).
     fn next_back(&mut self) -> Option<&'a A::Value> {
         let place = self.tail?;
         let objects: &'a O = self.objects;
@@ -109,7 +109,7 @@ impl<A: KeyAdapter, L, O> Clone for Iter<'_, A, L, O> {
 
     ghost is_infallible = { λ _. ⊤ };
 
-    /// A walk over the same objects, from the same two ends. It never fails.
+    /// A second walk over the objects that remain, from the two ends of this walk. The call never fails.
     fn clone(&self) -> Result<Self, AllocError> {
         Ok(Iter {
             root: self.root,
@@ -140,7 +140,7 @@ impl<A: KeyAdapter, E: TreeHead> RBTree<A, E> {
     ghost use Rattle.ic_link_ops.specs.PlacedObjects.{RepresentsPlaced, values_at};
     ghost use Rattle.ic_rbtree.specs.Iter.{objects_left, CanWalk};
 
-    /// A walk over the objects of the tree, from either end. It requires that all members are placed. O(log n), and O(1) where the ends are kept.
+    /// A walk over the objects of the tree, from either end. It requires that all members are placed. O(log n), or O(1) if the tree stores its ends.
     pub fn iter<'a, L: RBTreeOps, O: Values<A::Value>>(
         &'a self,
         links: &'a L,
@@ -161,8 +161,8 @@ impl<A: KeyAdapter, E: TreeHead> RBTree<A, E> {
         }
     }
 
-    /// A value that prints the objects of the tree, in order: `{:?}` writes `[10, 20]`, and `{:#?}` writes each object on lines of its own.
-    /// It requires that all members are placed. O(log n), and no memory.
+    /// A value that prints the objects of the tree, in order: `{:?}` writes `[10, 20]`, and `{:#?}` writes each object on lines of its own. It requires
+    /// that all members are placed. The call takes O(log n), and no memory.
     pub fn debug<'a, L: RBTreeOps, O: Values<A::Value>>(
         &'a self,
         links: &'a L,

@@ -20,7 +20,7 @@ use crate::head::TreeHead;
 use crate::join::cut::cut_at;
 use crate::join::roots::join;
 use crate::nodes::NodeStore;
-use crate::steps::hole_beside;
+use crate::steps::insert_pos_beside;
 use crate::{KeyAdapter, RBTree};
 use ic_link_ops::rbtree::RBTreeOps;
 use ic_link_ops::{AlreadyLinked, LinkOps, Side};
@@ -30,9 +30,8 @@ impl<A, E: TreeHead> RBTree<A, E> {
     /// Moves all members of `other` after those of this tree, in their order, and leaves `other` empty. It compares no
     /// keys.
     ///
-    /// It requires that the two trees share no member. Trees that share no member with either stay as they are, and no link is
-    /// acquired or released. It appends as `LinkedList::append` of std does; `BTreeMap::append` puts each entry where its key belongs.
-    /// O(log n).
+    /// It requires that the two trees share no member. Trees that share no member with either stay as they are, and no link is acquired or released. The
+    /// call appends as `LinkedList::append` of std does. In contrast, `BTreeMap::append` puts each entry where its key belongs. O(log n).
     pub fn append<N: NodeStore>(&mut self, nodes: &mut N, other: &mut RBTree<A, E>)
         requires shown { RepresentsPartsSome (RepresentsKept E.kept N.node) (N.table nodes.old) (head_of self.old) (head_of other.old) }
         ensures appended { (gap : Cut) → RepresentsParts (RepresentsKept E.kept N.node) (N.table nodes.old) (head_of self.old) (head_of other.old) gap
@@ -52,8 +51,8 @@ impl<A, E: TreeHead> RBTree<A, E> {
 }
 
 impl<A: KeyAdapter, E: TreeHead> RBTree<A, E> {
-    /// Inserts the object after all members of this tree and moves all members of `other` after it, unless the object's link is
-    /// refused. `other` is empty then. It compares no keys.
+    /// Inserts the object after all members of this tree and moves all members of `other` after it, unless the object's link is refused. If the link is
+    /// acquired, `other` is empty after the call. The call compares no keys.
     ///
     /// It requires that the object's place is covered, and that the two trees share no member. If the link is refused, the object is
     /// returned, and both trees and their links are as they were. O(log n).
@@ -83,12 +82,12 @@ impl<A: KeyAdapter, E: TreeHead> RBTree<A, E> {
         Ok(())
     }
 
-    /// Keeps the members before the object, which has to be a member, and returns the object and all members after it as a tree
-    /// with the same adapter. It compares no keys, and no link is acquired or released.
+    /// Keeps the members before the object, which has to be a member, and returns the object and all members after it as a tree with the adapter of this
+    /// tree. It compares no keys, and no link is acquired or released.
     ///
-    /// Trees that share no member with this one stay as they are. O(log n): it joins the subtrees beside one path up, each in time
-    /// proportional to a difference of heights (Cormen, Leiserson, Rivest and Stein, problem 13-2). Each turn passes the heights on, so no
-    /// turn measures a tree, and the sum of the differences is at most a multiple of the tree's height.
+    /// Trees that share no member with this tree stay as they are. O(log n): the call joins the subtrees beside one path up, each in time proportional to a
+    /// difference of heights (Cormen, Leiserson, Rivest and Stein, problem 13-2). Each turn of the loop passes the heights on to the next turn, so that no
+    /// turn measures a tree. The sum of the differences is at most a multiple of the tree's height.
     pub fn split_off<L: RBTreeOps>(
         &mut self,
         links: &mut L,
@@ -102,7 +101,7 @@ impl<A: KeyAdapter, E: TreeHead> RBTree<A, E> {
         ensures rest_adapter { adapter_of result ≡ adapter_of self.old }
     {
         let place = object.place();
-        let (parent, side) = hole_beside(&*links, self.head.root(), Some(place), Side::Left);
+        let (parent, side) = insert_pos_beside(&*links, self.head.root(), Some(place), Side::Left);
         let (front, back) = cut_at(links, parent, side);
         let rest = self.head.split(&*links, front, place, back);
         RBTree {

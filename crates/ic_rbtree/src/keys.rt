@@ -10,7 +10,7 @@ pub(crate) mod descent;
 pub(crate) mod entry;
 pub(crate) mod find;
 pub(crate) mod hinted;
-pub(crate) mod hole;
+pub(crate) mod insert_pos;
 pub mod key_adapter;
 pub(crate) mod keyed;
 pub(crate) mod ordered;

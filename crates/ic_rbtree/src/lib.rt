@@ -1,6 +1,6 @@
 //! The red-black tree: objects in order, which are inserted and removed anywhere.
 //!
-//! The caller chooses the order by cursors. If only the keyed calls insert objects, it is the order of the keys.
+//! The caller chooses the order by cursors. If objects are inserted only by calls that search by keys, the order is that of the keys.
 //!
 //! ```text
 //! let mut tree = RBTree::new(ByDeadline);
@@ -8,16 +8,17 @@
 //! let first = tree.front_mut(&mut links).remove();
 //! ```
 //!
-//! A tree with [`WithEnds`] also stores its first and its last member, for timers and queues. It has the same calls.
+//! A tree with [`WithEnds`] also stores its first and its last member, for timers and queues. A tree with these ends has all calls that a tree without them
+//! has.
 //!
 //! ```text
 //! let mut timers = RBTree::with_ends(ByDeadline);
 //! let due = timers.pop_front(&mut links); // no descent
 //! ```
 //!
-//! You may store trees in words of your own. For an edit, make a tree of the root that you store, call the layer under these calls,
-//! and store the root that the tree has then. That layer runs over every implementation of [`NodeStore`]. It requires only a set of
-//! linked places that contains the places of the call and out of which no link leads.
+//! You may store trees in words of your own. For an edit, make a tree of the root that you store, call the layer under these calls, and store the root that
+//! the tree has after the edit. The layer under these calls runs over every implementation of [`NodeStore`]. It requires only a set of linked places that
+//! contains the places of the call and out of which no link leads.
 //!
 //! ```text
 //! let mut tree = RBTree::from_root((), root);

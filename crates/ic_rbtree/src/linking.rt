@@ -1,8 +1,8 @@
-//! Calls that link a place and insert it, remove a member and unlink it, or replace one by the other.
+//! Calls that link a place and insert it, that remove a member and unlink it, or that replace a member by a place.
 //!
-//! The repair follows Cormen, Leiserson, Rivest and Stein, Introduction to Algorithms, chapter 13, with these departures: mirrored
-//! cases are written once, by sides, and compiled for each side; a missing child has no node; a child without a sibling that takes
-//! its parent's position turns black at once, since it was red.
+//! The repair follows Cormen, Leiserson, Rivest and Stein, Introduction to Algorithms, chapter 13, with three departures. Mirrored cases are written once,
+//! by sides, and compiled for each side. A missing child has no node. A child without a sibling that takes its parent's position turns black at once,
+//! because it was red.
 
 ghost use Rattle.std.specs.Prelude.{◌≡◌, Some, List, [], ◌∷◌};
 ghost use Rattle.std.specs.Bool.{OnTrue, OnFalse};
@@ -15,7 +15,7 @@ ghost use Rattle.ic_rbtree.specs.Ordered.{InsertsInOrder};
 
 use crate::Probe;
 use crate::head::TreeHead;
-use crate::keys::hole::hole_for;
+use crate::keys::insert_pos::insert_pos_for;
 use ic_link_ops::rbtree::RBTreeOps;
 use ic_link_ops::{LinkOps, Side};
 use ic_unsafe_ref::{Place, Values};
@@ -30,7 +30,7 @@ pub(crate) fn insert<L: RBTreeOps, E: TreeHead>(
     place: Place,
 ) -> bool
     requires covered { IsCovered (L.table links.old) place }
-    requires hole { (gap : Cut) × RepresentsKept E.kept L.node (L.table links.old) head.old (join gap)
+    requires insert_pos { (gap : Cut) × RepresentsKept E.kept L.node (L.table links.old) head.old (join gap)
         × IsInsertPos L.node (L.table links.old) parent side gap }
     ensures inserted { (gap : Cut) → RepresentsKept E.kept L.node (L.table links.old) head.old (join gap)
         → IsInsertPos L.node (L.table links.old) parent side gap → OnTrue result
@@ -46,8 +46,8 @@ pub(crate) fn insert<L: RBTreeOps, E: TreeHead>(
     true
 }
 
-// Links the place as a new member where it belongs by the probe's order, after the members that compare equal. It returns
-// whether the link was acquired. If not, no key is compared.
+// Links the place as a new member where it belongs by the probe's order, after the members that compare equal. It returns whether the link was acquired. If
+// the link was not acquired, no key is compared.
 #[inline]
 pub(crate) fn insert_in_order<L: RBTreeOps, E: TreeHead, V, P: Probe<V>, O: Values<V>>(
     links: &mut L,
@@ -71,7 +71,7 @@ pub(crate) fn insert_in_order<L: RBTreeOps, E: TreeHead, V, P: Probe<V>, O: Valu
     if !links.acquire_link(object) {
         return false;
     }
-    let (parent, side) = hole_for(&*links, &*head, objects, probe);
+    let (parent, side) = insert_pos_for(&*links, &*head, objects, probe);
     head.attach(links, parent, side, object);
     true
 }

@@ -16,9 +16,9 @@ use ic_link_ops::rbtree::RBTreeOps;
 use ic_link_ops::{Color, Side};
 use ic_unsafe_ref::Place;
 
-/// A store of entries that each name two children and a parent and have a color. The edits of a tree write to it.
+/// A store of entries, each with two children, a parent and a color. The edits of a tree write to it.
 ///
-/// Every table of tree links is a store. The calls of this trait link and unlink no place.
+/// Every table of tree links is a store of this kind. The calls of this trait link and unlink no place.
 pub trait NodeStore {
     /// All that is stored at a place.
     type Entry;
@@ -29,7 +29,7 @@ pub trait NodeStore {
     // What an entry states: whether its place is linked, its children, its parent and its color.
     ghost node: { Self.Entry → Node };
 
-    // From the one state to the other, calls have set only children, parents and colors.
+    // Between the two states of the store, calls have set only children, parents and colors.
     ghost KeepsLinks: { Self → Self → Type 0 };
 
     /// The left child of `place`. It requires that the place is linked. O(1).
@@ -66,7 +66,7 @@ pub trait NodeStore {
         is_at(child, place)
     }
 
-    /// Sets the left child of `place`. It requires that the place is linked, and so is the place that it names. O(1).
+    /// Sets the left child of `place`. It requires that `place` is linked, and that `left` is none or linked. O(1).
     fn set_left(&mut self, place: Place, left: Option<Place>)
         requires linked { IsNode node (table self.old) place }
         requires named { IsNamed node (table self.old) left }
@@ -74,7 +74,7 @@ pub trait NodeStore {
         ensures frame { ChangesOnly (table self.old) (table self.new) place }
         ensures keeps_links { KeepsLinks self.old self.new };
 
-    /// Sets the right child of `place`. It requires that the place is linked, and so is the place that it names. O(1).
+    /// Sets the right child of `place`. It requires that `place` is linked, and that `right` is none or linked. O(1).
     fn set_right(&mut self, place: Place, right: Option<Place>)
         requires linked { IsNode node (table self.old) place }
         requires named { IsNamed node (table self.old) right }
@@ -82,7 +82,7 @@ pub trait NodeStore {
         ensures frame { ChangesOnly (table self.old) (table self.new) place }
         ensures keeps_links { KeepsLinks self.old self.new };
 
-    /// Sets the parent of `place`. It requires that the place is linked, and so is the place that it names. O(1).
+    /// Sets the parent of `place`. It requires that `place` is linked, and that `parent` is none or linked. O(1).
     fn set_parent(&mut self, place: Place, parent: Option<Place>)
         requires linked { IsNode node (table self.old) place }
         requires named { IsNamed node (table self.old) parent }
@@ -97,8 +97,7 @@ pub trait NodeStore {
         ensures frame { ChangesOnly (table self.old) (table self.new) place }
         ensures keeps_links { KeepsLinks self.old self.new };
 
-    /// Sets the parent and the color of `place`, at once. It requires that the place is linked, and so is the place that it
-    /// names. O(1).
+    /// Sets the parent and the color of `place`, at once. It requires that `place` is linked, and that `parent` is none or linked. O(1).
     fn set_parent_and_color(&mut self, place: Place, parent: Option<Place>, color: Color)
         requires linked { IsNode node (table self.old) place }
         requires named { IsNamed node (table self.old) parent }
@@ -106,8 +105,8 @@ pub trait NodeStore {
         ensures frame { ChangesOnly (table self.old) (table self.new) place }
         ensures keeps_links { KeepsLinks self.old self.new };
 
-    // The laws: no change is quiet, two quiet changes together are quiet, and a quiet change links and unlinks no
-    // place.
+    // The laws of `KeepsLinks`: it holds from a state to this state, and it holds over two changes if it holds over each. A change over which it holds
+    // links and unlinks no place.
     ghost keeps_links_still: { (t : Self) → KeepsLinks t t };
 
     ghost keeps_links_on: { (a b c : Self) → KeepsLinks a b → KeepsLinks b c → KeepsLinks a c };

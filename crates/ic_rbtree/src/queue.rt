@@ -19,8 +19,8 @@ use ic_link_ops::{AlreadyLinked, LinkOps, Side};
 use ic_unsafe_ref::UnsafeRef;
 
 impl<A: KeyAdapter, E: TreeHead> RBTree<A, E> {
-    /// Removes the first object and returns it, `None` if the tree is empty. O(log n). If the tree stores its ends, it makes no descent,
-    /// and takes O(1) on average over removals.
+    /// Removes the first object and returns it, `None` if the tree is empty. O(log n). If the tree stores its ends, the call makes no descent, and takes
+    /// O(1) on average over removals.
     #[inline]
     pub fn pop_front<L: RBTreeOps>(&mut self, links: &mut L) -> Option<UnsafeRef<A::Value>>
         requires shown { RepresentsKeptSome E.kept L.node (L.table links.old) (head_of self.old) }
@@ -38,7 +38,7 @@ impl<A: KeyAdapter, E: TreeHead> RBTree<A, E> {
         Some(object)
     }
 
-    /// Removes the last object and returns it, `None` if the tree is empty. O(log n), as [`pop_front`](Self::pop_front).
+    /// Removes the last object and returns it, `None` if the tree is empty. It costs as much as [`pop_front`](Self::pop_front), O(log n).
     #[inline]
     pub fn pop_back<L: RBTreeOps>(&mut self, links: &mut L) -> Option<UnsafeRef<A::Value>>
         requires shown { RepresentsKeptSome E.kept L.node (L.table links.old) (head_of self.old) }
@@ -56,8 +56,8 @@ impl<A: KeyAdapter, E: TreeHead> RBTree<A, E> {
         Some(object)
     }
 
-    /// Inserts the object after all others, whatever its key is, unless its link is refused. It compares no keys. O(log n). If the
-    /// tree stores its ends, it makes no descent, and takes O(1) on average over inserts.
+    /// Inserts the object after all others, whatever its key is, unless its link is refused. It compares no keys. O(log n). If the tree stores its ends,
+    /// the call makes no descent, and takes O(1) on average over inserts.
     ///
     /// It requires that the object's place is covered. If the link is refused, the object is returned, and the tree and its
     /// links are as they were.

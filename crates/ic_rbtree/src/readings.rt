@@ -34,7 +34,7 @@ pub(crate) fn child<N: NodeStore>(links: &N, place: Place, side: Side) -> Option
     }
 }
 
-// Whether `end` is `place`: one comparison of words.
+// Whether `end` is `place`. The function compares two words.
 #[inline]
 pub(crate) fn is_at(end: Option<Place>, place: Place) -> bool
     ensures { result ≡ is_end end place }
@@ -62,13 +62,13 @@ pub(crate) fn has_red_child<N: NodeStore>(links: &N, place: Place) -> bool
     is_red(links, links.left(place)) || is_red(links, links.right(place))
 }
 
-// The left child, or else the right one.
+// Returns the left child of a member, or if there is no left child, the right child.
 pub(crate) fn only_child<N: NodeStore>(links: &N, place: Place) -> Option<Place>
     requires { IsNode N.node (N.table links.now) place }
     ensures { result ≡ or_else (node_at N.node (N.table links.now) place).left
         (node_at N.node (N.table links.now) place).right }
 {
-    // The word that both branches compute.
+    // Both branches compute the link word of the child that is returned.
     let only = match links.left(place) {
         Some(left) => PlaceWord::of(Some(left)),
         None => PlaceWord::of(links.right(place)),
@@ -76,7 +76,7 @@ pub(crate) fn only_child<N: NodeStore>(links: &N, place: Place) -> Option<Place>
     only.get()
 }
 
-/// The side of its parent on which a member is.
+/// Returns the side of `parent` on which its child `place` is.
 pub(crate) fn side_of<N: NodeStore>(links: &N, place: Place, parent: Place) -> Side
     requires { IsNode N.node (N.table links.now) parent }
     ensures { IsSideOf N.node (N.table links.now) place parent result }
@@ -98,7 +98,7 @@ pub(crate) fn side_below<N: NodeStore>(links: &N, place: Place, parent: Option<P
     }
 }
 
-// The right child of a member that has both.
+// Returns the right child of a member that has both children, otherwise `None`.
 pub(crate) fn second_child<N: NodeStore>(links: &N, place: Place) -> Option<Place>
     requires { IsNode N.node (N.table links.now) place }
     ensures { result ≡ both_of (node_at N.node (N.table links.now) place).left

@@ -1,7 +1,7 @@
 //! Steps from a position in a tree to a neighbor, and to the hole between them.
 //!
-//! If a member has a child on the side of the step, its neighbor is the outermost member below that child, on the other
-//! side. Otherwise it is the lowest member above that has the member on its other side.
+//! If a member has a child on the side of the step, its neighbor is the outermost member below that child, on the other side. Otherwise the neighbor is the
+//! lowest member above whose subtree on the other side contains the member.
 
 ghost use Rattle.std.specs.Prelude.{◌≡◌, List, Option, Some, None};
 ghost use Rattle.ic_link_ops.specs.Prelude.{Place, Cut, join, site, IsValidCursor};
@@ -15,7 +15,7 @@ use ic_link_ops::rbtree::RBTreeOps;
 use ic_link_ops::{PlaceWord, Side};
 use ic_unsafe_ref::Place;
 
-// The outermost member on a side, at or below a place.
+// Returns the outermost member on a side, at or below a place.
 #[inline]
 pub(crate) fn outermost<L: RBTreeOps>(links: &L, place: Place, side: Side) -> Place
     requires { IsInTree L.node (L.table links.now) place }
@@ -28,7 +28,7 @@ pub(crate) fn outermost<L: RBTreeOps>(links: &L, place: Place, side: Side) -> Pl
     place
 }
 
-// The lowest member above a place that is on this side of it, `None` if there is none.
+// Returns the lowest of the members above a place that are on this side of the place, `None` if there is none.
 #[inline]
 pub(crate) fn above_on<L: RBTreeOps>(links: &L, place: Place, side: Side) -> Option<Place>
     requires { IsInTree L.node (L.table links.now) place }
@@ -55,8 +55,8 @@ pub(crate) fn end_on<L: RBTreeOps>(links: &L, root: Option<Place>, side: Side) -
     Some(outermost(links, root?, side))
 }
 
-// The same member, for a cursor that moves from null. This happens once a round, so the call is not inlined, and the code
-// of a step from a member stays short.
+// Returns the outermost member on a side, for a cursor that moves from null. A cursor moves from null only once in a round through the tree, so this call
+// is not inlined, and the code of a step from a member stays short.
 #[cold]
 #[inline(never)]
 fn end_from_null<L: RBTreeOps>(links: &L, root: Option<Place>, side: Side) -> Option<Place>
@@ -66,7 +66,7 @@ fn end_from_null<L: RBTreeOps>(links: &L, root: Option<Place>, side: Side) -> Op
     end_on(links, root, side)
 }
 
-// The position to which a step to a side leads; from null it leads to the end on the other side.
+// Returns the position to which a step to a side leads. From null the step leads to the outermost member on the other side.
 #[inline]
 pub(crate) fn step<L: RBTreeOps>(
     links: &L,
@@ -81,16 +81,16 @@ pub(crate) fn step<L: RBTreeOps>(
     let Some(place) = current else {
         return PlaceWord::of(end_from_null(links, root, other(side))).get();
     };
-    // The word that all branches compute.
+    // All branches compute the link word of the result.
     match child(links, place, side) {
         Some(below) => PlaceWord::of(Some(outermost(links, below, other(side)))).get(),
         None => PlaceWord::of(above_on(links, place, side)).get(),
     }
 }
 
-// The hole beside a position: the member below which it is, `None` in an empty tree, and the side of that member.
+// Returns the hole, a missing child, beside a position: the member above the hole, `None` in an empty tree, and the side of this member.
 #[inline]
-pub(crate) fn hole_beside<L: RBTreeOps>(
+pub(crate) fn insert_pos_beside<L: RBTreeOps>(
     links: &L,
     root: Option<Place>,
     current: Option<Place>,

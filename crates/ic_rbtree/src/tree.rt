@@ -1,4 +1,4 @@
-//! The tree.
+//! The type of red-black trees, the calls that make a tree or read its root, and the layer of edits under all calls.
 //!
 //! ```text
 //! let mut tree = RBTree::new(ByDeadline);
@@ -29,8 +29,8 @@ use ic_unsafe_ref::{Place, Values};
 
 /// A red-black tree of objects in an order. It stores its root, and the adapter that finds the keys.
 ///
-/// Good for objects in order that are inserted and removed anywhere. The tree has the sequence that the table represents for its root. A type
-/// parameter says what it stores besides the root: nothing, or with [`WithEnds`](crate::WithEnds) its first and its last member.
+/// The tree is good for objects in order that are inserted and removed anywhere. The tree has the sequence that the table represents for its root. The type
+/// parameter `E` determines what the tree stores besides the root: nothing, or with [`WithEnds`](crate::WithEnds) its first and its last member.
 pub struct RBTree<A, E = Root> {
     pub(crate) head: E,
     pub(crate) adapter: A,
@@ -80,7 +80,7 @@ impl<A> RBTree<A> {
         }
     }
 
-    /// The same tree, which also stores its ends. The call finds them in the table. It requires that the table
+    /// Turns the tree into a tree that also stores its first and its last member. The call finds these two in the table. It requires that the table
     /// represents the tree. O(log n).
     pub fn keep_ends<L: RBTreeOps>(self, links: &L) -> RBTree<A, WithEnds>
         requires shown { RepresentsSome L.node (L.table links.now) (root_of self) }
@@ -107,7 +107,7 @@ impl<A> RBTree<A, WithEnds> {
         RBTree::empty(adapter)
     }
 
-    /// The same tree, which stores only its root. O(1).
+    /// Turns the tree into a tree that stores only its root. O(1).
     #[inline]
     pub fn forget_ends(self) -> RBTree<A>
         ensures root { root_of result ≡ (ends_of self).root }
@@ -158,15 +158,14 @@ impl<A: Copy, E> RBTree<A, E> {
     }
 }
 
-// The layer under the calls of a tree, over any store of nodes. A set of places is closed if each place in it is linked,
-// and the root, and the children and the parents of all places in it, are none or in the set.
+// The layer under the calls of a tree, over any store of nodes. A set of places is closed if each place in the set is linked, and if the children and the
+// parent of each are none or in the set. The root must also be none or in the set.
 impl<A, E: TreeHead> RBTree<A, E> {
     /// Inserts `place` on this side of `parent`, which has no child there, and repairs the colors. If there is no parent, the
     /// tree is empty.
     ///
-    /// It requires a set that contains `place` and `parent` and is closed, except that the links of `place` may lead anywhere.
-    /// The call terminates and leaves that set closed, whatever the words contain. If the table holds a tree, the result is that
-    /// tree with `place` inserted. O(log n).
+    /// It requires a set that contains `place` and `parent` and is closed, except that the links of `place` may lead anywhere. The call terminates and
+    /// leaves the required set closed, whatever the link words contain. If the table holds a tree, the result is that tree with `place` inserted. O(log n).
     #[inline(always)]
     pub fn attach<N: NodeStore>(
         &mut self,
@@ -189,8 +188,8 @@ impl<A, E: TreeHead> RBTree<A, E> {
 
     /// Removes the member at `place`, and repairs the colors. The place stays linked.
     ///
-    /// It requires a closed set that contains `place`. The call terminates and leaves that set closed, whatever the words contain.
-    /// If the table holds a tree, the result is that tree without `place`. O(log n).
+    /// It requires a closed set that contains `place`. The call terminates and leaves the required set closed, whatever the link words contain. If the
+    /// table holds a tree, the result is that tree without `place`. O(log n).
     pub fn unlink<N: NodeStore>(&mut self, nodes: &mut N, place: Place)
         requires { IsSafe N.node (N.table nodes.old) (root_in E.kept self.old) (Some place ∷ []) }
         ensures taken { TakesAway N.node (N.table nodes.old) (N.table nodes.new) (root_in E.kept self.old) (root_in E.kept self.new) place }
@@ -204,11 +203,10 @@ impl<A, E: TreeHead> RBTree<A, E> {
         self.head.unlink(nodes, place);
     }
 
-    /// Replaces the member at `place` by `new`, with its color. Both stay linked.
+    /// Replaces the member at `place` by `new`, with the color of this member. Both stay linked.
     ///
-    /// It requires two different places, and a set that contains both and is closed, except that the links of `new` may lead
-    /// anywhere. The call leaves that set closed, whatever the words contain. If the table holds a tree, the result is that tree with
-    /// `new` instead of `place`. O(1).
+    /// It requires two different places, and a set that contains both and is closed, except that the links of `new` may lead anywhere. The call leaves the
+    /// required set closed, whatever the link words contain. If the table holds a tree, the result is that tree with `new` instead of `place`. O(1).
     pub fn take_place<N: NodeStore>(&mut self, nodes: &mut N, place: Place, new: Place)
         requires safe { IsSafeBut N.node (N.table nodes.old) (root_in E.kept self.old) new (Some place ∷ Some new ∷ []) }
         requires apart { place ≢ new }
@@ -223,8 +221,8 @@ impl<A, E: TreeHead> RBTree<A, E> {
         self.head.take_place(nodes, place, new);
     }
 
-    /// The position to which a step to a side leads: the next member on that side; from null the end on the other side; from the
-    /// last member on that side null.
+    /// The position to which a step to a side leads. From a member the step leads to the next member on that side, or to null if there is none. From null
+    /// it leads to the outermost member on the other side.
     ///
     /// It requires a closed set that contains the position. The call terminates, whatever the words contain. O(log n), and O(1)
     /// on average over a walk.
@@ -237,8 +235,8 @@ impl<A, E: TreeHead> RBTree<A, E> {
         step_bounded(nodes, self.head.root(), current, side)
     }
 
-    /// Goes down from the root to the gap where the probe's key belongs: after the members that are less than the key, before
-    /// those that are greater, and past equal ones to the side `equals`.
+    /// Goes down from the root to the gap where the probe's key belongs. The gap is after the members that are less than the key, and before the members
+    /// that are greater. At members that are equal, the descent goes to the side `equals`.
     ///
     /// It requires that all members are placed, and that the probe's count is at most `u64::MAX - 66`. O(log n): v comparisons in a
     /// tree of n members, with `2^v <= (n + 1)^2`, and `2^(v + 1) <= (n + 1)^2` if n is at least 1.

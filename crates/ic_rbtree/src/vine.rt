@@ -1,7 +1,7 @@
-//! A vine is a tree without left children: linked places in order, each the right child of the one before.
+//! A vine is a tree without left children: linked places in order, each the right child of the place before it.
 //!
-//! These functions make a vine of a tree and a tree of a vine, in place and in O(n), as in Day, Stout and Warren's algorithm. They read
-//! only the right children of a vine, not its colors and parents.
+//! These functions make a vine of a tree and a tree of a vine, in place and in O(n), as in Day, Stout and Warren's algorithm. These functions read only the
+//! right children of a vine, not its colors and parents.
 //!
 //! ```text
 //! let first = tree_to_vine(links, root, None, TURNS);
@@ -25,7 +25,7 @@ use crate::repair::writers::{adopt, set_node};
 use ic_link_ops::{Color, PlaceWord};
 use ic_unsafe_ref::Place;
 
-// The number of members of a vine, from its first one on.
+// Returns the number of members of a vine, given its first member.
 pub(crate) fn vine_length<N: NodeStore>(links: &N, first: Option<Place>) -> u64
     requires { (s : List Place) × IsWalk (along N.node) (Table.entry (N.table links.now)) first s }
     ensures { (s : List Place) → IsWalk (along N.node) (Table.entry (N.table links.now)) first s → result ≡ length s }
@@ -60,8 +60,8 @@ pub(crate) fn hang_after<N: NodeStore>(
     }
 }
 
-// The end of a vine after a removal at the other end, whose member there is `neighbor` now. If that is `None`, the vine
-// is empty.
+// Returns one end of a vine after a removal at the opposite end, where `neighbor` is the outermost member now. If `neighbor` is `None`, the vine is empty,
+// and so the result is `None`.
 #[inline]
 pub(crate) fn end_beyond(neighbor: Option<Place>, end: Option<Place>) -> Option<Place>
     ensures { result ≡ end_of neighbor None end }
@@ -72,7 +72,7 @@ pub(crate) fn end_beyond(neighbor: Option<Place>, end: Option<Place>) -> Option<
     }
 }
 
-// The color of a member, given its black height, which counts the member itself.
+// Returns the color of a member: red if its black height is 0, otherwise black. The black height counts the member itself.
 fn color_at(height: u32) -> Color
     ensures { weight result + (height - 1) ≡ height }
 {
@@ -113,7 +113,7 @@ pub(crate) fn vine_to_tree<N: NodeStore>(
     (Some(place), rest)
 }
 
-// Makes a vine of the members of the tree with this root, with `after` after them. Returns the first member.
+// Makes a vine of the members of the tree with this root, with `after` as the right child of the last member. Returns the first member of the vine.
 pub(crate) fn tree_to_vine<N: NodeStore>(
     links: &mut N,
     root: Option<Place>,

@@ -19,7 +19,7 @@ use std::mem;
 impl<A: KeyAdapter, E: TreeHead> RBTree<A, E> {
     /// Removes all objects from the tree: each member is unlinked, in order, and the tree is empty.
     ///
-    /// One step for each member, and no memory. Trees that share no member with this one stay as they are. O(n).
+    /// The call takes one step for each member, and no memory. Trees that share no member with this tree stay as they are. O(n).
     pub fn clear<L: RBTreeOps>(&mut self, links: &mut L)
         requires shown { RepresentsKeptSome E.kept L.node (L.table links.old) (head_of self.old) }
 
@@ -49,8 +49,7 @@ impl<A: KeyAdapter, E: TreeHead> RBTree<A, E> {
 impl<A: Copy, E: TreeHead> RBTree<A, E> {
     /// Empties the tree, and leaves the objects that were in it linked. O(1): it reads no table.
     ///
-    /// The objects stay linked, so no tree accepts them until the table unlinks them. For a plain table, `force_unlink`
-    /// does this.
+    /// The objects stay linked, so no tree accepts them until the table unlinks them. For a plain table, `force_unlink` unlinks an object.
     #[inline]
     pub fn fast_clear(&mut self)
         ensures empty { IsEmptied (E.kept (head_of self.new)) }
@@ -59,7 +58,7 @@ impl<A: Copy, E: TreeHead> RBTree<A, E> {
         let _ = self.take();
     }
 
-    /// Returns all of the tree, and leaves it empty. O(1): it reads no table, and no link changes.
+    /// Returns the tree with all its members, and leaves this tree empty. O(1): it reads no table, and no link changes.
     #[inline]
     pub fn take(&mut self) -> RBTree<A, E>
         ensures whole { result ≡ self.old }

@@ -1,4 +1,5 @@
--- Circles of places: read from another place, opened and closed, and apart from one another.
+-- Lemmas about circles of places: a circle can be read from each of its places, a place can be removed or inserted, and two different circles share
+-- no place.
 use Rattle.std.proofs.Common.{◌≡◌, ◌≢◌, Option, Some, None, IsSome, List, [], ◌∷◌, ◌++◌, Bool, true, false, refl, sym, subst, ◌∙◌, ap, append-nil, ◌⊎◌, inl, inr, eqb, eqb-true, eq-eqb}
 use Rattle.ic_link_ops.specs.Prelude.{Place, same_word, IsAbsent, IsMember, IsDisjoint, first_or, last_or, first, last, but_last, Table, LinksAlso, ChangesOnly}
 use Rattle.ic_unsafe_ref.proofs.PlaceLemmas.{same_or_not}
@@ -11,7 +12,7 @@ use Rattle.ic_link_ops.proofs.Chains.{chain_kept, chain_cut, chain_glue, chain_l
 use Rattle.ic_link_ops.proofs.DoublyLists.{between_linked}
 use Rattle.ic_ring.specs.Rings.{IsCircle}
 
--- APART: what leads to a place that is not in a chain is not in it either, on either side
+-- APART: a place whose entry names, as the next or the previous place, a place that is not in a chain, is not in the chain
 outside_tail : (a : Option Place) (x : Place) (s : List Place) → IsOutside a (x ∷ s) → IsOutside a s
 outside_tail None x s out = tt
 outside_tail (Some q) x s out = out.1
@@ -42,7 +43,7 @@ module _ {E : Type 0} (n : E → Neighbors) (t : Place → E) where
     prev_out (Some x) e s p c.1 (λ h. out.0 (sym (some_same h))) out.1 leads,
   )
 
--- a place is absent from a sequence, or a member of it
+-- a place q is either not in the sequence s, or a member of it
 pub in_or_out : (q : Place) (s : List Place) → IsAbsent q s ⊎ IsMember q s
 in_or_out q [] = inl tt
 in_or_out q (x ∷ s) = elim (same_or_not q x) [
@@ -53,14 +54,14 @@ in_or_out q (x ∷ s) = elim (same_or_not q x) [
   ]
 ]
 
--- the test whether two places are one
+-- if the words of the places p and q are equal by the test, p and q are the same place
 pub tested_same : (p q : Place) → eqb p.word q.word ≡ true → p ≡ q
 tested_same p q e = same_word p q (eqb-true p.word q.word e)
 
 pub tested_other : (p q : Place) → eqb p.word q.word ≡ false → p ≢ q
 tested_other p q e same = let k : eqb p.word q.word ≡ true = eq-eqb _ _ (ap (λ (r : Place). r.word) same) in cc
 
--- what was linked is so after another place was linked
+-- a place q that was linked is still linked after the place p was also linked
 pub stays_linked : {E : Type 0} {linked : E → Bool} {old new : Table E} {p : Place} (q : Place) → LinksAlso linked old new p → linked (old.entry q) ≡ true
     → linked (new.entry q) ≡ true
 stays_linked {linked = linked} {old} {new} {p} q links was = elim (same_or_not q p) [
@@ -69,7 +70,7 @@ stays_linked {linked = linked} {old} {new} {p} q links was = elim (same_or_not q
 ]
 
 module _ {E : Type 0} (n : E → Neighbors) where
-  -- A NEIGHBOR SET AS IT IS leaves what each entry says
+  -- IF A NEXT PLACE IS SET TO WHAT IT WAS, no entry changes in what it says of neighbors
   pub next_stays : {old new : Table E} {p : Place} {to : Option Place} → ChangesOnly old new p → neighbors_at n new p ≡ record (neighbors_at n old p) { next = to }
       → (neighbors_at n old p).next ≡ to → (q : Place) → neighbors_at n new q ≡ neighbors_at n old q
   next_stays {old} {new} frame set is q = elim (same_or_not q _) [
@@ -85,7 +86,7 @@ module _ {E : Type 0} (n : E → Neighbors) where
   ]
 
 module _ {E : Type 0} {n : E → Neighbors} where
-  -- A CIRCLE CAN BE READ from each of its places
+  -- A CIRCLE CAN BE READ from each of its places: if s followed by u is a circle, u followed by s is a circle
   pub rotated : {t : Place → E} (s u : List Place) → IsCircle n t (s ++ u) → IsCircle n t (u ++ s)
   rotated {t} [] u c = rw append-nil c
   rotated {t} (x ∷ s) [] c = rw append-nil at c
@@ -101,28 +102,28 @@ module _ {E : Type 0} {n : E → Neighbors} where
         chain = chain_glue (IsBetween n) t (last (y ∷ u ++ x ∷ s)) (y ∷ u) (x ∷ s) (Some y) back front;
       }
 
-  -- the ring with this head, read from a member
+  -- the ring with the given head can be read from the member p: p comes first, then `back`, the head and `front`
   pub seen_from : {t : Place → E} {head : Place} (front : List Place) (p : Place) (back : List Place)
       → IsCircle n t (head ∷ (front ++ p ∷ back)) → IsCircle n t (p ∷ (back ++ head ∷ front))
   seen_from {t} {head} front p back c = rotated (head ∷ front) (p ∷ back) c
 
-  -- and its circle from each place that stands in it, with no new places
+  -- a circle r can be read from each of its members p, and the read circle has no places that are not in r
   pub seen_at : {t : Place → E} {p : Place} {r : List Place} → IsCircle n t r → IsMember p r
       → (s : List Place) × IsCircle n t (p ∷ s) × ((q : Place) → IsAbsent q r → IsAbsent q (p ∷ s))
   seen_at {t} {p} {r} c member =
       let m = member_split p r member in
       (m.1 ++ m.0, rotated m.0 (p ∷ m.1) (subst (IsCircle n t) m.2 c), λ q out. absent_turned q (p ∷ m.1) m.0 (subst (IsAbsent q) m.2 out))
 
-  -- FACING: what stands after a place of a ring has that place before itself
+  -- FACING: if b is the place after x in a ring, then x is the place before b
   pub facing : {t : Place → E} (x : Place) (s : List Place) {b : Place} → IsCircle n t (x ∷ s) → (n (t x)).next ≡ Some b → (n (t b)).prev ≡ Some x
   facing {t} x [] c e = subst (λ z. (n (t z)).prev ≡ Some x) (some_same (sym c.chain.0.next ∙ e)) c.chain.0.prev
   facing {t} x (y ∷ s) c e = subst (λ z. (n (t z)).prev ≡ Some x) (some_same (sym c.chain.0.next ∙ e)) c.chain.1.0.prev
 
-  -- it stays where the table keeps the entries of its places
+  -- a circle stays a circle, if the entries of its places stay as they were
   pub circle_kept : {t0 t1 : Place → E} {r : List Place} → IsCircle n t0 r → ((q : Place) → (IsAbsent q r → ⊥) → t1 q ≡ t0 q) → IsCircle n t1 r
   circle_kept {t0} {t1} {r} c same = record { distinct = c.distinct; chain = chain_kept (IsBetween n) t0 t1 (last r) r (first r) same c.chain }
 
-  -- OUT: p leaves the circle where its two neighbors are turned to each other
+  -- OUT: p leaves the circle, if its two neighbors are made neighbors of each other
   pub circle_closed : {t0 t1 t2 : Place → E} (p : Place) (r : List Place) → IsCircle n t0 (p ∷ r)
       → TurnsAfter (IsBetween n) t0 t1 (last r) (Some p) (first r) → TurnsBefore (IsBetween n) t1 t2 (first r) (Some p) (last r) → IsCircle n t2 r
   circle_closed {t0} {t1} {t2} p r c after before = record {
@@ -131,7 +132,7 @@ module _ {E : Type 0} {n : E → Neighbors} where
         (chain_last (IsBetween n) t0 t1 (Some p) r (Some p) (first r) after c.distinct.1 c.chain.1);
   }
 
-  -- and so of any stretch
+  -- a stretch `out` of places leaves the circle, if the place before it and the place after it are made neighbors of each other
   pub circle_bypassed : {t0 t1 t2 : Place → E} (out r : List Place) → IsCircle n t0 (out ++ r)
       → TurnsAfter (IsBetween n) t0 t1 (last r) (first (out ++ r)) (first r)
       → TurnsBefore (IsBetween n) t1 t2 (first r) (last_or (last (out ++ r)) out) (last r) → IsCircle n t2 r
@@ -145,7 +146,7 @@ module _ {E : Type 0} {n : E → Neighbors} where
             (chain_last b t0 t1 (last_or (last (out ++ r)) out) r (first (out ++ r)) (first r) after distinct cut.1);
       }
 
-  -- IN: p, which stands between the last and the first already, is put between them where both are turned to it
+  -- IN: p is inserted between the last and the first place of the circle r, if the entry of p already names both, and both are made neighbors of p
   pub circle_filled : {t0 t1 t2 : Place → E} (p : Place) (r : List Place) {b : Place} → Some b ≡ first r → IsCircle n t0 r → IsAbsent p r
       → IsBetween n (t0 p) (last r) (first r)
       → TurnsAfter (IsBetween n) t0 t1 (last r) (first r) (Some p) → TurnsBefore (IsBetween n) t1 t2 (first r) (last r) (Some p)
@@ -162,7 +163,7 @@ module _ {E : Type 0} {n : E → Neighbors} where
         );
       }
 
-  -- EXCHANGED: the last places of two circles exchange what stands after them, and the circles are one
+  -- EXCHANGED: if the last places of two circles exchange their next places, the two circles become one circle
   pub circles_joined : {t0 t1 t2 t3 t4 : Place → E} (x : Place) (r : List Place) (y : Place) (u : List Place) → IsCircle n t0 (x ∷ r) → IsCircle n t0 (y ∷ u)
       → IsDisjoint (x ∷ r) (y ∷ u)
       → TurnsAfter (IsBetween n) t0 t1 (last (x ∷ r)) (Some x) (Some y) → TurnsBefore (IsBetween n) t1 t2 (Some y) (last (y ∷ u)) (last (x ∷ r))
@@ -188,7 +189,7 @@ module _ {E : Type 0} {n : E → Neighbors} where
         chain = chain_glue b t4 (last (x ∷ r ++ y ∷ u)) a e (Some x) front u4;
       }
 
-  -- and those of two parts of one circle, which is two circles then
+  -- if the last places of two parts of a circle exchange their next places, the circle becomes two circles
   pub circle_cut : {t0 t1 t2 t3 t4 : Place → E} (x : Place) (r : List Place) (y : Place) (u : List Place) → IsCircle n t0 (x ∷ r ++ y ∷ u)
       → TurnsAfter (IsBetween n) t0 t1 (last (x ∷ r)) (Some y) (Some x) → TurnsBefore (IsBetween n) t1 t2 (Some x) (last (y ∷ u)) (last (x ∷ r))
       → TurnsAfter (IsBetween n) t2 t3 (last (y ∷ u)) (Some x) (Some y) → TurnsBefore (IsBetween n) t3 t4 (Some y) (last (x ∷ r)) (last (y ∷ u))
@@ -214,14 +215,14 @@ module _ {E : Type 0} {n : E → Neighbors} where
       let u4 = chain_first b t3 t4 (last a) (last e) e (Some y) turn4 d_e u3 in
       (record { distinct = d_a; chain = r4 }, record { distinct = d_e; chain = u4 })
 
-  -- APART: where a place is not in the circle, its neighbors are not in it either
+  -- APART: if a place p is not in a circle r, no place whose next place is p is in r. `after_apart` says this of the previous place
   pub before_apart : {t : Place → E} (r : List Place) (p : Place) {q : Place} → IsCircle n t r → IsAbsent p r → (n (t q)).next ≡ Some p → IsAbsent q r
   before_apart {t} r p c out leads = next_out n t (last r) (first r) r (Some p) c.chain (λ e. first_not r None p (none_not p) out (sym e)) out leads
 
   pub after_apart : {t : Place → E} (r : List Place) (p : Place) {q : Place} → IsCircle n t r → IsAbsent p r → (n (t q)).prev ≡ Some p → IsAbsent q r
   after_apart {t} r p c out leads = prev_out n t (last r) (first r) r p c.chain (last_not None r p (none_not p) out) out leads
 
-  -- a chain whose end is not in the circle shares no place with it
+  -- a chain s shares no place with a circle r, if the place after the end of the chain is not in r
   pub chain_apart : {t : Place → E} (r : List Place) (b : Option Place) (s : List Place) (a : Option Place) → IsCircle n t r → first r ≢ a → IsOutside a r
       → IsChain n t b s a → IsDisjoint s r
   chain_apart r b [] a c other out k = tt
@@ -234,22 +235,22 @@ module _ {E : Type 0} {n : E → Neighbors} where
         rest,
       )
 
-  -- so two circles are one, or apart: where p is in the one and not in the other
+  -- two circles share no place, if a place p is in one of them and not in the other
   pub circles_apart : {t : Place → E} (r : List Place) (p : Place) (s : List Place) → IsCircle n t r → IsCircle n t (p ∷ s) → IsAbsent p r → IsDisjoint (p ∷ s) r
   circles_apart r p s c k out = (out, chain_apart r (Some p) s (Some p) c (λ e. first_not r None p (none_not p) out e) out k.chain.1)
 
-  -- however the other one is read
+  -- the two circles of h and g share no place if h is not in the circle of g, from whichever place the circle of g is read
   pub apart_too : {t : Place → E} (h : Place) (s : List Place) (g : Place) (u v : List Place) → IsCircle n t (h ∷ s) → IsCircle n t (g ∷ u) → IsAbsent h (g ∷ u)
       → IsCircle n t (g ∷ v) → IsDisjoint (h ∷ s) (g ∷ v)
   apart_too h s g u v c k out other =
       let out_g = (disjoint_sym (h ∷ s) (g ∷ u) (circles_apart (g ∷ u) h s k c out)).0 in
       disjoint_sym (g ∷ v) (h ∷ s) (circles_apart (h ∷ s) g v c other out_g)
 
-  -- and a list is apart from each circle
+  -- a list shares no place with any circle
   pub list_apart : {t : Table E} {list : Ends} {s : List Place} (p : Place) (r : List Place) → IsCircle n t.entry (p ∷ r) → doubly.Represents n t list s → IsDisjoint s (p ∷ r)
   list_apart {s = s} p r c shown = chain_apart (p ∷ r) None s None c (λ e. none_not p (sym e)) tt shown.chain
 
-  -- it stays where another place changes, and where three others do
+  -- a circle stays a circle, if only the entry of a place p that is not in it changes. `circle_untouched` says this of three such places
   pub circle_beside : {t0 t1 : Place → E} {r : List Place} (p : Place) → IsCircle n t0 r → IsAbsent p r → ((q : Place) → q ≢ p → t1 q ≡ t0 q) → IsCircle n t1 r
   circle_beside p c out same = circle_kept c (λ q member. same q (λ e. member (rw e out)))
 
@@ -258,7 +259,7 @@ module _ {E : Type 0} {n : E → Neighbors} where
   circle_untouched r x y z c out_x out_y out_z same =
       circle_kept c (λ q member. same q (λ e. member (rw e out_x)) (λ e. member (rw e out_y)) (λ e. member (rw e out_z)))
 
-  -- THE NEIGHBORS of a place lead back to it, and stand in its circle
+  -- THE NEIGHBORS of a place p in a circle: p has a next and a previous place, both are in the circle, and their entries name p
   pub next_some : {t : Place → E} {p : Place} (s : List Place) → IsCircle n t (p ∷ s) → IsSome ((n (t p)).next)
   next_some [] c = rw c.chain.0.next refl
   next_some (x ∷ s) c = rw c.chain.0.next refl
@@ -290,7 +291,7 @@ module _ {E : Type 0} {n : E → Neighbors} where
       let e : p ∷ s ≡ but_last (p ∷ s) ++ b ∷ [] = split_last (p ∷ s) (sym c.chain.0.prev ∙ leads) in
       (but_last (p ∷ s), rotated (but_last (p ∷ s)) (b ∷ []) (subst (IsCircle n t) e c))
 
-  -- what is not in its circle is no neighbor of it
+  -- a place q that is not in the circle of p is not the previous place of p. `next_not` says this of the next place
   pub prev_not : {t : Place → E} {p b q : Place} (s : List Place) → IsCircle n t (p ∷ s) → (n (t p)).prev ≡ Some b → IsAbsent q (p ∷ s) → q ≢ b
   prev_not {p = p} {q = q} s c leads out e = last_not None (p ∷ s) q (none_not q) out (sym c.chain.0.prev ∙ leads ∙ ap Some (sym e))
 
@@ -302,14 +303,14 @@ module _ {E : Type 0} {n : E → Neighbors} where
       → ((q : Place) → q ≢ b → q ≢ p → q ≢ a → t1 q ≡ t0 q) → (q : Place) → IsAbsent q (p ∷ s) → t1 q ≡ t0 q
   ring_frame s c prev next same q out = same q (prev_not s c prev out) out.0 (next_not s c next out)
 
-  -- TAKEN OUT, also where it stands alone: `closes` is what turning its neighbors to each other says
+  -- A PLACE p IS TAKEN OUT of its circle, also if p is alone in it. `closes`: what follows after the neighbors of p were made neighbors of each other
   pub circle_taken : {t0 t1 : Place → E} {p b a : Place} → (n (t0 p)).prev ≡ Some b → (n (t0 p)).next ≡ Some a
       → ((r : List Place) → IsCircle n t0 (p ∷ r) → Some b ≡ last r → Some a ≡ first r → IsCircle n t1 r)
       → (r : List Place) → IsCircle n t0 (p ∷ r) → IsCircle n t1 r
   circle_taken prev next closes [] c = record { distinct = tt; chain = tt }
   circle_taken prev next closes (x ∷ r) c = closes (x ∷ r) c (sym prev ∙ c.chain.0.prev) (sym next ∙ c.chain.0.next)
 
-  -- PUT BEHIND a place: `puts` is what the insert before the next place says
+  -- A PLACE p IS INSERTED AFTER the place `at`. `puts`: what the insert of p before the next place b states
   pub circle_after : {t0 t1 : Place → E} {p at b : Place} (s : List Place) → IsCircle n t0 (at ∷ s) → (n (t0 at)).next ≡ Some b
       → ((u : List Place) → IsCircle n t0 (b ∷ u) → IsCircle n t1 (p ∷ b ∷ u)) → IsCircle n t1 (at ∷ p ∷ s)
   circle_after {t0} {t1} {p} {at} {b} [] c leads puts =
@@ -318,7 +319,7 @@ module _ {E : Type 0} {n : E → Neighbors} where
       let e : b ≡ x = some_same (sym leads ∙ c.chain.0.next) in
       rotated (p ∷ x ∷ s) (at ∷ []) (rw e at (puts (s ++ at ∷ []) (rw e (rotated (at ∷ []) (x ∷ s) c))))
 
-  -- the same of a place that is put there by itself
+  -- a place p that was not in the circle of the place `at` is inserted after `at`. `puts`: what the insert of p before the next place b states
   pub circle_after_free : {t0 t1 : Place → E} {p at b : Place} (s : List Place) → IsCircle n t0 (at ∷ s) → (n (t0 at)).next ≡ Some b → IsAbsent p (at ∷ s)
       → ((u : List Place) → IsCircle n t0 (b ∷ u) → IsAbsent p (b ∷ u) → IsCircle n t1 (p ∷ b ∷ u)) → IsCircle n t1 (at ∷ p ∷ s)
   circle_after_free {t0} {t1} {p} {at} {b} [] c leads out puts =
@@ -327,7 +328,8 @@ module _ {E : Type 0} {n : E → Neighbors} where
       let e : b ≡ x = some_same (sym leads ∙ c.chain.0.next) in
       rotated (p ∷ x ∷ s) (at ∷ []) (rw e at (puts (s ++ at ∷ []) (rw e (rotated (at ∷ []) (x ∷ s) c)) (rw e (out.1.0, absent_both p s (at ∷ []) out.1.1 (out.0, tt)))))
 
-  -- THE ENDS of a ring
+  -- THE ENDS of the ring with the head p: if p is its own next place, the ring has no first member. Three more lemmas state which members the ends
+  -- are
   pub first_none : {t : Place → E} {p b : Place} (s : List Place) → IsCircle n t (p ∷ s) → (n (t p)).next ≡ Some b → b ≡ p → None ≡ first s
   first_none [] c leads e = refl
   first_none (x ∷ s) c leads e = absurd (c.distinct.0.0 (sym e ∙ some_same (sym leads ∙ c.chain.0.next)))
@@ -346,7 +348,7 @@ module _ {E : Type 0} {n : E → Neighbors} where
   last_some (x ∷ s) c leads other = sym leads ∙ c.chain.0.prev
 
   module _ {linked : E → Bool} (alike : (e : E) → (n e).linked ≡ linked e) where
-    -- each place of a circle is linked, and what is not linked is in none
+    -- each place of a circle is linked, and the neighbors of a place in a circle are linked. A place that is not linked is in no circle
     pub head_linked : {t : Place → E} {p : Place} {s : List Place} → IsCircle n t (p ∷ s) → linked (t p) ≡ true
     head_linked c = sym (alike _) ∙ c.chain.0.linked
 

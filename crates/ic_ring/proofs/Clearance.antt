@@ -1,4 +1,4 @@
--- A ring whose members are unlinked one after the other, from the front.
+-- Lemmas about a ring whose members are unlinked one after the other, from the front.
 use Rattle.std.proofs.Common.{◌≡◌, Option, Some, None, IsSome, List, [], ◌∷◌, ◌++◌, drop, refl, sym, subst, ap, ◌∙◌, append_assoc, append-nil}
 use Rattle.std.specs.Prelude.{is_some, false}
 use Rattle.ic_link_ops.specs.Prelude.{Place, IsAbsent, first, Table, ChangesOnlyIn}
@@ -7,7 +7,7 @@ use Rattle.ic_link_ops.proofs.SequenceLemmas.{absent_right, nothing_first}
 use Rattle.ic_ring.specs.Rings.{Represents}
 
 module _ {E : Type 0} (n : E → Neighbors) where
-  -- of the members s, those that are done are out of the ring, and the rest is in it
+  -- of the members s, the members `done` were removed from the ring, and the members `rest` are still in the ring
   pub record Clears (old new : Table E) (head : Place) (s : List Place) : Type 0 where
     pub done : List Place
     pub rest : List Place
@@ -15,7 +15,7 @@ module _ {E : Type 0} (n : E → Neighbors) where
     pub shown : Represents n new head rest
     pub kept : ChangesOnlyIn old new (head ∷ s)
 
--- what is told of a result that is none
+-- if an option is not `Some`, it is none. `not_some` says that a none is not `Some`
 pub none_is : (r : Option Place) → is_some r ≡ false → r ≡ None
 none_is None e = refl
 none_is (Some x) e = cc
@@ -25,11 +25,11 @@ not_some None e some = cc
 not_some (Some x) e some = cc
 
 module _ {E : Type 0} {n : E → Neighbors} where
-  -- at first none is done
+  -- AT FIRST no member was removed, and all members s are in the ring
   unfoldable pub clears_none : {t : Table E} {head : Place} {s : List Place} → Represents n t head s → Clears n t t head s
   clears_none {s = s} shown = record { done = []; rest = s; parts = refl; shown = shown; kept = record { extent = refl; others = λ q out. refl } }
 
-  -- ONE STEP: the first of the rest is taken off
+  -- ONE STEP removes the first member of `rest` from the ring
   pub clears_more : {old mid new : Table E} {head : Place} {s : List Place} (k : Clears n old mid head s) {result : Option Place} → IsSome result
       → ((r : List Place) → Represents n mid head r → result ≡ first r) → ((r : List Place) → Represents n mid head r → Represents n new head (drop 1 r))
       → ((r : List Place) → Represents n mid head r → ChangesOnlyIn mid new (head ∷ r))
@@ -56,7 +56,7 @@ module _ {E : Type 0} {n : E → Neighbors} where
           refl,
         )
 
-  -- THE END: where none is left, all are done
+  -- THE END: if the ring has no members left, all members of s were removed
   pub clears_all : {old mid : Table E} {head : Place} {s : List Place} (k : Clears n old mid head s) {result : Option Place} → result ≡ None
       → ((r : List Place) → Represents n mid head r → result ≡ first r) → k.done ≡ s
   clears_all k none is =

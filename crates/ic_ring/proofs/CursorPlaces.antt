@@ -1,4 +1,4 @@
--- The place of a cursor in its ring: the gaps beside it, and the ring read from it.
+-- Lemmas about the place of a cursor in its ring: the gaps right before and after the cursor, and the ring read from this place.
 use Rattle.std.proofs.Common.{◌≡◌, ◌≢◌, Some, None, Result, Ok, Err, OnOk, OnErr, List, [], ◌∷◌, ◌++◌, drop, true, refl, sym, ap, ◌∙◌, subst, append_assoc, append-nil, inl, inr, eqb, eq-eqb}
 use Rattle.ic_link_ops.specs.Prelude.{Place, Cut, join, IsAbsent, IsMember, IsDisjoint, first_or, last_or, first, last, but_last, Table, IsCovered, ChangesOnlyIn}
 use Rattle.ic_unsafe_ref.proofs.PlaceLemmas.{same_or_not}
@@ -11,7 +11,8 @@ use Rattle.ic_ring.proofs.JoinedRings.{last_member}
 use Rattle.ic_ring.proofs.OtherRings.{others_from}
 use Rattle.ic_ring.proofs.RingWalks.{one_ring_is_represented}
 
--- the gap after a cursor that has this one before it, and the one before a cursor that has this one after it
+-- if a gap is right before a cursor, there is a gap right after the cursor in the same sequence. `gap_ahead` finds the gap before a cursor from the
+-- gap after it
 pub gap_after : (head : Place) (front back : List Place) {at : Place} → Some at ≡ first_or back (Some head)
     → (next : Cut) × (join next ≡ front ++ back) × IsAfter head next at
 gap_after head front [] e = (record { front = []; back = front }, sym (append-nil front), e)
@@ -27,21 +28,21 @@ gap_ahead head (x ∷ s) back {at} e = (
   refl,
 )
 
--- the head, and all before the gap after a cursor, end with its place
+-- if a gap is right after the cursor, then the head followed by the members before the gap ends with the cursor's place
 pub ends_at : (head : Place) (front : List Place) {at : Place} → Some at ≡ last_or (Some head) front → head ∷ front ≡ but_last (head ∷ front) ++ at ∷ []
 ends_at head front e = split_last (head ∷ front) (sym e)
 
--- what stands after the gap before a cursor, and then the head, begin with its place
+-- if a gap is right before the cursor, then the members after the gap, followed by the head, begin with the cursor's place
 pub begins_at : (head : Place) (front back : List Place) {at : Place} → Some at ≡ first_or back (Some head)
     → back ++ head ∷ front ≡ at ∷ drop 1 (back ++ head ∷ front)
 begins_at head front back e = first_is (back ++ head ∷ front) (e ∙ sym (first_or-append back (head ∷ front) None))
 
--- on a member that is the first after the gap
+-- if the cursor is right after a gap and not on the head, then its place is the first member after the gap
 pub on_member : (head : Place) (back : List Place) {at : Place} → at ≢ head → Some at ≡ first_or back (Some head) → back ≡ at ∷ drop 1 back
 on_member head [] other e = absurd (other (some_same e))
 on_member head (x ∷ b) other e = ap (λ (y : Place). y ∷ b) (sym (some_same e))
 
--- what is in one of two sequences that share no place is not in the other
+-- if s and r share no place, then a member of s is not in r
 absent_of : (s r : List Place) (q : Place) → IsDisjoint s r → IsMember q s → IsAbsent q r
 absent_of [] r q d member = absurd (member tt)
 absent_of (x ∷ s) r q d member = elim (same_or_not q x) [
@@ -49,11 +50,11 @@ absent_of (x ∷ s) r q d member = elim (same_or_not q x) [
   | inr other ↦ absent_of s r q d.1 (λ out. member (other, out))
 ]
 
--- the test of two places that are one
+-- two places that are the same have equal words by the test
 pub same_tested : (p q : Place) → p ≡ q → eqb p.word q.word ≡ true
 same_tested p q e = eq-eqb _ _ (ap (λ (r : Place). r.word) e)
 
--- what follows of an answer
+-- if P implies Q, then a result that is `Ok` and states P states Q. `either_way` reaches a goal from both cases
 pub on_ok : {A X P Q : Type 0} (r : Result A X) → (P → Q) → OnOk r P → OnOk r Q
 on_ok (Ok a) follows holds = follows holds
 on_ok (Err e) follows holds = tt
@@ -63,7 +64,7 @@ either_way (Ok a) holds refused accepts refuses = accepts holds
 either_way (Err e) holds refused accepts refuses = refuses refused
 
 module _ {E : Type 0} {n : E → Neighbors} where
-  -- THE RING READ FROM THE CURSOR, which has this gap after it, and back
+  -- THE RING READ FROM THE CURSOR, if a gap is right after the cursor. `turned_back` reads the ring from the head again
   pub seen_after : {t : Place → E} {head at : Place} (front back : List Place) → Some at ≡ last_or (Some head) front → IsCircle n t (head ∷ (front ++ back))
       → IsCircle n t (at ∷ (back ++ but_last (head ∷ front)))
   seen_after {t} {head} {at} front back e c =
@@ -78,23 +79,23 @@ module _ {E : Type 0} {n : E → Neighbors} where
       let turned : IsCircle n t (w ++ at ∷ back) = rotated (at ∷ back) w c in
       subst (λ l. IsCircle n t (l ++ back)) (sym (ends_at head front e)) (subst (IsCircle n t) (sym (append_assoc w (at ∷ []) back)) turned)
 
-  -- the same of the gap before it
+  -- the ring read from the cursor, if a gap is right before the cursor
   pub seen_ahead : {t : Place → E} {head at : Place} (front back : List Place) → Some at ≡ first_or back (Some head) → IsCircle n t (head ∷ (front ++ back))
       → IsCircle n t (at ∷ drop 1 (back ++ head ∷ front))
   seen_ahead {t} {head} front back e c = subst (IsCircle n t) (begins_at head front back e) (rotated (head ∷ front) back c)
 
-  -- it stands where it has a gap before it
+  -- the cursor is valid, if there is a gap right before it in the members of the ring
   pub stands_ahead : (t : Table E) (head : Place) (front back : List Place) {at : Place} → IsCircle n t.entry (head ∷ (front ++ back)) → Some at ≡ first_or back (Some head)
       → IsValidCursor n t head at
   stands_ahead t head front back c e =
       let k = gap_after head front back e in (k.0, subst (λ s. IsCircle n t.entry (head ∷ s)) (sym k.1) c, k.2)
 
   module _ (t : Table E) {head at : Place} (stands : IsValidCursor n t head at) where
-    -- its place is in the ring
+    -- the place of a valid cursor is in a ring of the table
     pub in_ring : InRing n t at
     in_ring = (stands.0.back ++ but_last (head ∷ stands.0.front), seen_after stands.0.front stands.0.back stands.2 stands.1)
 
-    -- the other rings are those without its place
+    -- the rings that do not contain the cursor's place are the rings that do not contain the head. If the former stay as they were, the latter do
     pub others_without : {new : Table E} → OthersStay n t new (at ∷ []) → OthersStay n t new (head ∷ [])
     others_without k =
         let gap = stands.0 in
@@ -102,11 +103,11 @@ module _ {E : Type 0} {n : E → Neighbors} where
         (λ r circle out. absent_of (head ∷ join gap) r at (circles_apart r head (join gap) circle stands.1 out) (last_member head gap.front gap.back stands.2)) k
 
     module _ (covered : (q : Place) → (n (t.entry q)).linked ≡ true → IsCovered t q) where
-      -- the gap after it, of whichever sequence is represented
+      -- whichever sequence is represented for the ring, it has a gap right after the cursor
       pub gap_of : (s : List Place) → Represents n t head s → (gap : Cut) × (s ≡ join gap) × IsAfter head gap at
       gap_of s shown = (stands.0, one_ring_is_represented t covered head s (join stands.0) shown stands.1, stands.2)
 
-      -- whichever sequence is represented for the ring
+      -- whichever sequence is represented for the ring, the cursor's place is in the circle of the head and this sequence
       pub ring_at : (s : List Place) → Represents n t head s → IsRingOf n t at (head ∷ s)
       ring_at s shown =
           let gap = stands.0 in (
@@ -114,7 +115,8 @@ module _ {E : Type 0} {n : E → Neighbors} where
             λ out. last_member head gap.front gap.back stands.2 (subst (λ s. IsAbsent at (head ∷ s)) (one_ring_is_represented t covered head s (join gap) shown stands.1) out),
           )
 
-  -- THE MOVES: what leads from its place
+  -- THE MOVES: the next place of the cursor's place is the first place after the gap right after the cursor. `moved_back` says this of the previous
+  -- place
   pub moved_on : (t : Table E) {head at next : Place} → (n (t.entry at)).next ≡ Some next → (front back : List Place) → IsCircle n t.entry (head ∷ (front ++ back))
       → Some at ≡ last_or (Some head) front → Some next ≡ first_or back (Some head)
   moved_on t {head} {at} leads front back c e =
@@ -127,7 +129,7 @@ module _ {E : Type 0} {n : E → Neighbors} where
   moved_back t {head} {at} leads front back c e =
       sym leads ∙ (seen_ahead front back e c).chain.0.prev ∙ ap last (sym (begins_at head front back e)) ∙ last_or-append None back (head ∷ front)
 
-  -- PUT IN FRONT of the cursor: at the end of the ring read from it
+  -- INSERTED BEFORE THE CURSOR: a place p at the end of the ring read from the cursor is the member right before the cursor
   pub put_ahead : {t : Place → E} {head at : Place} (p : Place) (front back : List Place) → Some at ≡ first_or back (Some head)
       → IsCircle n t (at ∷ (drop 1 (back ++ head ∷ front) ++ p ∷ [])) → IsCircle n t (head ∷ (front ++ p ∷ back))
   put_ahead {t} {head} {at} p front back e c =
@@ -135,18 +137,18 @@ module _ {E : Type 0} {n : E → Neighbors} where
       let turned : IsCircle n t (p ∷ u) = rotated u (p ∷ []) c in
       rotated (p ∷ back) (head ∷ front) (subst (λ u. IsCircle n t (p ∷ u)) (sym (begins_at head front back e)) turned)
 
-  -- the cursor stays before the same members
+  -- the cursor stays valid after p was inserted right before it, and is still before the same members
   pub stands_still : (t : Table E) (head : Place) (front : List Place) (p : Place) (back : List Place) {at : Place} → IsCircle n t.entry (head ∷ (front ++ p ∷ back))
       → Some at ≡ first_or back (Some head) → IsValidCursor n t head at
   stands_still t head front p back c e =
       stands_ahead t head (front ++ p ∷ []) back (subst (λ s. IsCircle n t.entry (head ∷ s)) (sym (append_assoc front (p ∷ []) back)) c) e
 
-  -- the member that the cursor is on, in its ring
+  -- the member that the cursor is on is a member of the ring, after `front` and before the members after it
   pub member_represented : {t : Place → E} {head at : Place} (front back : List Place) → at ≢ head → Some at ≡ first_or back (Some head) → IsCircle n t (head ∷ (front ++ back))
       → IsCircle n t (head ∷ (front ++ at ∷ drop 1 back))
   member_represented {t} {head} front back other e c = subst (λ b. IsCircle n t (head ∷ (front ++ b))) (on_member head back other e) c
 
-  -- TAKEN OUT: the member is, where it leaves its circle, and the cursor goes on to the next
+  -- TAKEN OUT: if the member that the cursor is on leaves its circle, the ring has the other members, and the cursor goes on to the next place
   pub taken_out : {t0 t1 : Place → E} {head at : Place} (front back : List Place) → at ≢ head → Some at ≡ first_or back (Some head) → IsCircle n t0 (head ∷ (front ++ back))
       → ((r : List Place) → IsCircle n t0 (at ∷ r) → IsCircle n t1 r) → IsCircle n t1 (head ∷ (front ++ drop 1 back))
   taken_out {t0} {t1} {head} {at} front back other e c taken =
@@ -161,20 +163,20 @@ module _ {E : Type 0} {n : E → Neighbors} where
       let here : IsCircle n t.entry (head ∷ (front ++ at ∷ rest)) = member_represented front back other e c in
       sym leads ∙ (seen_from front at rest here).chain.0.next ∙ first_or-append rest (head ∷ front) (Some at)
 
-  -- on the head nothing is after the gap before it
+  -- if the cursor is on the head, no member is after the gap right before it
   pub null_after : {t : Place → E} (head : Place) (front back : List Place) {at : Place} → IsCircle n t (head ∷ (front ++ back)) → at ≡ head → Some at ≡ first_or back (Some head)
       → Some at ≡ first_or (drop 1 back) (Some head)
   null_after head front [] c same e = e
   null_after head front (x ∷ b) c same e = absurd ((absent_right head front (x ∷ b) c.distinct.0).0 (sym same ∙ some_same e))
 
-  -- SPLICED IN after the cursor: the others stand right after its place
+  -- SPLICED AFTER THE CURSOR: the other members `mid` come right after the cursor's place
   pub spliced_back : {t : Place → E} {head at : Place} (front back mid : List Place) → Some at ≡ last_or (Some head) front
       → IsCircle n t (at ∷ (mid ++ (back ++ but_last (head ∷ front)))) → IsCircle n t (head ∷ (front ++ (mid ++ back)))
   spliced_back {t} {head} {at} front back mid e c =
       turned_back front (mid ++ back) e (subst (λ s. IsCircle n t (at ∷ s)) (sym (append_assoc mid back (but_last (head ∷ front)))) c)
 
   module _ (t : Table E) {head at : Place} (stands : IsValidCursor n t head at) where
-    -- a ring that does not have the head does not have its place
+    -- a ring that does not contain the head does not contain the cursor's place
     pub given_apart : {given : Place} (u : List Place) → Represents n t given u → IsAbsent head (given ∷ u) → IsAbsent at (given ∷ u)
     given_apart {given} u shown out =
         let gap = stands.0 in
@@ -188,7 +190,7 @@ module _ {E : Type 0} {n : E → Neighbors} where
           lists = k.lists;
         }
 
-  -- nothing but two rings is changed, whichever place the first one is read from
+  -- an edit changes no entries except those of two rings, from whichever place the first ring is read
   pub frame_both : {t0 t1 : Table E} {at : Place} {r v : List Place} → IsRingOf n t0 at r → ((s : List Place) → Represents n t0 at s → ChangesOnlyIn t0 t1 ((at ∷ s) ++ v))
       → ChangesOnlyIn t0 t1 (r ++ v)
   frame_both {at = at} {r} {v} ring frame =
@@ -198,20 +200,20 @@ module _ {E : Type 0} {n : E → Neighbors} where
         others = λ q out. f.others q (absent_both q (at ∷ seen.0) v (seen.2 q (absent_left q r v out)) (absent_right q r v out));
       }
 
-  -- the cursor stays before the same members, where others are spliced in before it
+  -- the cursor stays valid after members were spliced in right before it, and is still before the same members
   pub stands_spliced : (t : Table E) (head : Place) (front mid back : List Place) {at : Place} → IsCircle n t.entry (head ∷ (front ++ (mid ++ back)))
       → Some at ≡ first_or back (Some head) → IsValidCursor n t head at
   stands_spliced t head front mid back c e =
       stands_ahead t head (front ++ mid) back (subst (λ s. IsCircle n t.entry (head ∷ s)) (sym (append_assoc front mid back)) c) e
 
-  -- the place before a cursor stands in its ring
+  -- a cursor on the place before a valid cursor is valid for the same ring
   pub prev_stands_too : (t : Table E) {head at prev : Place} → IsValidCursor n t head at → (n (t.entry at)).prev ≡ Some prev → IsValidCursor n t head prev
   prev_stands_too t {head} k leads =
       let gap = gap_ahead head k.0.front k.0.back k.2 in
       let shown = subst (λ s. IsCircle n t.entry (head ∷ s)) (sym gap.1) k.1 in
       (gap.0, shown, moved_back t leads gap.0.front gap.0.back shown gap.2)
 
-  -- it stands at each place of its ring
+  -- a cursor on each place of a ring is valid
   pub stands_at : (t : Table E) {head at : Place} (s : List Place) → IsCircle n t.entry (head ∷ s) → IsMember at (head ∷ s) → IsValidCursor n t head at
   stands_at t {head} {at} s c member = elim (same_or_not at head) [
     | inl e ↦ (record { front = []; back = s }, c, ap Some e)

@@ -1,4 +1,5 @@
--- Two rings that are one while members go from one to the other. `joins`: what an exchange of x and y says of the last places of two rings.
+-- Lemmas about two rings that become one ring, and whose members go from one ring to the other. `joins`: what an exchange of x and y, the last places
+-- of two circles, states
 use Rattle.std.proofs.Common.{◌≡◌, Option, Some, None, List, [], ◌∷◌, ◌++◌, sym, ap, subst, ◌∙◌, append_assoc}
 use Rattle.ic_link_ops.specs.Prelude.{Place, IsAbsent, IsDisjoint, last, last_or}
 use Rattle.ic_link_ops.specs.LinkedList.{Neighbors}
@@ -6,21 +7,22 @@ use Rattle.ic_link_ops.proofs.SequenceLemmas.{last_or-append, last_of_push, last
 use Rattle.ic_ring.specs.Rings.{IsCircle}
 use Rattle.ic_ring.proofs.Circles.{rotated, apart_too}
 
--- after k, whatever stands before, the last of these is that of the last part, or k
+-- in a sequence that ends with k and then `back`, the last place is the last place of `back`, or k if `back` is empty
 pub last_after : (b : Option Place) (t : List Place) (k : Place) (back : List Place) → last_or b ((t ++ k ∷ []) ++ back) ≡ last_or (Some k) back
 last_after b t k back = last_or-append b (t ++ k ∷ []) back ∙ ap (λ b. last_or b back) (last_or-append b t (k ∷ []))
 
--- the last of a part of a sequence is a member of the whole
+-- the last place of the first part of a sequence is a member of the whole sequence
 pub last_member : {x : Place} (h : Place) (front back : List Place) → Some x ≡ last (h ∷ front) → IsAbsent x (h ∷ (front ++ back)) → ⊥
 last_member {x} h front back is_last out = last_not None (h ∷ front) x (none_not x) (absent_left x (h ∷ front) back out) (sym is_last)
 
 module _ {E : Type 0} {n : E → Neighbors} {t0 t1 : Place → E} {h k x y : Place} {u : List Place} (other : IsCircle n t0 (k ∷ u)) (apart : IsAbsent h (k ∷ u))
     (joins : (r u : List Place) → IsCircle n t0 r → IsCircle n t0 u → IsDisjoint r u → Some x ≡ last r → Some y ≡ last u → IsCircle n t1 (r ++ u)) where
-  -- their last places were exchanged: the second ring stands after the first
+  -- if the last places of two rings exchange their next places, the second ring with its head comes after the members of the first ring
   pub joined_at_back : (s t : List Place) → IsCircle n t0 (h ∷ s) → IsCircle n t0 (k ∷ t) → (n (t0 h)).prev ≡ Some x → (n (t0 k)).prev ≡ Some y → IsCircle n t1 (h ∷ s ++ k ∷ t)
   joined_at_back s t c d to_x to_y = joins (h ∷ s) (k ∷ t) c d (apart_too h s k u t c other apart d) (sym to_x ∙ c.chain.0.prev) (sym to_y ∙ d.chain.0.prev)
 
-  -- a place and the second head were: the second ring, and then its head, stand after the place
+  -- a place x of the first ring and the head of the second ring exchange their next places. Then the members of the second ring, and then its head,
+  -- come after x
   pub joined_at_end : (front back t : List Place) → IsCircle n t0 (h ∷ (front ++ back)) → Some x ≡ last (h ∷ front) → IsCircle n t0 (k ∷ t) → y ≡ k
       → IsCircle n t1 (h ∷ (front ++ ((t ++ k ∷ []) ++ back)))
   joined_at_end front back t c is_x d is_y =
@@ -32,7 +34,7 @@ module _ {E : Type 0} {n : E → Neighbors} {t0 t1 : Place → E} {h k x y : Pla
       let whole = joins r v (rotated (h ∷ front) back c) (rotated (k ∷ []) t d) two (is_x ∙ sym (last_or-append None back (h ∷ front))) (ap Some is_y ∙ sym (last_of_push t k)) in
       rw (append_assoc (h ∷ front) v back) at (rotated back ((h ∷ front) ++ v) (rw (append_assoc back (h ∷ front) v) at whole))
 
--- a place and the last place of another ring exchange what stands after them: the other ring stands after the place
+-- a place `at` and the last place of another ring exchange their next places. Then the head and the members of the other ring come after `at`
 module _ {E : Type 0} {n : E → Neighbors} {t0 t1 : Place → E} {at given x : Place} {u : List Place} (other : IsCircle n t0 (given ∷ u)) (apart : IsAbsent at (given ∷ u))
     (joins : (r u : List Place) → IsCircle n t0 r → IsCircle n t0 u → IsDisjoint r u → Some at ≡ last r → Some x ≡ last u → IsCircle n t1 (r ++ u)) where
   pub joined_after : (r t : List Place) → IsCircle n t0 (at ∷ r) → IsCircle n t0 (given ∷ t) → (n (t0 given)).prev ≡ Some x → IsCircle n t1 ((r ++ at ∷ []) ++ given ∷ t)
@@ -40,7 +42,7 @@ module _ {E : Type 0} {n : E → Neighbors} {t0 t1 : Place → E} {at given x : 
       let both = apart_too at r given u t c other apart d in
       joins (r ++ at ∷ []) (given ∷ t) (rotated (at ∷ []) r c) d (disjoint_both r (at ∷ []) (given ∷ t) both.1 (both.0, tt)) (sym (last_of_push r at)) (sym to_x ∙ d.chain.0.prev)
 
-  -- read from the place, and from the other head
+  -- the joined ring, read from the place `at`. `joined_given` reads the ring from the other head
   pub joined_at : (r t : List Place) → IsCircle n t0 (at ∷ r) → IsCircle n t0 (given ∷ t) → (n (t0 given)).prev ≡ Some x → IsCircle n t1 (at ∷ ((given ∷ t) ++ r))
   joined_at r t c d to_x = rotated r (at ∷ given ∷ t) (subst (IsCircle n t1) (append_assoc r (at ∷ []) (given ∷ t)) (joined_after r t c d to_x))
 

@@ -1,4 +1,4 @@
--- What stays where a ring changes: the other rings, and all lists. And where an object moves, its ring without it.
+-- Lemmas about what stays as it was if a ring changes: the other rings, and all lists. Other lemmas are about a ring without an object that moves.
 use Rattle.std.proofs.Common.{◌≡◌, ◌≢◌, List, [], ◌∷◌, ◌++◌, Bool, false, inl, inr, subst, sym}
 use Rattle.ic_link_ops.specs.Prelude.{Place, IsAbsent, IsDisjoint, first, last, Table}
 use Rattle.ic_link_ops.specs.LinkedList.{Neighbors, IsBetween}
@@ -10,7 +10,7 @@ use Rattle.ic_ring.specs.Rings.{IsCircle, RepresentsBeside, OthersStay}
 use Rattle.ic_ring.proofs.Circles.{in_or_out, rotated, seen_from, circles_apart, list_apart, free_outside}
 
 module _ {E : Type 0} {n : E → Neighbors} where
-  -- a circle stays where nothing but entries of `touched` is changed, in which it has no part
+  -- a circle stays a circle, if only entries of the places `touched` are changed, and no place of the circle is one of these places
   pub circle_stays : {t0 t1 : Place → E} (r touched : List Place) → IsCircle n t0 r → IsDisjoint r touched → ((q : Place) → IsAbsent q touched → t1 q ≡ t0 q)
       → IsCircle n t1 r
   circle_stays {t0} {t1} r touched c apart same = record {
@@ -18,7 +18,7 @@ module _ {E : Type 0} {n : E → Neighbors} where
     chain = chain_frame (IsBetween n) t0 t1 (last r) r (first r) touched apart same c.chain;
   }
 
-  -- THE OTHERS STAY where nothing is changed but entries of one ring,
+  -- THE OTHERS STAY: if only entries of one ring are changed, all other rings and all lists stay as they were
   pub others_stay : {old new : Table E} (p : Place) (s : List Place) → IsCircle n old.entry (p ∷ s) → ((q : Place) → IsAbsent q (p ∷ s) → new.entry q ≡ old.entry q)
       → OthersStay n old new (p ∷ [])
   others_stay p s c same = record {
@@ -26,7 +26,7 @@ module _ {E : Type 0} {n : E → Neighbors} where
     lists = λ list t shown. represents_frame (p ∷ s) shown (list_apart p s c shown) same;
   }
 
-  -- of two rings,
+  -- THE OTHERS STAY: if only entries of two rings are changed, all other rings and all lists stay as they were
   pub others_stay_two : {old new : Table E} (p : Place) (s : List Place) (q : Place) (u : List Place) → IsCircle n old.entry (p ∷ s) → IsCircle n old.entry (q ∷ u)
       → ((x : Place) → IsAbsent x ((p ∷ s) ++ (q ∷ u)) → new.entry x ≡ old.entry x) → OthersStay n old new (p ∷ q ∷ [])
   others_stay_two p s q u c k same =
@@ -39,20 +39,20 @@ module _ {E : Type 0} {n : E → Neighbors} where
             represents_frame both shown (disjoint_sym both t apart) same;
       }
 
-  -- and where nothing is
+  -- THE OTHERS STAY if the table does not change
   pub others_same : {old new : Table E} (places : List Place) → new ≡ old → OthersStay n old new places
   others_same {old} {new} places e = rw e (record { rings = λ r c out. c; lists = λ list s shown. shown })
 
-  -- in two steps,
+  -- THE OTHERS STAY after two steps if they stay after each step
   pub others_then : {old mid new : Table E} {places : List Place} → OthersStay n old mid places → OthersStay n mid new places → OthersStay n old new places
   others_then a b = record { rings = λ r c out. b.rings r (a.rings r c out) out; lists = λ list s shown. b.lists list s (a.lists list s shown) }
 
-  -- and said of another place of the ring
+  -- if all rings without the place q stay as they were, and each ring without p is also without q, then all rings without p stay as they were
   pub others_from : {old new : Table E} {p q : Place} → ((r : List Place) → IsCircle n old.entry r → IsAbsent p r → IsAbsent q r)
       → OthersStay n old new (q ∷ []) → OthersStay n old new (p ∷ [])
   others_from too k = record { rings = λ r c out. k.rings r c (too r c out.0, tt); lists = k.lists }
 
-  -- THE RING BESIDE p: when p is taken out, wherever it stood, this is its circle, and p is not in it
+  -- THE RING WITHOUT p: after p was taken out of its ring, wherever p was, the head and the members s are a circle, and p is not in it
   pub beside_represented : {old new : Table E} (p : Place) (head : Place) (s : List Place) → RepresentsBeside n old p head s
       → ((r : List Place) → IsCircle n old.entry (p ∷ r) → IsCircle n new.entry r) → OthersStay n old new (p ∷ [])
       → IsCircle n new.entry (head ∷ s) × IsAbsent p (head ∷ s)
@@ -63,7 +63,7 @@ module _ {E : Type 0} {n : E → Neighbors} where
         subst (λ s. IsAbsent p (head ∷ s)) (sym k.3) (distinct_middle (head ∷ k.0) k.1 p k.2.distinct),
       )
 
-  -- a ring stays one, with no new places, where one of its members is taken out, and where a place of another ring is
+  -- a ring stays a ring with no new places, if one of its members or a place of another ring is taken out
   pub ring_left : {old new : Table E} {p h : Place} (s : List Place) → IsCircle n old.entry (h ∷ s) → h ≢ p
       → ((r : List Place) → IsCircle n old.entry (p ∷ r) → IsCircle n new.entry r) → OthersStay n old new (p ∷ [])
       → (u : List Place) × IsCircle n new.entry (h ∷ u) × ((q : Place) → IsAbsent q (h ∷ s) → IsAbsent q (h ∷ u))
@@ -79,7 +79,7 @@ module _ {E : Type 0} {n : E → Neighbors} where
   ]
 
   module _ {linked : E → Bool} (alike : (e : E) → (n e).linked ≡ linked e) where
-    -- the others stay where entries of one ring are changed, and that of a place that was not linked
+    -- THE OTHERS STAY: all other rings and all lists stay as they were, if only entries of one ring and the entry of an unlinked place are changed
     pub others_stay_beside : {old new : Table E} (x : Place) (p : Place) (s : List Place) → linked (old.entry x) ≡ false → IsCircle n old.entry (p ∷ s)
         → ((q : Place) → IsAbsent q (x ∷ p ∷ s) → new.entry q ≡ old.entry q) → OthersStay n old new (p ∷ [])
     others_stay_beside x p s free c same = record {
@@ -90,7 +90,7 @@ module _ {E : Type 0} {n : E → Neighbors} where
           represents_frame (x ∷ p ∷ s) shown (disjoint_cons x t (p ∷ s) (free_absent (between_linked alike) shown free) (list_apart p s c shown)) same;
     }
 
-    -- and where that entry alone is
+    -- THE OTHERS STAY: if only the entry of a place that was not linked is changed, all rings and all lists stay as they were
     pub others_stay_new : {old new : Table E} (x : Place) → linked (old.entry x) ≡ false → ((q : Place) → q ≢ x → new.entry q ≡ old.entry q) → OthersStay n old new []
     others_stay_new x free same = record {
       rings = λ r circle out. circle_stays r (x ∷ []) circle (disjoint_cons x r [] (free_outside alike circle free) (disjoint_nothing r)) (λ q out. same q out.0);

@@ -1,4 +1,4 @@
--- The members of a ring, as the entries lead through them, and a walk over its objects.
+-- Lemmas about the members of a ring, as the entries lead from one to the next, and about a walk over the ring's objects.
 use Rattle.std.proofs.Common.{◌≡◌, ◌≢◌, Option, Some, None, List, [], ◌∷◌, ◌++◌, true, false, Bor, refl, sym, ◌∙◌, ap, subst, append_assoc, eq-eqb}
 use Rattle.std.specs.Option.{option_copied}
 use Rattle.std.specs.List.{cons_option}
@@ -21,7 +21,7 @@ is_end_self : (p : Place) → is_end (Some p) p ≡ true
 is_end_self p = eq-eqb _ _ refl
 
 module _ {E : Type 0} {n : E → Neighbors} (t : Table E) (covered : (q : Place) → (n (t.entry q)).linked ≡ true → IsCovered t q) where
-  -- what stands between two places of a ring is what stands after `given`, up to the end
+  -- the places from `front` on up to the place before `end` are w, if the ring read from `end` has the members `given` and then w
   pub until_represented : (end : Place) (given w : List Place) {front : Option Place} → IsCircle n t.entry (end ∷ (given ++ w)) → front ≡ first_or w (Some end)
       → members_until n t front end ≡ w
   until_represented end given [] {front} c starts = rw (starts, is_end_self end) refl
@@ -45,7 +45,7 @@ module _ {E : Type 0} {n : E → Neighbors} (t : Table E) (covered : (q : Place)
   one_ring_is_represented head s u shown other = sym (members_represented head s shown) ∙ members_represented head u other
 
 module _ {T L O E : Type 0} (n : E → Neighbors) (table : L → Table E) (values : O → Objects T) where
-  -- the walk gave out the member at p, and goes on after it
+  -- THE WALK RETURNED the member p, and `members` remain. Before the step, p and then `members` were left
   pub record Steps (old new : Iter T L O) (p : Place) : Type 0 where
     pub members : List Place
     pub walk : IsLeft n table values new members
@@ -53,7 +53,7 @@ module _ {T L O E : Type 0} (n : E → Neighbors) (table : L → Table E) (value
     pub placed : ArePlaced (values old.objects.now) (p ∷ members)
     pub objects : values new.objects.now ≡ values old.objects.now
 
-  -- the same from the back: it gave out the member at p, and ends before it
+  -- THE WALK RETURNED the member p from the back, and `members` remain. Before the step, `members` and then p were left
   pub record StepsBack (old new : Iter T L O) (p : Place) : Type 0 where
     pub members : List Place
     pub walk : IsLeft n table values new members
@@ -61,12 +61,12 @@ module _ {T L O E : Type 0} (n : E → Neighbors) (table : L → Table E) (value
     pub placed : ArePlaced (values old.objects.now) (members ++ p ∷ [])
     pub objects : values new.objects.now ≡ values old.objects.now
 
-  -- the front stands in the ring
+  -- the first remaining place of the walk, `front`, is in the ring
   pub front_stands : (t : Iter T L O) → CanWalk n table values t → (s : List Place) × IsCircle n (table t.links.now).entry (t.front ∷ s)
   front_stands t ([], left, placed) = rw (some_same left.starts) (left.given ++ [], left.ring)
   front_stands t (x ∷ w, left, placed) = rw (some_same left.starts) (w ++ t.end ∷ left.given, seen_from left.given x w left.ring)
 
-  -- THE STEPS, while the two are not one
+  -- THE STEPS, if the first remaining place is not the end of the walk: the walk goes on at the next place, or its end moves to the previous place
   pub steps_on : (t : Iter T L O) (next : Place) → CanWalk n table values t → t.front ≢ t.end → (n ((table t.links.now).entry t.front)).next ≡ Some next
       → Steps t (record t { front = next }) t.front
   steps_on t next ([], left, placed) goes leads = absurd (goes (some_same left.starts))
@@ -104,7 +104,7 @@ module _ {T L O E : Type 0} (n : E → Neighbors) (table : L → Table E) (value
         objects = refl;
       }
 
-  -- the walk can go on
+  -- after a step the walk can still be walked to its end
   pub can_walk : {old new : Iter T L O} {p : Place} → Steps old new p → CanWalk n table values new
   can_walk k = (k.members, k.walk, rw k.objects k.placed.1)
 
@@ -112,17 +112,17 @@ module _ {T L O E : Type 0} (n : E → Neighbors) (table : L → Table E) (value
   can_walk_back k = (k.members, k.walk, rw k.objects (all_but_last _ k.members _ k.placed).0)
 
   module _ (law : (t : L) (q : Place) → (n ((table t).entry q)).linked ≡ true → IsCovered (table t) q) where
-    -- what is left is what stands at these members
+    -- the objects that the walk has left are the objects at the members w, if the members w remain
     pub left_is : (t : Iter T L O) (w : List Place) → IsLeft n table values t w → objects_left n table values t ≡ values_at (values t.objects.now) w
     left_is t w k = ap (values_at (values t.objects.now)) (until_represented (table t.links.now) (law t.links.now) t.end k.given w k.ring k.starts)
 
-    -- nothing, where the two ends are one
+    -- no objects are left, if the first remaining place is the end of the walk
     pub none_left : (t : Iter T L O) → CanWalk n table values t → t.front ≡ t.end → objects_left n table values t ≡ []
     none_left t ([], left, placed) e = left_is t [] left
     none_left t (x ∷ w, left, placed) e =
         absurd ((absent_right t.end left.given (x ∷ w) left.ring.distinct.0).0 (sym e ∙ some_same left.starts))
 
-    -- the step gives the object at p
+    -- if a step returns the object at p, the step returns the first of the objects that were left
     pub gives : {old new : Iter T L O} {p : Place} (r : Option (Bor T)) → Steps old new p → option_copied r ≡ object_at (values old.objects.now) p
         → GivesFirst (objects_left n table values) old r new
     gives {old} {new} {p} r k is =
@@ -130,12 +130,12 @@ module _ {T L O E : Type 0} (n : E → Neighbors) (table : L → Table E) (value
         (left_is old (p ∷ k.members) k.whole
         ∙ ap (cons_option (object_at (values old.objects.now) p)) (sym (left_is new k.members k.walk ∙ ap (λ o. values_at o k.members) k.objects)))
 
-    -- and leaves one less
+    -- if a step returns the object at p, one object less is left after the step, and the walk can still be walked to its end
     pub goes : {old new : Iter T L O} {p : Place} (r : Option (Bor T)) → Steps old new p → option_copied r ≡ object_at (values old.objects.now) p
         → MakesProgress (CanWalk n table values) (item_count (objects_left n table values)) old r new
     goes {old} {new} {p} r k is = makes_progress (objects_left n table values) (CanWalk n table values) old new r (can_walk k) (gives r k is)
 
-    -- the same from the back
+    -- if a step from the back returns the object at p, the step returns the last of the objects that were left
     pub gives_back : {old new : Iter T L O} {p : Place} (r : Option (Bor T)) → StepsBack old new p → option_copied r ≡ object_at (values old.objects.now) p
         → GivesLast (objects_left n table values) old r new
     gives_back {old} {new} {p} r k is =

@@ -1,4 +1,5 @@
--- Two places that are turned, each on one side, whatever their words said.
+-- Lemmas about two places whose neighbors are set, the next place of the first and the previous place of the second, whatever their entries
+-- contained.
 use Rattle.std.proofs.Common.{◌≡◌, Some, inl, inr, ◌∙◌, ap, subst, sym}
 use Rattle.ic_link_ops.specs.Prelude.{Place, Table, ChangesOnly}
 use Rattle.ic_unsafe_ref.proofs.PlaceLemmas.{same_or_not}
@@ -6,7 +7,7 @@ use Rattle.ic_link_ops.specs.LinkedList.{Neighbors, neighbors_at}
 use Rattle.ic_ring.specs.Rings.{TurnsTo}
 
 module _ {E : Type 0} (n : E → Neighbors) {old mid new : Table E} {first second next prev : Place} where
-  -- by two writes, of what is after the first and then of what is before the second
+  -- two writes set the neighbors: first the next place of the first place, and then the previous place of the second place
   pub turned : ChangesOnly old mid first → neighbors_at n mid first ≡ record (neighbors_at n old first) { next = Some next }
       → ChangesOnly mid new second → neighbors_at n new second ≡ record (neighbors_at n mid second) { prev = Some prev }
       → TurnsTo n old new first second next prev

@@ -1,4 +1,4 @@
--- A cursor that reads, as contracts see it.
+-- The parts of a reading cursor of a ring that contracts name.
 use Rattle.std.specs.Prelude.{◌≡◌}
 use Rattle.ic_link_ops.specs.Prelude.{Place, Table}
 use Rattle.ic_link_ops.specs.LinkedList.{Neighbors}
@@ -6,7 +6,7 @@ use Rattle.ic_ring.specs.RingCursors.{IsValidCursor}
 use Rattle.ic_ring.specs.declared.cursor.Cursor.{Cursor}
 
 module _ {T L : Type 0} where
-  -- the table, the head of the ring, and the place that the cursor is on
+  -- the table that the cursor reads. `head_of` is the head of its ring, and `at_of` is the place that the cursor is on
   abbrev pub links_of : Cursor T L → L
   links_of c = c.links.now
 
@@ -16,10 +16,10 @@ module _ {T L : Type 0} where
   abbrev pub at_of : Cursor T L → Place
   at_of c = c.at
 
-  -- the cursor is on a place of its ring
+  -- THE CURSOR IS VALID: it is on a member or on the head of its ring
   abbrev pub IsValid : {E : Type 0} → (E → Neighbors) → (L → Table E) → Cursor T L → Type 0
   IsValid neighbors table c = IsValidCursor neighbors (table (links_of c)) (head_of c) (at_of c)
 
-  -- the cursor reads the same ring of the same table
+  -- the new cursor reads the same ring of the same table as the old cursor
   abbrev pub SameRing : Cursor T L → Cursor T L → Type 0
   SameRing old new = (head_of new ≡ head_of old) × (links_of new ≡ links_of old)

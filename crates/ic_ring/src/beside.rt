@@ -1,4 +1,5 @@
-//! Calls that take no ring. A place is in at most one ring, and its neighbors lead to the ring's other places.
+//! Calls that take a place of a ring, but not the ring itself. A place is in at most one ring, and the other places of the ring are found from
+//! neighbor to neighbor.
 //!
 //! ```text
 //! remove(&mut links, &object);                 // from whichever ring it is in
@@ -17,9 +18,9 @@ use ic_link_ops::linked_list::LinkedListOps;
 use ic_link_ops::{AlreadyLinked, LinkOps};
 use ic_unsafe_ref::{Place, UnsafeRef};
 
-/// The place after one that is in a ring. After the last member comes the head. O(1).
+/// The place after `place`, which is in a ring. After the last member comes the head. O(1).
 ///
-/// It requires that the place is in a ring of the table.
+/// The call requires that the place is in a ring of the table.
 #[inline]
 pub fn next<L: LinkedListOps>(links: &L, place: Place) -> Place
     requires ring { InRing L.neighbors (L.table links.now) place }
@@ -29,9 +30,9 @@ pub fn next<L: LinkedListOps>(links: &L, place: Place) -> Place
     next_of(links, place)
 }
 
-/// The place before one that is in a ring. Before the first member comes the head. O(1).
+/// The place before `place`, which is in a ring. Before the first member comes the head. O(1).
 ///
-/// It requires that the place is in a ring of the table.
+/// The call requires that the place is in a ring of the table.
 #[inline]
 pub fn prev<L: LinkedListOps>(links: &L, place: Place) -> Place
     requires ring { InRing L.neighbors (L.table links.now) place }
@@ -41,7 +42,7 @@ pub fn prev<L: LinkedListOps>(links: &L, place: Place) -> Place
     prev_of(links, place)
 }
 
-// Links the place between two neighbors of a ring, and returns whether its link was acquired.
+// Links the place between the neighbors `before` and `after` of a ring, and returns whether its link was acquired.
 #[inline]
 pub(crate) fn insert_between<L: LinkedListOps>(
     links: &mut L,
@@ -67,7 +68,7 @@ pub(crate) fn insert_between<L: LinkedListOps>(
     true
 }
 
-// Removes the place from between its two neighbors, and unlinks it.
+// Removes the place from between its neighbors `before` and `after`, and unlinks it.
 #[inline]
 pub(crate) fn unlink<L: LinkedListOps>(links: &mut L, before: Place, place: Place, after: Place)
     requires ring { InRing L.neighbors (L.table links.old) place }
@@ -83,9 +84,9 @@ pub(crate) fn unlink<L: LinkedListOps>(links: &mut L, before: Place, place: Plac
     links.release_link(place);
 }
 
-/// Removes the object from its ring, whichever that is, and unlinks it. O(1). Linux: `list_del`.
+/// Removes the object from the ring that it is in, and unlinks it. O(1). Linux: `list_del`.
 ///
-/// It requires that the object is in a ring of the table. The ring's other members stay in their order, and every other ring and every
+/// The call requires that the object is in a ring of the table. The other members of the ring stay in their order, and every other ring and every
 /// list of the table stays as it is. To end a ring with no members, remove its head.
 #[inline]
 pub fn remove<T, L: LinkedListOps>(links: &mut L, object: &UnsafeRef<T>)
@@ -105,9 +106,9 @@ pub fn remove<T, L: LinkedListOps>(links: &mut L, object: &UnsafeRef<T>)
 
 /// Inserts the object before a place that is in a ring, unless its link is refused. O(1), and it takes no memory.
 ///
-/// Before a head it becomes the last member. It requires that the object's place is covered, and that the other place is in a ring.
-/// If the link is refused, the object is returned and nothing has changed. A plain table refuses the link exactly if the object is
-/// linked in it. Linux: `list_add_tail`.
+/// An object that is inserted before a head becomes the last member. The call requires that the table covers the object's place, and that the other
+/// place is in a ring. If the link is refused, the object is returned and nothing has changed. A plain table refuses the link exactly if the object
+/// is linked in this table. Linux: `list_add_tail`.
 #[inline]
 pub fn insert_before<T, L: LinkedListOps>(
     links: &mut L,
@@ -137,7 +138,7 @@ pub fn insert_before<T, L: LinkedListOps>(
 
 /// Inserts the object after a place that is in a ring, unless its link is refused. O(1), and it takes no memory.
 ///
-/// After a head it becomes the first member. It requires and returns what [`insert_before`] does. Linux: `list_add`.
+/// An object that is inserted after a head becomes the first member. The call requires and returns what [`insert_before`] does. Linux: `list_add`.
 #[inline]
 pub fn insert_after<T, L: LinkedListOps>(
     links: &mut L,
@@ -165,10 +166,10 @@ pub fn insert_after<T, L: LinkedListOps>(
     Ok(())
 }
 
-/// Replaces an object in a ring by another one, and unlinks the first, unless the link of the other is refused. O(1), and it takes no
+/// Replaces an object in a ring by a new object, and unlinks the old object, unless the link of the new object is refused. O(1), and it takes no
 /// memory.
 ///
-/// It requires that the new object's place is covered, and that the old one is in a ring. If the link is refused, the new object is
+/// The call requires that the table covers the new object's place, and that the old object is in a ring. If the link is refused, the new object is
 /// returned and nothing has changed. Linux: `list_replace`.
 #[inline]
 pub fn replace<T, L: LinkedListOps>(

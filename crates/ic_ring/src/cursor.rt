@@ -20,7 +20,7 @@ use ic_unsafe_ref::{Objects, Place};
 use std::alloc::{AllocError, Allocator};
 use std::marker::PhantomData;
 
-/// A cursor that reads: on a member, or on the head, which is between the last member and the first.
+/// A cursor that reads a ring. The cursor is on a member or on the head, which is between the last member and the first.
 pub struct Cursor<'a, T, L> {
     links: &'a L,
     of: PhantomData<T>,
@@ -39,7 +39,7 @@ impl<T, L> Drop for Cursor<'_, T, L> {
     }
 }
 
-// The member at a place of the ring with this head, none at the head.
+// The member at the place `at` of the ring with the given head, or none if `at` is the head.
 #[inline]
 pub(crate) fn member_on(head: Place, at: Place) -> Option<Place>
     ensures { IsOn head at result }
@@ -47,7 +47,7 @@ pub(crate) fn member_on(head: Place, at: Place) -> Option<Place>
     if at == head { None } else { Some(at) }
 }
 
-// The object at a place of the ring with this head, none at the head.
+// The object at the place `at` of the ring with the given head, or none if `at` is the head.
 #[inline]
 pub(crate) fn object_on<T, A: Allocator>(
     objects: &Objects<T, A>,
@@ -63,7 +63,7 @@ pub(crate) fn object_on<T, A: Allocator>(
 impl<'a, T, L: LinkedListOps> Cursor<'a, T, L> {
     ghost use Rattle.ic_ring.specs.Cursor.{links_of, head_of, at_of, IsValid, SameRing};
 
-    // A cursor at that place of the ring with this head.
+    // Makes a cursor at the place `at` of the ring with the given head.
     #[inline]
     pub(crate) fn new(links: &'a L, head: Place, at: Place) -> Cursor<'a, T, L>
         ensures links { links_of result ≡ links.now }
@@ -86,7 +86,7 @@ impl<'a, T, L: LinkedListOps> Cursor<'a, T, L> {
         self.at == self.head
     }
 
-    /// The place of the member that the cursor is on, `None` on the head. O(1).
+    /// The place of the member that the cursor is on, or `None` if the cursor is on the head. O(1).
     #[inline]
     pub fn get_ptr(&self) -> Option<Place>
         ensures { IsOn (head_of self.now) (at_of self.now) result }
@@ -94,7 +94,7 @@ impl<'a, T, L: LinkedListOps> Cursor<'a, T, L> {
         member_on(self.head, self.at)
     }
 
-    /// The object that the cursor is on, `None` on the head. One look-up, O(1).
+    /// The object that the cursor is on, or `None` if the cursor is on the head. The call makes one look-up, O(1).
     #[inline]
     pub fn get<'b, A: Allocator>(&self, objects: &'b Objects<T, A>) -> Option<&'b T>
         ensures on { at_of self.now ≢ head_of self.now → option_copied result ≡ object_at objects.now (at_of self.now) }
@@ -103,9 +103,9 @@ impl<'a, T, L: LinkedListOps> Cursor<'a, T, L> {
         object_on(objects, self.head, self.at)
     }
 
-    /// Moves to the next member, from the head to the first one, and from the last one to the head. O(1).
+    /// Moves the cursor to the next member, or from the last member to the head, or from the head to the first member. O(1).
     ///
-    /// It requires that the cursor is valid. The gap that was after the cursor is before it afterwards.
+    /// It requires that the cursor is valid. The gap between two neighbors that was right after the cursor is right before the cursor after the move.
     #[inline]
     pub fn move_next(&mut self)
         requires stands { IsValid L.neighbors L.table self.old }
@@ -116,9 +116,9 @@ impl<'a, T, L: LinkedListOps> Cursor<'a, T, L> {
         self.at = next_of(self.links, self.at);
     }
 
-    /// Moves to the previous member, from the head to the last one, and from the first one to the head. O(1).
+    /// Moves the cursor to the previous member, or from the first member to the head, or from the head to the last member. O(1).
     ///
-    /// It requires that the cursor is valid. The gap that was before the cursor is after it afterwards.
+    /// It requires that the cursor is valid. The gap between two neighbors that was right before the cursor is right after the cursor after the move.
     #[inline]
     pub fn move_prev(&mut self)
         requires stands { IsValid L.neighbors L.table self.old }
@@ -135,7 +135,7 @@ impl<T, L> Clone for Cursor<'_, T, L> {
 
     ghost is_infallible = { λ _. ⊤ };
 
-    /// A cursor at the same place. It never fails.
+    /// A second cursor at the place of this cursor. The call never fails.
     fn clone(&self) -> Result<Self, AllocError> {
         Ok(Cursor {
             links: self.links,
@@ -149,9 +149,9 @@ impl<T, L> Clone for Cursor<'_, T, L> {
 impl<T> Ring<T> {
     ghost use Rattle.ic_ring.specs.Cursor.{links_of, head_of, at_of, IsValid};
 
-    /// A cursor on the head, that reads. O(1).
+    /// A reading cursor on the head of the ring. O(1).
     ///
-    /// It requires that the table represents the ring.
+    /// The call requires that the table represents the ring.
     #[inline]
     pub fn cursor<'a, L: LinkedListOps>(&self, links: &'a L) -> Cursor<'a, T, L>
         requires shown { InRing L.neighbors (L.table links.now) self.now }
@@ -163,9 +163,9 @@ impl<T> Ring<T> {
         Cursor::new(links, self.head(), self.head())
     }
 
-    /// A cursor on a member, or on the head, that reads. O(1).
+    /// A reading cursor on the member or the head at the place `at`. O(1).
     ///
-    /// It requires that the place is in this ring.
+    /// The call requires that the place `at` is in this ring.
     #[inline]
     pub fn cursor_at<'a, L: LinkedListOps>(&self, links: &'a L, at: Place) -> Cursor<'a, T, L>
         requires here { (r : List Place) × Represents L.neighbors (L.table links.now) self.now r × IsMember at (self.now ∷ r) }

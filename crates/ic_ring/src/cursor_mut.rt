@@ -25,7 +25,7 @@ use ic_unsafe_ref::{Objects, Place, UnsafeRef};
 use std::alloc::Allocator;
 use std::marker::PhantomData;
 
-/// A cursor that edits, on a member or on the head. It borrows the table of the ring's links.
+/// A cursor that edits a ring. It is on a member or on the head, and borrows the table of the ring's links.
 pub struct CursorMut<'a, T, L> {
     links: &'a mut L,
     of: PhantomData<T>,
@@ -50,7 +50,7 @@ impl<'a, T, L: LinkedListOps> CursorMut<'a, T, L> {
     ghost use Rattle.ic_ring.specs.CursorMut.{links_of, head_of, at_of, IsBorrowed, IsValid, SameRing, RepresentsAt, ChangesOnlyInRing, StaysInRing};
     ghost use Rattle.ic_ring.specs.Cursor as reading;
 
-    // A cursor at that place of the ring with this head.
+    // Makes a cursor at the place `at` of the ring with the given head.
     #[inline]
     pub(crate) fn new(links: &'a mut L, head: Place, at: Place) -> CursorMut<'a, T, L>
         ensures borrows { IsBorrowed links.entry result }
@@ -73,7 +73,7 @@ impl<'a, T, L: LinkedListOps> CursorMut<'a, T, L> {
         self.at == self.head
     }
 
-    /// The place of the member that the cursor is on, `None` on the head. O(1).
+    /// The place of the member that the cursor is on, or `None` if the cursor is on the head. O(1).
     #[inline]
     pub fn get_ptr(&self) -> Option<Place>
         ensures { IsOn (head_of self.now) (at_of self.now) result }
@@ -81,7 +81,7 @@ impl<'a, T, L: LinkedListOps> CursorMut<'a, T, L> {
         member_on(self.head, self.at)
     }
 
-    /// The object that the cursor is on, `None` on the head. One look-up, O(1).
+    /// The object that the cursor is on, or `None` if the cursor is on the head. The call makes one look-up, O(1).
     #[inline]
     pub fn get<'b, A: Allocator>(&self, objects: &'b Objects<T, A>) -> Option<&'b T>
         ensures on { at_of self.now ≢ head_of self.now → option_copied result ≡ object_at objects.now (at_of self.now) }
@@ -90,7 +90,7 @@ impl<'a, T, L: LinkedListOps> CursorMut<'a, T, L> {
         object_on(objects, self.head, self.at)
     }
 
-    /// A cursor that reads, at the same place. O(1).
+    /// A reading cursor at the place of this cursor. O(1).
     #[inline]
     pub fn as_cursor(&self) -> Cursor<'_, T, L>
         ensures links { reading.links_of result ≡ links_of self.now }
@@ -100,9 +100,9 @@ impl<'a, T, L: LinkedListOps> CursorMut<'a, T, L> {
         Cursor::new(&*self.links, self.head, self.at)
     }
 
-    /// Moves to the next member, from the head to the first one, and from the last one to the head. O(1).
+    /// Moves the cursor to the next member, or from the last member to the head, or from the head to the first member. O(1).
     ///
-    /// It requires that the cursor is valid. The gap that was after the cursor is before it afterwards.
+    /// It requires that the cursor is valid. The gap between two neighbors that was right after the cursor is right before the cursor after the move.
     #[inline]
     pub fn move_next(&mut self)
         requires stands { IsValid L.neighbors L.table self.old }
@@ -114,9 +114,9 @@ impl<'a, T, L: LinkedListOps> CursorMut<'a, T, L> {
         self.at = next_of(&*self.links, self.at);
     }
 
-    /// Moves to the previous member, from the head to the last one, and from the first one to the head. O(1).
+    /// Moves the cursor to the previous member, or from the first member to the head, or from the head to the last member. O(1).
     ///
-    /// It requires that the cursor is valid. The gap that was before the cursor is after it afterwards.
+    /// It requires that the cursor is valid. The gap between two neighbors that was right before the cursor is right after the cursor after the move.
     #[inline]
     pub fn move_prev(&mut self)
         requires stands { IsValid L.neighbors L.table self.old }
@@ -128,10 +128,10 @@ impl<'a, T, L: LinkedListOps> CursorMut<'a, T, L> {
         self.at = prev_of(&*self.links, self.at);
     }
 
-    /// Inserts the object after the cursor, unless its link is refused. On the head this is before the first member. O(1), and
-    /// no memory.
+    /// Inserts the object after the cursor, unless the object's link is refused. If the cursor is on the head, the object is inserted before the
+    /// first member. O(1), and no memory.
     ///
-    /// It requires that the cursor is valid, and that the object's place is covered. The cursor stays where it is. If the link is
+    /// The call requires that the cursor is valid, and that the table covers the object's place. The cursor stays where it is. If the link is
     /// refused, the object is returned and nothing has changed.
     #[inline]
     pub fn insert_after(&mut self, object: UnsafeRef<T>) -> Result<(), AlreadyLinked<T>>
@@ -148,10 +148,10 @@ impl<'a, T, L: LinkedListOps> CursorMut<'a, T, L> {
         insert_after(self.links, self.at, object)
     }
 
-    /// Inserts the object before the cursor, unless its link is refused. On the head this is after the last member. O(1), and
-    /// no memory.
+    /// Inserts the object before the cursor, unless the object's link is refused. If the cursor is on the head, the object is inserted after the last
+    /// member. O(1), and no memory.
     ///
-    /// It requires and returns what [`CursorMut::insert_after`] does.
+    /// The call requires and returns what [`CursorMut::insert_after`] does.
     #[inline]
     pub fn insert_before(&mut self, object: UnsafeRef<T>) -> Result<(), AlreadyLinked<T>>
         requires covered { IsCovered (L.table (links_of self.old)) object }
@@ -167,9 +167,10 @@ impl<'a, T, L: LinkedListOps> CursorMut<'a, T, L> {
         insert_before(self.links, self.at, object)
     }
 
-    /// Removes the member that the cursor is on, unlinks it and returns it, `None` on the head. O(1).
+    /// Removes the member that the cursor is on, unlinks it and returns it, or returns `None` if the cursor is on the head. O(1).
     ///
-    /// It requires that the cursor is valid. The cursor moves to the next member, or to the head. On the head nothing changes.
+    /// It requires that the cursor is valid. The cursor moves to the next member, or to the head if the removed member was the last one. If the
+    /// cursor is on the head, nothing changes.
     #[inline]
     pub fn remove(&mut self) -> Option<UnsafeRef<T>>
         requires stands { IsValid L.neighbors L.table self.old }
@@ -193,10 +194,10 @@ impl<'a, T, L: LinkedListOps> CursorMut<'a, T, L> {
         Some(UnsafeRef::new(place))
     }
 
-    /// Replaces the member that the cursor is on by the object, unlinks that member and returns it. O(1), and no memory.
+    /// Replaces the member that the cursor is on by the object, unlinks the replaced member and returns it. O(1), and no memory.
     ///
-    /// It requires that the cursor is valid, and that the object's place is covered. The cursor is on the object then. On the head, and if
-    /// the object's link is refused, the object is returned and nothing has changed.
+    /// The call requires that the cursor is valid, and that the table covers the object's place. Afterwards the cursor is on the object. If the
+    /// cursor is on the head, or if the object's link is refused, the object is returned and nothing has changed.
     #[inline]
     pub fn replace_with(&mut self, object: UnsafeRef<T>) -> Result<UnsafeRef<T>, ReplaceError<T>>
         requires covered { IsCovered (L.table (links_of self.old)) object }
@@ -223,8 +224,7 @@ impl<'a, T, L: LinkedListOps> CursorMut<'a, T, L> {
         Ok(out)
     }
 
-    /// Moves all members of another ring after the cursor. The other ring is empty then. O(1), and no link is acquired
-    /// or released.
+    /// Moves all members of another ring after the cursor. Afterwards the other ring is empty. O(1), and no link is acquired or released.
     ///
     /// It requires that the cursor is valid, and that the two rings are different. The cursor stays where it is. Linux: `list_splice_init`.
     #[inline]
@@ -245,10 +245,9 @@ impl<'a, T, L: LinkedListOps> CursorMut<'a, T, L> {
         splice_after_place(self.links, self.at, given.head());
     }
 
-    /// Moves all members of another ring before the cursor. The other ring is empty then. O(1), and no link is acquired
-    /// or released.
+    /// Moves all members of another ring before the cursor. Afterwards the other ring is empty. O(1), and no link is acquired or released.
     ///
-    /// It requires what [`CursorMut::splice_after`] does. The cursor stays where it is. Linux: `list_splice_tail_init`.
+    /// The call requires what [`CursorMut::splice_after`] requires. The cursor stays where it is. Linux: `list_splice_tail_init`.
     #[inline]
     pub fn splice_before(&mut self, given: &Ring<T>)
         requires stands { IsValid L.neighbors L.table self.old }
@@ -268,8 +267,8 @@ impl<'a, T, L: LinkedListOps> CursorMut<'a, T, L> {
         splice_after_place(self.links, prev, given.head());
     }
 
-    /// Moves the members after the cursor, or all members on the head, to the front of another ring. O(1), and no link
-    /// is acquired or released.
+    /// Moves the members after the cursor, or all members if the cursor is on the head, to the front of another ring. O(1), and no link is acquired
+    /// or released.
     ///
     /// It requires that the cursor is valid, and that the two rings are different. The cursor stays where it is.
     #[inline]
@@ -295,9 +294,9 @@ impl<'a, T, L: LinkedListOps> CursorMut<'a, T, L> {
 impl<T> Ring<T> {
     ghost use Rattle.ic_ring.specs.CursorMut.{head_of, at_of, IsBorrowed, IsValid};
 
-    /// A cursor on the head, that edits. O(1).
+    /// An editing cursor on the head of the ring. O(1).
     ///
-    /// It requires that the table represents the ring.
+    /// The call requires that the table represents the ring.
     #[inline]
     pub fn cursor_mut<'a, L: LinkedListOps>(&self, links: &'a mut L) -> CursorMut<'a, T, L>
         requires shown { InRing L.neighbors (L.table links.old) self.now }
@@ -309,9 +308,9 @@ impl<T> Ring<T> {
         CursorMut::new(links, self.head(), self.head())
     }
 
-    /// A cursor on a member, or on the head, that edits. O(1).
+    /// An editing cursor on the member or the head at the place `at`. O(1).
     ///
-    /// It requires that the place is in this ring.
+    /// The call requires that the place `at` is in this ring.
     #[inline]
     pub fn cursor_mut_at<'a, L: LinkedListOps>(
         &self,

@@ -1,4 +1,4 @@
-//! One edit that joins two rings, or cuts one in two: two places exchange their next places.
+//! An edit that joins two rings, or cuts a ring in two: two places exchange their next places.
 //!
 //! ```text
 //! ready.splice_back(&mut links, &late);        // all of `late` after all of `ready`
@@ -18,9 +18,9 @@ use ic_unsafe_ref::Place;
 
 /// Exchanges the next places of two places that are in rings. O(1), and no link is acquired or released.
 ///
-/// If the places are in two rings, these are joined: after the first place come the places that followed the second, up to the second itself,
-/// and then those that followed the first. If they are in one ring, it is cut in two. The same call again reverts this. If both places are the
-/// same, nothing changes. It requires that both places are in rings of the table.
+/// If the places are in two rings, the rings are joined. After the first place come the places that followed the second place, up to the second place
+/// itself. Then come the places that followed the first place. If the places are in one ring, it is cut in two. A second call with the same places
+/// reverts the edit. If both places are the same, nothing changes. The call requires that both places are in rings of the table.
 #[inline]
 pub fn exchange<L: LinkedListOps>(links: &mut L, first: Place, second: Place)
     requires first { InRing L.neighbors (L.table links.old) first }
@@ -43,8 +43,7 @@ pub fn exchange<L: LinkedListOps>(links: &mut L, first: Place, second: Place)
     links.set_prev(after_first, Some(second));
 }
 
-// Moves all members of the ring with the second head after a place of another ring. The ring with that head is empty
-// then.
+// Moves all members of the ring with the head `given` after the place `at` of another ring. Afterwards the ring with the head `given` is empty.
 #[inline]
 pub(crate) fn splice_after_place<L: LinkedListOps>(links: &mut L, at: Place, given: Place)
     requires ring { InRing L.neighbors (L.table links.old) at }
@@ -62,10 +61,10 @@ pub(crate) fn splice_after_place<L: LinkedListOps>(links: &mut L, at: Place, giv
 }
 
 impl<T> Ring<T> {
-    /// Moves all members of another ring after those of this one. The other ring is empty then. O(1), and no link is
-    /// acquired or released.
+    /// Moves all members of another ring after the members of this ring. Afterwards the other ring is empty. O(1), and no link is acquired or
+    /// released.
     ///
-    /// It requires that the two rings are different. Linux: `list_splice_tail_init`.
+    /// The call requires that the two rings are different. Linux: `list_splice_tail_init`.
     #[inline]
     pub fn splice_back<L: LinkedListOps>(&self, links: &mut L, given: &Ring<T>)
         requires shown { InRing L.neighbors (L.table links.old) self.now }
@@ -85,10 +84,10 @@ impl<T> Ring<T> {
         exchange(links, last, given_head);
     }
 
-    /// Moves the members after a place of this ring to the front of another ring. If the place is the head, these are all members.
-    /// O(1), and no link is acquired or released.
+    /// Moves the members after a place of this ring to the front of another ring. If the place is the head, all members are moved. O(1), and no link
+    /// is acquired or released.
     ///
-    /// It requires that the place is in this ring, as its head or as a member, and that the two rings are different.
+    /// The call requires that the place is in this ring, as its head or as a member, and that the two rings are different.
     #[inline]
     pub fn split_after<L: LinkedListOps>(&self, links: &mut L, at: Place, rest: &Ring<T>)
         requires cut { (front back : List Place) × Represents L.neighbors (L.table links.old) self.now (front ++ back) × (Some at ≡ last (self.now ∷ front)) }

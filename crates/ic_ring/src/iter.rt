@@ -23,7 +23,8 @@ use std::marker::PhantomData;
 
 /// A walk over the objects of a ring: `next` returns them from the front, and `next_back` from the back.
 ///
-/// It stores the first remaining place and the one after the last, which is the head at first. If the two are the same, no object is left.
+/// The walk stores the first remaining place, and the place after the last remaining place, which is at first the head. If both places are the same,
+/// no object is left.
 pub struct Iter<'a, T, L, O = Objects<T>> {
     links: &'a L,
     objects: &'a O,
@@ -56,7 +57,7 @@ impl<'a, T, L: LinkedListOps, O: Values<T>> Iterator for Iter<'a, T, L, O> {
 
     ghost remaining = { item_count (objects_left L.neighbors L.table O.values) };
 
-    /// The next object, or `None` if none is left. O(1): one reading of an entry, and one look-up of the object.
+    /// Returns the next object, or `None` if no object is left. The call reads one entry and makes one look-up of the object: O(1).
     fn next(&mut self) -> Option<&'a T> {
         let place = self.front;
         if place == self.end {
@@ -76,7 +77,7 @@ impl<'a, T, L: LinkedListOps, O: Values<T>> DoubleEndedIterator for Iter<'a, T, 
 
     ghost next_back_gives = { GivesLast (objects_left L.neighbors L.table O.values) };
 
-    /// The next object from the back, or `None` if none is left. O(1), as `next`.
+    /// Returns the next object from the back, or `None` if no object is left. O(1), as `next` costs.
     fn next_back(&mut self) -> Option<&'a T> {
         if self.front == self.end {
             return None;
@@ -94,7 +95,7 @@ impl<T, L, O> Clone for Iter<'_, T, L, O> {
 
     ghost is_infallible = { λ _. ⊤ };
 
-    /// A walk over the same objects, from the same two ends. It never fails.
+    /// A second walk over the objects that this walk has left. The call never fails.
     fn clone(&self) -> Result<Self, AllocError> {
         Ok(Iter {
             links: self.links,
@@ -109,7 +110,7 @@ impl<T, L, O> Clone for Iter<'_, T, L, O> {
 impl<T> Ring<T> {
     ghost use Rattle.ic_ring.specs.Iter.{objects_left, CanWalk};
 
-    /// A walk over the objects of the ring, from the front and from the back. It requires that all members are placed. O(1).
+    /// A walk over the objects of the ring, from the front and from the back. The call requires that an object is at each member. O(1).
     pub fn iter<'a, L: LinkedListOps, O: Values<T>>(
         &self,
         links: &'a L,
@@ -130,7 +131,7 @@ impl<T> Ring<T> {
     }
 
     /// A value that prints the objects of the ring, in order: `{:?}` writes `[10, 20]`, and `{:#?}` writes each object on lines of its own.
-    /// It requires that all members are placed. O(1), and no memory.
+    /// The call requires that an object is at each member. It takes O(1) and no memory.
     pub fn debug<'a, L: LinkedListOps, O: Values<T>>(
         &self,
         links: &'a L,

@@ -1,8 +1,8 @@
 //! Rings: doubly linked lists whose head is a place of the same table.
 //!
-//! A head and its members form a circle, so each place has a neighbor on either side. Calls that remove a member, move it or insert
-//! beside it do not take its ring, and no edit tests for an end. These are the lists of Linux (`list.h`), over places. Good for objects
-//! that often move from queue to queue, and for callers that remove an object without knowing its queue.
+//! A head and its members form a circle, so each place has a neighbor on either side. Calls that remove a member, move it or insert beside it do not
+//! take the ring, and no edit tests for an end. Rings are the lists of Linux (`list.h`), but they link places. They are good for objects that often
+//! move from queue to queue, and for callers that remove an object without knowing its queue.
 //!
 //! ```text
 //! let mut links = linked_list::LinkOps::new(rt.alloc());

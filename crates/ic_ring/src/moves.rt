@@ -1,4 +1,4 @@
-//! Calls that move an object within its ring or to another one. The object stays linked.
+//! Calls that move an object within its ring or to another ring. The object stays linked.
 //!
 //! ```text
 //! move_before(&mut links, place, &object);   // from whichever ring it is in
@@ -16,7 +16,7 @@ use ic_link_ops::LinkOps;
 use ic_link_ops::linked_list::LinkedListOps;
 use ic_unsafe_ref::{Place, UnsafeRef};
 
-// Removes the place from its ring. It stays linked.
+// Removes the place from its ring. The place stays linked.
 #[inline]
 fn detach<L: LinkedListOps>(links: &mut L, place: Place)
     requires ring { InRing L.neighbors (L.table links.old) place }
@@ -32,7 +32,7 @@ fn detach<L: LinkedListOps>(links: &mut L, place: Place)
     bypass(links, prev, next);
 }
 
-// Inserts the linked place, which is in no ring, between two neighbors of a ring.
+// Inserts the place, which is linked and in no ring, between the neighbors `before` and `after` of a ring.
 #[inline]
 fn insert_linked<L: LinkedListOps>(links: &mut L, before: Place, place: Place, after: Place)
     requires held { IsLinked L.linked (L.table links.old) place }
@@ -50,10 +50,10 @@ fn insert_linked<L: LinkedListOps>(links: &mut L, before: Place, place: Place, a
     turn_to(links, before, place, after);
 }
 
-/// Moves the object from whichever ring it is in before a place that is in a ring. O(1), and the object stays linked.
+/// Moves the object, which may be in any ring, before a place that is in a ring. O(1), and the object stays linked.
 ///
-/// Before a head it becomes the last member. It requires that both are in rings of the table, and are different places.
-/// Linux: `list_move_tail`.
+/// An object that is moved before a head becomes the last member. The call requires that the object and the place are in rings of the table, and are
+/// different. Linux: `list_move_tail`.
 #[inline]
 pub fn move_before<T, L: LinkedListOps>(links: &mut L, at: Place, object: &UnsafeRef<T>)
     requires ring { InRing L.neighbors (L.table links.old) at }
@@ -77,9 +77,9 @@ pub fn move_before<T, L: LinkedListOps>(links: &mut L, at: Place, object: &Unsaf
     insert_linked(links, prev, place, at);
 }
 
-/// Moves the object from whichever ring it is in after a place that is in a ring. O(1), and the object stays linked.
+/// Moves the object, which may be in any ring, after a place that is in a ring. O(1), and the object stays linked.
 ///
-/// After a head it becomes the first member. It requires what [`move_before`] does. Linux: `list_move`.
+/// An object that is moved after a head becomes the first member. The call requires what [`move_before`] requires. Linux: `list_move`.
 #[inline]
 pub fn move_after<T, L: LinkedListOps>(links: &mut L, at: Place, object: &UnsafeRef<T>)
     requires ring { InRing L.neighbors (L.table links.old) at }
@@ -104,9 +104,9 @@ pub fn move_after<T, L: LinkedListOps>(links: &mut L, at: Place, object: &Unsafe
 }
 
 impl<T> Ring<T> {
-    /// Moves the object to the back of this ring, from whichever ring it is in. O(1), and the object stays linked.
+    /// Moves the object, which may be in any ring, to the back of this ring. O(1), and the object stays linked.
     ///
-    /// It requires that the object is in a ring of the table, and is not the head of this one. Good for queues in the order of the last
+    /// The call requires that the object is in a ring of the table, and is not the head of this ring. It is good for queues in the order of the last
     /// use. Linux: `list_move_tail`.
     #[inline]
     pub fn move_to_back<L: LinkedListOps>(&self, links: &mut L, object: &UnsafeRef<T>)
@@ -126,9 +126,9 @@ impl<T> Ring<T> {
         move_before(links, self.head(), object);
     }
 
-    /// Moves the object to the front of this ring, from whichever ring it is in. O(1), and the object stays linked.
+    /// Moves the object, which may be in any ring, to the front of this ring. O(1), and the object stays linked.
     ///
-    /// It requires what [`Ring::move_to_back`] does. Linux: `list_move`.
+    /// The call requires what [`Ring::move_to_back`] requires. Linux: `list_move`.
     #[inline]
     pub fn move_to_front<L: LinkedListOps>(&self, links: &mut L, object: &UnsafeRef<T>)
         requires shown { InRing L.neighbors (L.table links.old) self.now }

@@ -1,4 +1,4 @@
-//! The ring.
+//! A ring, and its calls.
 //!
 //! ```text
 //! ring.push_back(&mut links, object)?;
@@ -16,10 +16,10 @@ use ic_link_ops::{AlreadyLinked, LinkOps};
 use ic_unsafe_ref::{Place, UnsafeRef};
 use std::marker::{Model, PhantomData};
 
-/// A ring of objects, given by its head, which is a place of the table without an object. Good for queues.
+/// A ring of objects. The ring is given by its head, which is a place of the table without an object. Rings are good for queues.
 ///
-/// The head never changes, so no call writes the ring itself. Contracts see the head; the ring has the members that the table represents for
-/// it.
+/// The head never changes, so no call writes the ring itself. Contracts name only the head. The ring has the members that the table represents for
+/// the head.
 pub struct Ring<T> {
     head: Place,
     of: PhantomData<T>,
@@ -40,10 +40,10 @@ impl<T> Drop for Ring<T> {
 }
 
 impl<T> Ring<T> {
-    /// Makes a ring with no members and this head, unless the head's link is refused. O(1), and it takes no memory.
+    /// Makes a ring with the given head and no members, unless the head's link is refused. O(1), and it takes no memory.
     ///
-    /// It requires that the head is covered. The head is linked to itself, so no list or ring of the table accepts it. If its link is
-    /// refused, nothing has changed. Linux: `INIT_LIST_HEAD`.
+    /// The call requires that the table covers the head. The head is linked to itself, so no list or ring of the table accepts it. If the head's link
+    /// is refused, nothing has changed. Linux: `INIT_LIST_HEAD`.
     #[inline]
     pub fn open<L: LinkedListOps>(links: &mut L, head: Place) -> Option<Ring<T>>
         requires covered { IsCovered (L.table links.old) head }
@@ -59,9 +59,9 @@ impl<T> Ring<T> {
         Some(Ring::from_head(head))
     }
 
-    /// The ring with this head, for callers who store the heads of their rings themselves. O(1).
+    /// The ring with the given head, for callers who store the heads of their rings themselves. O(1).
     ///
-    /// It requires nothing of the head: the ring has the members, if any, that a table represents for it. [`Ring::head`] returns the
+    /// The call requires nothing of the head: the ring has the members, if any, that a table represents for the head. [`Ring::head`] returns the
     /// head.
     #[inline]
     pub fn from_head(head: Place) -> Ring<T>
@@ -73,7 +73,7 @@ impl<T> Ring<T> {
         }
     }
 
-    /// The head. O(1).
+    /// The place of the head of the ring. O(1).
     #[inline]
     pub fn head(&self) -> Place
         ensures { result ≡ self.now }
@@ -81,7 +81,7 @@ impl<T> Ring<T> {
         self.head
     }
 
-    /// The first member, `None` in an empty ring. O(1).
+    /// The first member, or `None` in an empty ring. O(1).
     #[inline]
     pub fn first<L: LinkedListOps>(&self, links: &L) -> Option<Place>
         requires shown { InRing L.neighbors (L.table links.now) self.now }
@@ -95,7 +95,7 @@ impl<T> Ring<T> {
         }
     }
 
-    /// The last member, `None` in an empty ring. O(1).
+    /// The last member, or `None` in an empty ring. O(1).
     #[inline]
     pub fn last<L: LinkedListOps>(&self, links: &L) -> Option<Place>
         requires shown { InRing L.neighbors (L.table links.now) self.now }
@@ -120,8 +120,8 @@ impl<T> Ring<T> {
 
     /// Inserts the object at the back of the ring, unless its link is refused. O(1), and it takes no memory.
     ///
-    /// It requires that the object's place is covered. If the link is refused, the object is returned and nothing has changed. A plain
-    /// table refuses the link exactly if the object is linked in it. Linux: `list_add_tail`.
+    /// The call requires that the table covers the object's place. If the link is refused, the object is returned and nothing has changed. A plain
+    /// table refuses the link exactly if the object is linked in this table. Linux: `list_add_tail`.
     #[inline]
     pub fn push_back<L: LinkedListOps>(
         &self,
@@ -149,7 +149,7 @@ impl<T> Ring<T> {
 
     /// Inserts the object at the front of the ring, unless its link is refused. O(1), and it takes no memory.
     ///
-    /// It requires and returns what [`Ring::push_back`] does. Good for stacks. Linux: `list_add`.
+    /// The call requires and returns what [`Ring::push_back`] does. It is good for stacks. Linux: `list_add`.
     #[inline]
     pub fn push_front<L: LinkedListOps>(
         &self,
@@ -215,8 +215,7 @@ impl<T> Ring<T> {
         Some(UnsafeRef::new(back))
     }
 
-    /// Removes all objects from the ring: each member is unlinked, and the head is linked to itself. O(n), and no
-    /// memory.
+    /// Removes all objects from the ring. Each member is unlinked, and the head is linked to itself. O(n), and no memory.
     pub fn clear<L: LinkedListOps>(&self, links: &mut L)
         requires shown { InRing L.neighbors (L.table links.old) self.now }
 

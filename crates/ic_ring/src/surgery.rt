@@ -1,7 +1,7 @@
 //! Functions that read and write neighbors.
 //!
-//! The calls that write neighbors do not require a ring, but only that the places which they write are linked. They are for callers who
-//! store rings in words of their own and test them themselves.
+//! The calls that write neighbors require only that the places which they write are linked, and no ring. They are for callers who store rings in
+//! words of their own and test these words themselves.
 //!
 //! ```text
 //! bypass(&mut links, before, after);         // out: what stood between the two has left the ring
@@ -17,8 +17,8 @@ use ic_link_ops::LinkOps;
 use ic_link_ops::linked_list::LinkedListOps;
 use ic_unsafe_ref::Place;
 
-// The place in an option that is `Some`. The compiled program does not test this: for `None` the function would read the first element of
-// an empty slice. The compiler removes bounds checks here, so it drops that branch.
+// The place in an option that is `Some`. The compiled program does not test whether the option is `Some`. For `None` the function would read the
+// first element of an empty slice. The compiler removes bounds checks, so it drops the branch for `None`.
 #[inline(always)]
 fn there(place: Option<Place>) -> Place
     requires there { IsSome place }
@@ -33,7 +33,7 @@ fn there(place: Option<Place>) -> Place
     }
 }
 
-// The place after one that is in a ring.
+// The place after `place`, which is in a ring.
 #[inline]
 pub(crate) fn next_of<L: LinkedListOps>(links: &L, place: Place) -> Place
     requires { InRing L.neighbors (L.table links.now) place }
@@ -42,7 +42,7 @@ pub(crate) fn next_of<L: LinkedListOps>(links: &L, place: Place) -> Place
     there(links.next(place))
 }
 
-// The place before one that is in a ring.
+// The place before `place`, which is in a ring.
 #[inline]
 pub(crate) fn prev_of<L: LinkedListOps>(links: &L, place: Place) -> Place
     requires { InRing L.neighbors (L.table links.now) place }
@@ -51,11 +51,10 @@ pub(crate) fn prev_of<L: LinkedListOps>(links: &L, place: Place) -> Place
     there(links.prev(place))
 }
 
-/// Makes two places neighbors of each other. The places between them, however many, have left the ring then, and stay
-/// linked. O(1).
+/// Makes two places neighbors of each other. All places between them, however many, leave the ring and stay linked. O(1).
 ///
-/// It requires only that both are linked. Whatever the other words contain, it writes these two entries alone, and links and unlinks
-/// nothing. Linux: `__list_del`.
+/// The call requires only that both places are linked. It writes only the entries of these two places, whatever other words contain, and links and
+/// unlinks nothing. Linux: `__list_del`.
 #[inline]
 pub fn bypass<L: LinkedListOps>(links: &mut L, before: Place, after: Place)
     requires before { IsLinked L.linked (L.table links.old) before }
@@ -73,11 +72,11 @@ pub fn bypass<L: LinkedListOps>(links: &mut L, before: Place, after: Place)
     links.set_prev(after, Some(before));
 }
 
-/// Makes two places neighbors of a third one, whose entry already names both. The third place is in their ring then.
-/// O(1).
+/// Makes two places neighbors of a third place, whose entry already names both of them. Afterwards the third place is in their ring. O(1).
 ///
-/// It requires only that both are linked, and that the table can name the third. Whatever the other words contain, it writes these two
-/// entries alone, and links and unlinks nothing. Linux: `__list_add`, whose other two writes are the table's `link_between`.
+/// The call requires only that both places are linked, and that the words of the table have room for the third place. It writes only the entries of
+/// the two places, whatever other words contain, and links and unlinks nothing. Linux: `__list_add`. The table's `link_between` makes the other two
+/// writes of this function.
 #[inline]
 pub fn turn_to<L: LinkedListOps>(links: &mut L, before: Place, place: Place, after: Place)
     requires before { IsLinked L.linked (L.table links.old) before }
@@ -96,7 +95,7 @@ pub fn turn_to<L: LinkedListOps>(links: &mut L, before: Place, place: Place, aft
     links.set_prev(after, Some(place));
 }
 
-// Sets both neighbors of the linked place. It does not change the neighbors' entries.
+// Sets both neighbors of the linked place. The call does not change the entries of the neighbors.
 #[inline]
 pub(crate) fn set_neighbors<L: LinkedListOps>(
     links: &mut L,

@@ -1,7 +1,7 @@
-//! The kind of singly linked lists: each entry names the place after, and a list stores only its first member.
+//! The kind of singly linked lists. Each entry names only the next place, and a list stores only its first member.
 //!
 //! ```text
-//! let list: Chain<SinglyLinked, Job> = Chain::new();
+//! let list: LinkList<SinglyLinked, Job> = LinkList::new();
 //! ```
 
 ghost use Rattle.std.specs.Prelude.{None, false};
@@ -14,10 +14,10 @@ use ic_link_ops::{LinkOps, PlaceWord};
 use ic_unsafe_ref::Place;
 use std::marker::Model;
 
-/// Lists whose entries name only the place after.
+/// The kind of lists whose entries name only the next place.
 pub struct SinglyLinked;
 
-/// What such a list stores about its last member: nothing.
+/// A singly linked list stores nothing about its last member. This empty type is what it stores.
 #[derive(Drop)]
 pub struct NoTail;
 
@@ -104,7 +104,7 @@ impl<L: SinglyLinkedListOps> ForwardLinks<L> for SinglyLinked {
         links.set_next(place, to);
     }
 
-    // No entry names the place before.
+    // This call writes nothing, because no entry of a singly linked list names the previous place.
     #[inline]
     fn set_prev(links: &mut L, place: Place, from: Option<Place>, to: Option<Place>) {
         let _ = &*links;

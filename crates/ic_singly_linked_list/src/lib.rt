@@ -1,8 +1,7 @@
 //! A singly linked list over any table whose entries name the next place.
 //!
 //! Each operation takes the table of the link field. Linking takes no memory, and one object can be in lists of several
-//! fields. An entry does not name the place before, so calls insert and remove members after a known one. [`Chain`] has all
-//! calls.
+//! fields. An entry does not name the previous place. Therefore calls insert and remove members after a known member. [`LinkList`] has all calls.
 //!
 //! ```text
 //! let mut links = singly_linked_list::LinkOps::new(rt.alloc());
@@ -18,30 +17,30 @@
 
 mod kind;
 
-use ic_chain::Chain;
+use ic_chain::LinkList;
 pub use ic_chain::laws;
 pub use ic_cursors::DebugWalk;
 pub use ic_link_ops::singly_linked_list::{Link, LinkOps, SinglyLinkedListOps};
 use ic_unsafe_ref::Objects;
 pub use kind::{NoTail, SinglyLinked};
 
-/// A singly linked list of objects. It stores its first member.
+/// A singly linked list of objects. The list stores its first member.
 ///
-/// Good for stacks and free lists, and if an entry should be one word. Contracts see its first member; the list has the
-/// sequence that the table represents for it.
-pub type SinglyLinkedList<T> = Chain<SinglyLinked, T>;
+/// This list is good for stacks and free lists, and if an entry should be one word. Contracts name only the first member. The list has the sequence
+/// that the table represents for this first member.
+pub type SinglyLinkedList<T> = LinkList<SinglyLinked, T>;
 
-/// A cursor that reads: on a member, or at null, which is before the first member.
+/// A cursor that reads a list. It is on a member, or at null, which is before the first member.
 pub type Cursor<'a, T, L> = ic_cursors::Cursor<'a, SinglyLinkedList<T>, L>;
 
-/// A cursor that edits. It borrows the list and the table of its links.
+/// A cursor that edits a list. The cursor borrows the list and the table of its links.
 pub type CursorMut<'a, T, L> = ic_cursors::CursorMut<'a, SinglyLinkedList<T>, L>;
 
-/// A cursor that owns its list. Each call takes the table of the list's links.
+/// A cursor that owns its list. Each of its calls takes the table of the list's links.
 pub type CursorOwning<T> = ic_cursors::CursorOwning<SinglyLinkedList<T>>;
 
 /// A walk over the objects of a list, from the front.
 pub type Iter<'a, T, L, O = Objects<T>> = ic_chain::Iter<'a, SinglyLinked, T, L, O>;
 
-/// A walk that removes the members of a list, from the front. It unlinks each member that it returns.
+/// A walk that removes the members of a list, from the front. The walk unlinks each member that it returns.
 pub type IntoIter<'a, T, L> = ic_chain::IntoIter<'a, SinglyLinked, T, L>;

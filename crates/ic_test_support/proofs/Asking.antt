@@ -1,7 +1,7 @@
--- `refuses_next` as `allocate` calls it.
---     Ask, at_ask     its contract, and what the caller picks: the lifetime, the token's share, the place and the value of the cell, and the
---                     number of bytes
---     Ask-goes        a `&` to the count and the token of its lifetime are what the call is handed
+-- The call of `refuses_next` in `allocate`.
+--     Ask, at_ask     `Ask` is the contract of `refuses_next`. `at_ask` is what the caller chooses: the lifetime, the token's share, the address and
+--                     the value of the cell, and the number of bytes
+--     Ask-goes        the call needs a `&` to the count and the token of its lifetime, and nothing else
 --     Ask-gives       the call gives the token back, and its result is a truth value
 use Rattle.std.proofs.Common.{◌≡◌, ℕ, ◌^◌, ◌<◌, Bool, List, [], ◌∷◌, refl, ap, w64}
 use seplogic.Ra.Ura.{Ura}

@@ -1,4 +1,4 @@
-//! Answers for the results of a collection's calls, for objects that are numbers.
+//! Functions that turn the results of a collection's calls into answers that a test can note. The objects are numbers.
 //!
 //! ```text
 //! object(list.pop_front(&mut links)) // `none`, or the index of the place where the object stands
@@ -8,12 +8,12 @@ use crate::notes::{Answer, Text};
 use ic_link_ops::ReplaceError;
 use ic_unsafe_ref::{Objects, Place, UnsafeRef};
 
-/// Returns the answer for a place: its index.
+/// Returns the answer for a place, which is its index.
 pub fn number(place: Place) -> Answer {
     Answer::Number(place.index() as u64)
 }
 
-/// Returns the answer for an object that a call returns: the index of its place.
+/// Returns the answer for an object that a call returns: the index of its place, or `none` if there is no object.
 pub fn object(found: Option<UnsafeRef<u64>>) -> Answer {
     match found {
         Some(object) => number(object.place()),
@@ -21,7 +21,7 @@ pub fn object(found: Option<UnsafeRef<u64>>) -> Answer {
     }
 }
 
-/// Returns the answer for a position: the place of the member, or `none` at null.
+/// Returns the answer for the position of a cursor: the index of the member's place, or `none` at null.
 pub fn standing(at: Option<Place>) -> Answer {
     match at {
         Some(place) => number(place),
@@ -29,7 +29,7 @@ pub fn standing(at: Option<Place>) -> Answer {
     }
 }
 
-/// Returns the answer for an object's value.
+/// Returns the answer for an object's value: the value, or `none` if there is no object.
 pub fn value(found: Option<&u64>) -> Answer {
     match found {
         Some(value) => Answer::Number(*value),
@@ -37,8 +37,8 @@ pub fn value(found: Option<&u64>) -> Answer {
     }
 }
 
-/// Returns the answer for a replacement: the place of the replaced member, or `null` or `linked`, or `another` if the returned object is not the one
-/// at that place.
+/// Returns the answer for a replacement: the place of the replaced member, or the reason of the refusal, `null` or `linked`. The answer is `another` if
+/// the refusal gives back another object than the one at `place`.
 pub fn replaced(given: Result<UnsafeRef<u64>, ReplaceError<u64>>, place: Place) -> Answer {
     match &given {
         Ok(out) => number(out.place()),
@@ -50,7 +50,7 @@ pub fn replaced(given: Result<UnsafeRef<u64>, ReplaceError<u64>>, place: Place) 
     }
 }
 
-/// Places an object with this value, and returns the answer: its place, or `full` or `memory` if it can't.
+/// Places an object with this value, and returns the answer: its place, or `full` if no place is left, or `memory` if there is no memory.
 pub fn placed(objects: &mut Objects<u64>, value: u64) -> Answer {
     let Some(next) = objects.next_place() else {
         return Answer::Refused("full");
@@ -62,7 +62,7 @@ pub fn placed(objects: &mut Objects<u64>, value: u64) -> Answer {
     }
 }
 
-/// Notes these positions.
+/// Notes these places, and `none` where there is no place.
 pub fn write_places(notes: &mut Text, found: &[Option<Place>]) {
     for at in found {
         notes.add(standing(*at), " ");

@@ -1,5 +1,5 @@
-//! What the crates of tests share: notes of the results of calls, and how these are written; numbers at the first eight places; functions that read a
-//! whole table; and an allocator that refuses a chosen request. They are one crate, since each crate costs time of its own in the gate.
+//! What the crates of tests share: notes of the results of calls, numbers at the first eight places, functions that read a whole table, and an
+//! allocator that refuses a chosen request. All of this is in one crate, because each crate costs time of its own in the gate.
 #![tactic(auto)]
 
 pub mod answers;

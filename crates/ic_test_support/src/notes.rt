@@ -1,4 +1,4 @@
-//! The results of a test's calls, note by note, and their text.
+//! The notes of a test: the results of its calls, which are written into a text one after the other.
 //!
 //! ```text
 //! notes.add(object(list.pop_front(&mut links)), " "); // `0 `, or `none `
@@ -7,14 +7,14 @@
 use std::alloc::Global;
 use std::fmt::{self, Write};
 
-/// The result of a call, as a test notes it.
+/// The result of a call in the form in which a test notes it.
 #[derive(Drop)]
 pub enum Answer {
-    /// There is none: `none`.
+    /// The call has no result. The text is `none`.
     Nothing,
-    /// An object by its place's index, or a count.
+    /// The result is a number: the index of an object's place, or a count.
     Number(u64),
-    /// Whether something holds: `yes` or `no`.
+    /// The result is whether something holds. The text is `yes` or `no`.
     Truth(bool),
     /// The call was refused, for a reason in one word.
     Refused(&'static str),
@@ -32,9 +32,10 @@ impl fmt::Display for Answer {
     }
 }
 
-/// A text that is written piece by piece, and whether all of it could be written.
+/// A text that is written piece by piece, and whether all pieces could be written.
 ///
-/// Writing a piece returns nothing, so that a function that writes many pieces has a single exit. The check would prove every exit separately.
+/// A call that writes a piece returns nothing, so that a function that writes many pieces has a single exit. A single exit saves work, because the
+/// check proves each exit separately.
 #[derive(Drop)]
 pub struct Text {
     text: String,
@@ -42,7 +43,7 @@ pub struct Text {
 }
 
 impl Text {
-    /// The empty text.
+    /// Returns an empty text.
     pub fn new(alloc: Global) -> Text {
         Text {
             text: String::new(alloc),
@@ -50,17 +51,17 @@ impl Text {
         }
     }
 
-    /// Writes the word.
+    /// Writes the word to the end of the text.
     pub fn word(&mut self, word: &str) {
         self.is_whole &= self.text.write_str(word).is_ok();
     }
 
-    /// Writes the answer, and the text that comes after it.
+    /// Writes the answer to the end of the text, and then the string `after`.
     pub fn add(&mut self, answer: Answer, after: &str) {
         self.is_whole &= write!(self.text, "{answer}{after}").is_ok();
     }
 
-    /// Returns whether the whole text could be written, and has exactly these words. The spaces between them do not count.
+    /// Returns whether the whole text could be written, and has exactly these words. The number of spaces between the words does not matter.
     pub fn has_words(&self, words: &str) -> bool {
         self.is_whole && self.text.split_whitespace().eq(words.split_whitespace())
     }

@@ -10,10 +10,10 @@ use ic_link_ops::{PlainTable, Words};
 use ic_unsafe_ref::{Objects, Place, UnsafeRef};
 use std::alloc::Global;
 
-/// 10 to 80, in this order.
+/// The eight numbers 10, 20 and so on to 80, in this order.
 pub const TENS: [u64; 8] = [10, 20, 30, 40, 50, 60, 70, 80];
 
-/// These numbers as objects at the places 0 to 7, and a table of links that covers these places. The result is `None` if memory runs out.
+/// Returns these numbers as objects at the places 0 to 7, and a table of links that covers these places. The result is `None` if memory runs out.
 pub fn eight_objects<W: Words>(
     alloc: Global,
     numbers: [u64; 8],

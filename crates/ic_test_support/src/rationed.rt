@@ -1,14 +1,14 @@
 //! An allocator for tests that refuses one chosen request for memory.
 //!
-//! It is for tests in which each growth is refused in turn: the test makes the container over a `&Rationed`, names the request that is to fail, and
-//! checks what the call returns and what the container then has. If a growth is refused, the container keeps the block that it had.
+//! The allocator is for tests in which each growth is refused in turn. A test makes a container over a `&Rationed`, names the request that is to fail,
+//! and checks what the call returns and what the container then has. If a growth is refused, the container keeps the block that it had.
 
 ghost use Rattle.std.specs.Prelude.{◌≡◌, ◌+◌, ◌<◌, ◌↔◌, min, IsTrue};
 
 use std::alloc::{AllocError, Allocator, Global};
 use std::cell::Cell;
 
-// How many requests there have been, for how many bytes in all, and the number of the one to refuse.
+// How many requests there have been, for how many bytes in all, and the number of the request to refuse.
 #[derive(Clone, Copy)]
 struct Count {
     asked: u64,
@@ -17,7 +17,8 @@ struct Count {
 }
 
 impl Count {
-    // If the number to refuse is `u64::MAX`, none is refused, even when the count has reached that number.
+    // Returns whether the next request is to be refused. If the number to refuse is `u64::MAX`, no request is refused, even if the count has reached
+    // that number.
     fn is_refused(self) -> bool
         ensures { IsTrue result ↔ ((self.asked ≡ self.refused) × (self.refused < u64.MAX)) }
     {
@@ -49,18 +50,18 @@ impl Count {
     }
 }
 
-// Counts one more request, for this many bytes, and returns whether it is the one to refuse.
+// Counts one more request, for this many bytes, and returns whether this request is to be refused.
 fn refuses_next(count: &Cell<Count>, size: usize) -> bool {
     let before = count.get();
     count.set(before.one_more(size));
     before.is_refused()
 }
 
-/// An allocator over another that refuses one chosen request for memory, and passes every other
-/// request on. A container is made over a `&Rationed`, which is an allocator too and is `Copy`.
+/// An allocator over another allocator. The allocator refuses one chosen request for memory, and passes every other request on to the other allocator.
+/// A container is made over a `&Rationed`, because a `&Rationed` is also an allocator and is `Copy`.
 ///
-/// A request is an allocation, also the one by which a container moves its items to a larger or a
-/// smaller block. Giving a block back is none: it goes to the allocator below, and never fails.
+/// A request is an allocation, for example the one by which a container moves its items to a larger or a smaller block. If a block is given back, this
+/// is no request: the call goes to the allocator below, and never fails.
 #[derive(Drop)]
 pub struct Rationed<A: Allocator = Global> {
     alloc: A,
@@ -68,8 +69,8 @@ pub struct Rationed<A: Allocator = Global> {
 }
 
 impl<A: Allocator> Rationed<A> {
-    /// An allocator over `alloc` that refuses the request number `refused`, counted from 0.
-    /// With `u64::MAX` it refuses none.
+    /// Returns an allocator over `alloc` that refuses the request with the number `refused`, counted from 0. If `refused` is `u64::MAX`, no request is
+    /// refused.
     pub fn new(alloc: A, refused: u64) -> Rationed<A> {
         Rationed {
             alloc,
@@ -81,19 +82,19 @@ impl<A: Allocator> Rationed<A> {
         }
     }
 
-    /// Returns how many requests for memory have been made to it, including a refused one. The count stays at `u64::MAX` once it is there.
+    /// Returns how many requests for memory have been made to this allocator, including a refused one. The count stays at `u64::MAX` once it is there.
     pub fn requests(&self) -> u64 {
         self.count.get().asked
     }
 
-    /// Returns how many bytes all these requests were for, including a refused one. Freed memory is not subtracted. The sum stays at `u64::MAX` once
-    /// it is there.
+    /// Returns for how many bytes all requests together were, including a refused request. Freed memory is not subtracted. The sum stays at `u64::MAX`
+    /// once it is there.
     pub fn bytes(&self) -> u64 {
         self.count.get().bytes
     }
 
-    /// Names another request to refuse, and only that one: the number `n`, counted from 0 again
-    /// from this call. With `u64::MAX` it refuses none. `requests` and `bytes` count on.
+    /// Chooses another request to refuse, and only this request: the one with the number `n`, counted from 0 from this call on. If `n` is `u64::MAX`,
+    /// no request is refused. `requests` and `bytes` continue to count.
     pub fn refuse(&self, n: u64) {
         self.count.set(self.count.get().refusing(n));
     }

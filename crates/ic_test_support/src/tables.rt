@@ -28,7 +28,7 @@ pub fn are_placed<W: Words>(links: &PlainTable<W>, objects: &Objects<u64>) -> bo
     true
 }
 
-/// Writes the places that are linked.
+/// Writes the indices of all places that are linked in the table.
 pub fn write_linked<W: Words>(text: &mut Text, links: &PlainTable<W>) {
     for index in 0..links.covers() {
         if let Some(place) = Place::new(index) {

@@ -1,4 +1,4 @@
--- A place that is put after a vine, and what else stands in the table.
+-- A place is appended to a vine, and these lemmas say what else in the table stays.
 use Rattle.std.proofs.Common.{◌≡◌, true, Some, None, List, [], ◌∷◌, ◌++◌, sym, ap, subst, append_assoc}
 use Rattle.ic_link_ops.specs.Prelude.{Place, IsAbsent, IsDistinct, IsDisjoint, at_back, first, Table, ChangesOnlyIn}
 use Rattle.ic_link_ops.specs.Chains.{Ends, no_members}
@@ -8,7 +8,7 @@ use Rattle.ic_link_ops.proofs.SequenceLemmas.{absent_left, absent_right, absent_
 use Rattle.ic_rbtree.specs.Vines.{IsVine, RepresentsVine}
 use Rattle.ic_rbtree.proofs.Vines.{apart_at, vine_beside, vine_from}
 
--- a member moved to the front of two parts
+-- a sequence has no place twice after the member z is moved to the front of the two parts around it
 pub distinct_moved : (f x : List Place) (z : Place) (y : List Place) → IsDistinct (f ++ (x ++ z ∷ y)) → IsDistinct (f ++ z ∷ (x ++ y))
 distinct_moved f x z y d =
     let d' : IsDistinct ((f ++ x) ++ z ∷ y) = subst IsDistinct (sym (append_assoc f x (z ∷ y))) d in
@@ -29,17 +29,17 @@ pub disjoint_back : (s t z : List Place) → IsDisjoint (s ++ t) z → IsDisjoin
 disjoint_back [] t z d = d
 disjoint_back (x ∷ s) t z d = disjoint_back s t z d.1
 
--- what stands after is apart from the vine and the place
+-- if a sequence has no place twice, the places after p are neither p nor a member of the vine before p
 pub after_apart : (done : List Place) (p : Place) (rest : List Place) → IsDistinct (done ++ p ∷ rest) → IsDisjoint rest (p ∷ done)
 after_apart done p rest d = let a = apart_at done p rest d in disjoint_cons p rest done a.not_back a.back_front
 
 module _ {E : Type 0} (n : E → Node) where
-  -- nothing is a vine with no members
+  -- a vine without ends has no members
   pub vine_none : (t : Table E) {ends : Ends} → ends ≡ no_members → RepresentsVine n t ends []
   vine_none t is = record { distinct = tt; chain = tt; head = ap (λ (e : Ends). e.head) is; tail = ap (λ (e : Ends). e.tail) is }
 
   module _ {old new : Table E} {ends : Ends} {done : List Place} {p : Place} (h : Inserts (RepresentsVine n) old new ends (at_back done) p) where
-    -- THE FRAME of one place put after
+    -- THE FRAME: after the place p was appended, only entries of the vine's members and of p have changed
     pub hung_frame : ChangesOnlyIn old new (p ∷ done)
     hung_frame = record { extent = h.frame.extent; others = λ q o. h.frame.others q (o.0, absent_both q done [] o.1 tt) }
 
@@ -49,6 +49,6 @@ module _ {E : Type 0} (n : E → Node) where
     pub vine_still : {other : Ends} {t : List Place} → IsDisjoint t (p ∷ done) → RepresentsVine n old other t → RepresentsVine n new other t
     vine_still {other} {t} d c = record { distinct = c.distinct; chain = run_still t d c.chain; head = c.head; tail = c.tail }
 
-  -- a run without its first
+  -- a run without its first member is a run that begins with the next member
   pub run_rest : (t : Table E) (p : Place) (x : List Place) → IsVine n t.entry (p ∷ x) None → ((n (t.entry p)).linked ≡ true) × ((n (t.entry p)).right ≡ first x) × IsVine n t.entry x None
   run_rest t p x c = (c.0.linked, c.0.next, vine_from n t.entry (Some p) None x None c.1)

@@ -1,4 +1,4 @@
--- For callers: an order of values is one of places, and members in the order of their keys are in order.
+-- A caller needs these lemmas: an order of values gives an order of places, and members in the order of their keys are in order.
 use Rattle.std.proofs.Common.{◌≡◌, Option, Some, None, List, [], ◌∷◌, map, refl}
 use Rattle.std.specs.Cmp.{IsTotalOrder}
 use Rattle.std.specs.Ordering.{ordering_reverse}
@@ -31,7 +31,7 @@ module _ {V : Type 0} {order : V → V → Ordering} (total : IsTotalOrder order
   values_alike (Some a) (Some b) None e = refl
   values_alike (Some a) (Some b) (Some c) e = total.congr a b c e
 
-  -- THE ORDER OF PLACES is one
+  -- THE ORDER OF PLACES is a total order, if the order of values is one
   pub places_total : (objects : Objects V) → IsTotalOrder (compared_at order objects)
   places_total objects = record {
     antisymm = λ p q. values_turn (object_at objects p) (object_at objects q);
@@ -43,7 +43,7 @@ module _ {V K : Type 0} {cmp : K → K → Ordering} (total : IsTotalOrder cmp) 
   by_key : V → V → Ordering
   by_key a b = cmp (key_of a) (key_of b)
 
-  -- MEMBERS IN THE ORDER OF THEIR KEYS are in order,
+  -- IF MEMBERS ARE IN THE ORDER OF THEIR KEYS, they are in the order of places
   pub keyed_sorted : (s : List Place) → ArePlaced objects s → IsSorted cmp (map key_of (values_at objects s)) → IsSorted (compared_at (λ a b. cmp (key_of a) (key_of b)) objects) s
   keyed_sorted [] h k = tt
   keyed_sorted (p ∷ []) h k = tt
@@ -55,7 +55,7 @@ module _ {V K : Type 0} {cmp : K → K → Ordering} (total : IsTotalOrder cmp) 
       let two : IsSorted cmp (key_of v.0 ∷ key_of w.0 ∷ map key_of (values_at objects s)) = rw rest at (rw more at k) in
       (rw (v.1, w.1) two.0, keyed_sorted (q ∷ s) h.1 (rw rest two.1))
 
-  -- and the other way round
+  -- if members are in the order of places, they are in the order of their keys
   pub sorted_keys : (s : List Place) → ArePlaced objects s → IsSorted (compared_at (λ a b. cmp (key_of a) (key_of b)) objects) s → IsSorted cmp (map key_of (values_at objects s))
   sorted_keys [] h k = tt
   sorted_keys (p ∷ []) h k = let v = value_there total key_of objects (object_at objects p) h.0 in rw (keys_more total key_of objects p [] v.1) tt

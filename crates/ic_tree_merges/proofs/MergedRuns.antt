@@ -1,4 +1,4 @@
--- Two runs that are made one vine, member by member.
+-- Two runs are merged into one vine, one member after the other.
 use Rattle.std.proofs.Common.{◌≡◌, ℕ, ◌+◌, ◌≤◌, Bool, true, false, not, inl, inr, Option, Some, None, List, [], ◌∷◌, ◌++◌, drop, length, refl, sym, ◌∙◌, ap, subst, arith, append_assoc, append-nil, length-append}
 use Rattle.std.specs.Prelude.{IfSome}
 use Rattle.std.specs.declared.cmp.Ordering.{Ordering}
@@ -18,7 +18,7 @@ front_first : (s : List Place) → front_of s ≡ first s
 front_first [] = refl
 front_first (x ∷ s) = refl
 
--- which goes out, as the two firsts tell
+-- the comparison of the first members of both runs says which of the two is taken
 left_tells : (cmp : Place → Place → Ordering) (p : Place) (right : Option Place) → takes_left cmp (Some p) right ≡ true → (q : Place) → right ≡ Some q → is_less cmp q p ≡ false
 left_tells cmp p (Some r) taken q e = subst (λ (z : Place). is_less cmp z p ≡ false) (some_same e) (by (is_less cmp r p) taken) where
   by : (b : Bool) → not b ≡ true → b ≡ false
@@ -48,7 +48,7 @@ first_placed : {V : Type 0} (objects : Objects V) (o : Option Place) (s : List P
 first_placed objects None s e h = tt
 first_placed objects (Some p) s e h = (subst (ArePlaced objects) (first_is s e) h).0
 
--- at most one look a turn, and none at the end
+-- the merge makes at most one comparison in each turn, and none after one run has ended
 pub one_look : (left right : Option Place) → looks_between left right ≤ 1
 one_look (Some p) (Some q) = omega arith
 one_look (Some p) None = omega arith
@@ -59,7 +59,7 @@ no_look (Some p) right e = cc
 no_look None right e = refl
 
 module _ {E V : Type 0} (n : E → Node) (cmp : Place → Place → Ordering) (objects : Objects V) where
-  -- `done` is merged, and what is left of both runs is x and y
+  -- the members `done` are merged already, and the members x of the left run and y of the right run are left
   pub record Merging (old new : Table E) (s u : List Place) (left right : Option Place) (ends : Ends) (count : ℕ) : Type 0 where
     pub done : List Place
     pub x : List Place
@@ -94,18 +94,18 @@ module _ {E V : Type 0} (n : E → Node) (cmp : Place → Place → Ordering) (o
   }
 
   module _ {old mid : Table E} {s u : List Place} {left right : Option Place} {ends : Ends} {count : ℕ} (k : Merging old mid s u left right ends count) where
-    -- an object stands at the first of each
+    -- there is an object at the first member that is left of each run
     pub left_ready : IfSome left (λ p. is_placed objects p ≡ true)
     left_ready = first_placed objects left k.x k.left_run.starts k.left_run.placed
 
     pub right_ready : IfSome right (λ p. is_placed objects p ≡ true)
     right_ready = first_placed objects right k.y k.right_run.starts k.right_run.placed
 
-    -- there are not many members
+    -- the merge has made at most as many turns as there are places, because the merged members are distinct
     pub few_merged : count ≤ 8589934591
     few_merged = let a = few_places k.done (distinct_left k.done (k.x ++ k.y) k.distinct) in omega (arith, a, k.counted)
 
-    -- THE PLACE p IS PUT BEHIND, and what is left of both runs is x and y
+    -- THE PLACE p IS APPENDED to the vine, and one of the two runs goes on with its next member
     module _ {new : Table E} {p : Place} {ends' : Ends} (h : Inserts (RepresentsVine n) mid new ends' (at_back k.done) p) where
       run_kept : (done : List Place) → IsDisjoint done (p ∷ k.done) → {front : Option Place} → IsRun n objects mid front done → IsRun n objects new front done
       run_kept x d a = record { chain = run_still n h x d a.chain; starts = a.starts; placed = a.placed }
@@ -158,7 +158,7 @@ module _ {E V : Type 0} (n : E → Node) (cmp : Place → Place → Ordering) (o
       pub left_absent : IsAbsent p k.done
       left_absent = absent_left p k.done (drop 1 k.x ++ k.y) (distinct_middle k.done (drop 1 k.x ++ k.y) p left_distinct)
 
-      -- the first on the left
+      -- the first member of the left run is taken
       pub take_left : {new : Table E} {ends' : Ends} {next : Option Place} → takes_left cmp left right ≡ true → next ≡ (n (mid.entry p)).right
           → Inserts (RepresentsVine n) mid new ends' (at_back k.done) p → Merging old new s u next right ends' (count + 1)
       take_left taken next_is h =
@@ -190,7 +190,7 @@ module _ {E V : Type 0} (n : E → Node) (cmp : Place → Place → Ordering) (o
       pub right_absent : IsAbsent p k.done
       right_absent = absent_left p k.done (k.x ++ drop 1 k.y) (distinct_middle k.done (k.x ++ drop 1 k.y) p right_distinct)
 
-      -- the first on the right
+      -- the first member of the right run is taken
       pub take_right : {new : Table E} {ends' : Ends} {next : Option Place} → takes_left cmp left right ≡ false → next ≡ (n (mid.entry p)).right
           → Inserts (RepresentsVine n) mid new ends' (at_back k.done) p → Merging old new s u left next ends' (count + 1)
       take_right taken next_is h =
@@ -200,7 +200,7 @@ module _ {E V : Type 0} (n : E → Node) (cmp : Place → Place → Ordering) (o
           (λ q o. absent_moved q k.done k.x p (drop 1 k.y) (subst (λ (z : List Place). IsAbsent q (k.done ++ (k.x ++ z))) right_is o))
           (omega (arith, ap length right_is))
 
-    -- AT THE END nothing is left
+    -- AT THE END both runs are empty, and the vine is the merge of both
     pub merging_last : left ≡ None → right ≡ None → MergesRuns n cmp old mid ends s u
     merging_last no_left no_right =
         let x_is : k.x ≡ [] = nothing_first k.x (sym no_left ∙ k.left_run.starts) in

@@ -1,4 +1,4 @@
--- From runs to trees: what the calls make of their trees in several steps.
+-- These lemmas lead from runs to trees: they say what several steps of a call make of its trees.
 use Rattle.std.proofs.Common.{◌≡◌, ◌+◌, ◌≤◌, inl, inr, Option, None, IsSome, List, [], ◌∷◌, ◌++◌, length, sym, ◌∙◌, ap, subst, arith}
 use Rattle.std.specs.List.{AllByRecursion}
 use Rattle.std.specs.declared.cmp.Ordering.{Ordering}
@@ -15,7 +15,7 @@ use Rattle.ic_tree_merges.specs.Merges.{Interleaves}
 use Rattle.ic_tree_merges.specs.TwoTrees.{TwoRepresented, MergesTo, PartsTo, UnitesTo, RepresentsLowest}
 use Rattle.ic_tree_merges.specs.Vines.{IsRun, MergesRuns, PartsRun}
 
--- what both parts owe to the whole
+-- if two parts are interleaved in s, they have only members of s, each property of all members of s, and together the length of s
 pub absent_parts : (q : Place) (a b s : List Place) → Interleaves a b s → IsAbsent q s → IsAbsent q a × IsAbsent q b
 absent_parts q a b [] h o = (rw h.0 tt, rw h.1 tt)
 absent_parts q a b (z ∷ s) (inl h) o = let r = absent_parts q h.0 b s h.2 o.1 in (rw h.1 (o.0, r.0), r.1)
@@ -32,14 +32,14 @@ length_parts a b (z ∷ s) (inl h) = omega (arith, ap length h.1, length_parts h
 length_parts a b (z ∷ s) (inr h) = omega (arith, ap length h.1, length_parts a h.0 s h.2)
 
 module _ {E V : Type 0} {n : E → Node} {objects : Objects V} where
-  -- whatever is represented of two trees, an object stands at each member
+  -- if two trees are represented with an object at each member, there is an object at each member of any sequence that is represented for them
   pub placed_first : {v : Table E} {a b : Option Place} {s : List Place} → TwoRepresented (Represents n) objects v a b → Represents n v a s → ArePlaced objects s
   placed_first two shown = subst (ArePlaced objects) (one_sequence two.shown shown) two.placed
 
   pub placed_second : {v : Table E} {a b : Option Place} {u : List Place} → TwoRepresented (Represents n) objects v a b → Represents n v b u → ArePlaced objects u
   placed_second two other = subst (ArePlaced objects) (one_sequence two.other other) two.other_placed
 
-  -- the two of them the other way round
+  -- two trees that share no member can be named in the other order
   pub swapped : {v : Table E} {a b : Option Place} → TwoRepresented (Represents n) objects v a b → TwoRepresented (Represents n) objects v b a
   swapped two = record { first = two.second; second = two.first; shown = two.other; other = two.shown; apart = disjoint_sym two.first two.second two.apart; placed = two.other_placed; other_placed = two.placed }
 
@@ -53,18 +53,18 @@ module _ {E : Type 0} {n : E → Node} where
   pub both_distinct : {v w : Table E} {a b : Option Place} {s u : List Place} → Represents n v a s → Represents n w b u → IsDisjoint s u → IsDistinct (s ++ u)
   both_distinct {v} {w} {a} {b} {s} {u} shown other apart = distinct_splice [] s u other.held.distinct shown.held.distinct apart
 
-  -- a tree stays as low as it is where entries of others are changed
+  -- a tree keeps the least height if only entries of places outside it are changed
   pub lowest_still : {v w : Table E} {root : Option Place} {s t : List Place} → Represents n v root s → IsDisjoint s t → ChangesOnlyIn v w t → RepresentsLowest n v root → RepresentsLowest n w root
   lowest_still {v} {w} {root} {s} {t} shown apart frame low r h =
       let still = holds_frame shown.held apart frame in
       subst IsLowest (one_tree n w.entry None shown.tree h.tree still.entries h.held.entries (sym shown.starts ∙ h.starts)) (low s shown)
 
-  -- the other tree stays where this one becomes a vine, and this vine where the other does
+  -- the other tree stays as it is when one tree becomes a vine, and the vine stays as it is when the other tree becomes a vine
   pub other_still : {v w : Table E} {ends : Ends} {b : Option Place} {s u : List Place} → Rearranges (RepresentsVine n) v w ends s → IsDisjoint s u → Represents n v b u → Represents n w b u
   other_still {v} {w} {ends} {b} {s} {u} one apart other = represents_frame other (disjoint_sym s u apart) one.frame
 
   module _ {cmp : Place → Place → Ordering} where
-    -- TWO TREES, merged
+    -- TWO TREES become vines, the vines are merged, and the merged vine becomes a tree that has merged both
     pub merged_trees : {v0 v1 v2 v3 v4 : Table E} {one two three : Ends} {root : Option Place} {s u : List Place} → Rearranges (RepresentsVine n) v0 v1 one s → Rearranges (RepresentsVine n) v1 v2 two u
         → (m : MergesRuns n cmp v2 v3 three s u) → Rearranges (Represents n) v3 v4 root m.0.merged → MergesTo (Represents n) cmp v0 v4 root s u
     merged_trees {s = s} {u = u} first second m built = record {
@@ -77,7 +77,7 @@ module _ {E : Type 0} {n : E → Node} where
       };
     }
 
-    -- the rest is a vine still, once what is common is a tree
+    -- the vine of the remaining members stays a vine when the vine of the common members becomes a tree
     pub rest_still : {v1 v2 v3 : Table E} {common_ends rest_ends : Ends} {root : Option Place} {s u : List Place} (m : PartsRun n cmp v1 v2 common_ends rest_ends s u)
         → Rearranges (Represents n) v2 v3 root m.0.common → RepresentsVine n v3 rest_ends m.0.rest
     rest_still {v1} {v2} {v3} m built =
@@ -89,7 +89,7 @@ module _ {E : Type 0} {n : E → Node} where
           tail = r.tail;
         }
 
-    -- A TREE, parted
+    -- A TREE becomes a vine, the vine is split in two, and both vines become trees that have split it
     pub parted_tree : {v0 v1 v2 v3 v4 : Table E} {ends common_ends rest_ends : Ends} {root rest_root : Option Place} {s u : List Place} → Rearranges (RepresentsVine n) v0 v1 ends s
         → (m : PartsRun n cmp v1 v2 common_ends rest_ends s u) → Rearranges (Represents n) v2 v3 root m.0.common → Rearranges (Represents n) v3 v4 rest_root m.0.rest
         → PartsTo (Represents n) cmp v0 v4 root rest_root s u
@@ -107,7 +107,8 @@ module _ {E : Type 0} {n : E → Node} where
       };
     }
 
-    -- TWO TREES, united: the other was parted by this one
+    -- TWO TREES ARE UNITED: first the other tree is split by this tree. Then its members that are equal to no member of this tree are merged into this
+    -- tree
     module _ {v0 v1 : Table E} {root doubles_root added_root : Option Place} {s u : List Place} (shown : Represents n v0 root s) (apart : IsDisjoint s u)
         (m : PartsTo (Represents n) cmp v0 v1 doubles_root added_root u s) where
       pub tree_still : Represents n v1 root s

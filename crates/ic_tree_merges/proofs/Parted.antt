@@ -1,4 +1,4 @@
--- A sequence parted by another, member by member.
+-- A sequence is split in two by another sequence, one member after the other.
 use Rattle.std.proofs.Common.{◌≡◌, Bool, true, false, not, ◌||◌, inl, inr, List, [], ◌∷◌, ◌++◌, refl, sym, ◌∙◌, ap, subst, append_assoc, append-nil}
 use Rattle.std.specs.List.{AllByRecursion, filter}
 use Rattle.std.specs.Cmp.{IsTotalOrder}
@@ -10,7 +10,8 @@ use Rattle.ic_tree_merges.specs.Merges.{is_less, has_equal, Interleaves, Parts}
 use Rattle.ic_tree_merges.proofs.Merged.{IsOrdered, ordered}
 
 module _ {X : Type 0} (cmp : X → X → Ordering) where
-  -- of s, parted by t: `common` and `rest` are told, and what is left is x, to be told by y
+  -- the sequence s is partly split by t: members went to `common` or to `rest`, and the members x are left. They are compared with y, the members of t
+  -- that are left
   pub record Parting (s t common rest x y : List X) : Type 0 where
     pub interleaved : (a b : List X) → Interleaves a b x → Interleaves (common ++ a) (rest ++ b) s
     pub common_is : IsTotalOrder cmp → IsSorted cmp s → IsSorted cmp t → filter (has_equal cmp t) s ≡ common ++ filter (has_equal cmp t) x
@@ -43,7 +44,7 @@ module _ {X : Type 0} (cmp : X → X → Ordering) where
       }
 
   module _ (o : IsTotalOrder cmp) where
-    -- what is less than the first is equal to none
+    -- if a is less than b, and c is not less than b, a and c are not equal
     apart_at : (a b c : X) → cmp a b ≡ Less → is_less cmp c b ≡ false → is_eq (cmp a c) ≡ false
     apart_at a b c less n = by (cmp a c) refl where
       by : (r : Ordering) → cmp a c ≡ r → is_eq (cmp a c) ≡ false
@@ -58,7 +59,7 @@ module _ {X : Type 0} (cmp : X → X → Ordering) where
     pub less_than_all : (a b : X) (t : List X) → cmp a b ≡ Less → IsOrdered (is_less cmp) (b ∷ t) → has_equal cmp (b ∷ t) a ≡ false
     less_than_all a b t less h = rw (ap is_eq less) (none_equal a b t less h.0)
 
-    -- what is greater than b stays so after
+    -- if a is greater than b, and p is not less than a, p and b are not equal
     past : (a b p : X) → cmp a b ≡ Greater → is_less cmp p a ≡ false → is_eq (cmp p b) ≡ false
     past a b p greater n = by (cmp p b) refl where
       back : cmp b a ≡ Less
@@ -81,7 +82,7 @@ module _ {X : Type 0} (cmp : X → X → Ordering) where
         (k.0 ∙ ap (λ (v : Bool). v || has_equal cmp y a) (ap is_eq greater), passed a b f y x greater h.0 k.1)
 
   module _ {s t common rest : List X} {a : X} {x y : List X} (h : Parting s t common rest (a ∷ x) y) where
-    -- a is equal to one of t
+    -- the member a is equal to a member of t, so it goes to the common members
     parting_common : ((o : IsTotalOrder cmp) → IsOrdered (is_less cmp) y → has_equal cmp y a ≡ true) → Parting s t (common ++ a ∷ []) rest x y
     parting_common equal = record {
       interleaved = λ k b m. rw (append_assoc common (a ∷ []) k) (h.interleaved (a ∷ k) b (inl (k, refl, m)));
@@ -109,19 +110,19 @@ module _ {X : Type 0} (cmp : X → X → Ordering) where
       test o m k = (h.same o m k).0 ∙ not_equal o (h.right o k)
 
   module _ {s t common rest : List X} {a : X} {x : List X} where
-    -- nothing is left of t,
+    -- no member of t is left, so the member a goes to the rest
     pub parting_alone : Parting s t common rest (a ∷ x) [] → Parting s t common (rest ++ a ∷ []) x []
     parting_alone h = parting_rest h (λ o k. refl)
 
     module _ {b : X} {y : List X} (h : Parting s t common rest (a ∷ x) (b ∷ y)) where
-      -- or its next is greater than a, equal to it,
+      -- the next member of t is greater than a, so a goes to the rest, or it is equal to a, so a goes to the common members
       pub parting_less : cmp a b ≡ Less → Parting s t common (rest ++ a ∷ []) x (b ∷ y)
       parting_less e = parting_rest h (λ o k. less_than_all o a b y e k)
 
       pub parting_equal : cmp a b ≡ Equal → Parting s t (common ++ a ∷ []) rest x (b ∷ y)
       parting_equal e = parting_common h (λ o k. rw (ap is_eq e) refl)
 
-      -- or less, and is passed
+      -- the next member of t is less than a, so it is passed
       pub parting_greater : cmp a b ≡ Greater → Parting s t common rest (a ∷ x) y
       parting_greater e = record {
         interleaved = h.interleaved;

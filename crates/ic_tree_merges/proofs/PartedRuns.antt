@@ -1,4 +1,4 @@
--- A run that is parted by another tree, member by member.
+-- A run is split in two by another tree, one member after the other.
 use Rattle.std.proofs.Common.{◌≡◌, ℕ, ◌+◌, ◌≤◌, true, Option, Some, None, List, [], ◌∷◌, ◌++◌, drop, length, refl, sym, ◌∙◌, ap, subst, arith, append_assoc, append-nil, length-append}
 use Rattle.std.specs.declared.cmp.Ordering.{Ordering}
 use Rattle.std.specs.declared.cmp.Ordering.TheVariants.{Less, Equal, Greater}
@@ -19,14 +19,14 @@ use Rattle.ic_tree_merges.specs.Vines.{standing, IsRun, PartsRun}
 use Rattle.ic_tree_merges.proofs.Hanging.{distinct_moved, absent_moved, disjoint_front, disjoint_back, after_apart, vine_none, hung_frame, run_still, vine_still, run_rest}
 use Rattle.ic_tree_merges.proofs.Parted.{Parting, parting_first, parting_last, parting_alone, parting_less, parting_equal, parting_greater}
 
--- a place that stands in the middle of two parts is apart from the first
+-- if a sequence has no place twice, its first part shares no place with the second part or with the place p after it
 middle_apart : (a b : List Place) (p : Place) (c : List Place) → IsDistinct (a ++ (b ++ p ∷ c)) → IsDisjoint a (p ∷ b)
 middle_apart a b p c d =
     let k = distinct_disjoint a (b ++ p ∷ c) d in
     disjoint_cons p a b (disjoint_sym a (p ∷ []) (disjoint_left a (p ∷ []) c (disjoint_right a b (p ∷ c) k))).0 (disjoint_left a b (p ∷ c) k)
 
 module _ {E : Type 0} (n : E → Node) where
-  -- safe to step from null, and from a member
+  -- a step in a represented tree is safe from null, and from each member
   pub safe_null : {t : Table E} {root : Option Place} {u : List Place} → Represents n t root u → IsSafe n t root (None ∷ [])
   safe_null {t} {root} {u} h = (λ q. among q u, represented_closed n (represented_of n h), (tt, tt))
 
@@ -34,7 +34,8 @@ module _ {E : Type 0} (n : E → Node) where
   safe_member front p back h = (λ q. among q (front ++ p ∷ back), represented_closed n (represented_of n h), (among_there p front back, tt))
 
   module _ {V : Type 0} (cmp : Place → Place → Ordering) (objects : Objects V) (root : Option Place) where
-    -- `common` and `rest` are told, and what is left is x, to be told by y; `passed` is passed
+    -- members of the run went to `common` or to `rest`, and the members x are left. They are compared with y, the members of the other tree that are left
+    -- after `passed`
     pub record Sifting (old new : Table E) (s u : List Place) (left right : Option Place) (common_ends rest_ends : Ends) (count : ℕ) : Type 0 where
       pub common : List Place
       pub rest : List Place
@@ -84,7 +85,7 @@ module _ {E : Type 0} (n : E → Node) where
 
     module _ {old mid : Table E} {s u : List Place} {left right : Option Place} {common_ends rest_ends : Ends} {count : ℕ}
         (k : Sifting old mid s u left right common_ends rest_ends count) where
-      -- there are not many members
+      -- the split has made at most as many turns as the run and the other tree can have members together
       pub few_sifted : count ≤ 17179869182
       few_sifted =
           let a = few_places (k.common ++ (k.rest ++ k.x)) k.distinct in
@@ -128,7 +129,7 @@ module _ {E : Type 0} (n : E → Node) where
         pub absent_rest : IsAbsent p k.rest
         absent_rest = absent_left p k.rest (drop 1 k.x) (distinct_middle k.rest (drop 1 k.x) p rest_first)
 
-        -- p IS COMMON
+        -- THE MEMBER p IS COMMON: it is appended to the vine of the common members
         module _ {new : Table E} {ends : Ends} {next : Option Place} (is : next ≡ (n (mid.entry p)).right) (h : Inserts (RepresentsVine n) mid new ends (at_back k.common) p) where
           common_out : (q : Place) → IsAbsent q s → IsAbsent q (p ∷ k.common)
           common_out q o =
@@ -171,7 +172,7 @@ module _ {E : Type 0} (n : E → Node) where
                 sift_common (subst (λ (z : List Place). Parting cmp s u (k.common ++ p ∷ []) k.rest (drop 1 k.x) z) (sym y_is)
                 (parting_equal cmp (subst (λ (z : List Place). Parting cmp s u k.common k.rest (p ∷ drop 1 k.x) z) y_is parting_now) e))
 
-        -- p IS NOT
+        -- THE MEMBER p IS NOT COMMON: it is appended to the vine of the rest
         module _ {new : Table E} {ends : Ends} {next : Option Place} (is : next ≡ (n (mid.entry p)).right) (h : Inserts (RepresentsVine n) mid new ends (at_back k.rest) p) where
           rest_out : (q : Place) → IsAbsent q s → IsAbsent q (p ∷ k.rest)
           rest_out q o =
@@ -217,7 +218,7 @@ module _ {E : Type 0} (n : E → Node) where
                 sift_rest (subst (λ (z : List Place). Parting cmp s u k.common (k.rest ++ p ∷ []) (drop 1 k.x) z) (sym y_is)
                 (parting_less cmp (subst (λ (z : List Place). Parting cmp s u k.common k.rest (p ∷ drop 1 k.x) z) y_is parting_now) e))
 
-      -- THE OTHER IS LESS, and is passed
+      -- THE NEXT MEMBER OF THE OTHER TREE IS LESS than the first member of the run, and it is passed
       module _ {b : Place} (there : right ≡ Some b) where
         right_is : k.y ≡ b ∷ drop 1 k.y
         right_is = first_is k.y (sym there ∙ k.next)
@@ -261,7 +262,7 @@ module _ {E : Type 0} (n : E → Node) where
               all = omega (arith, k.all, ap length right_is);
             }
 
-      -- so it is where the standing tells it
+      -- a step in the other tree is safe, if the first member of the run is greater than the next member of the other tree
       pub step_safe : (told : Place → Place → Ordering) (p : Place) → Greater ≡ standing told p right → IsSafe n mid root (right ∷ [])
       step_safe told p e = by right refl e where
         by : (o : Option Place) → right ≡ o → Greater ≡ standing told p o → IsSafe n mid root (right ∷ [])
@@ -275,7 +276,7 @@ module _ {E : Type 0} (n : E → Node) where
         by None f e = cc
         by (Some b) f e = subst (λ (o : Option Place). Sifting old mid s u o next common_ends rest_ends (count + 1)) on (sift_greater f on (sym e) leads)
 
-      -- AT THE END nothing is left
+      -- AT THE END the run is empty, and the two vines have split it
       pub sifting_last : left ≡ None → PartsRun n cmp old mid common_ends rest_ends s u
       sifting_last no_left =
           let x_is : k.x ≡ [] = nothing_first k.x (sym no_left ∙ k.run.starts) in

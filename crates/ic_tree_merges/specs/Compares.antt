@@ -1,10 +1,10 @@
--- An order by keys, as contracts see it.
+-- Two objects are compared by their keys, which an adapter finds.
 use Rattle.std.specs.Prelude.{ℕ}
 use Rattle.std.specs.declared.cmp.Ordering.{Ordering}
 use Rattle.ic_tree_merges.specs.declared.compares.ByKeys.{ByKeys}
 
 module _ {A : Type 0} where
-  -- the adapter that finds the keys, and how many looks it has counted
+  -- `adapter_of` is the adapter that finds the keys, and `looks_of` is how many comparisons were counted
   abbrev pub adapter_of : ByKeys A → A
   adapter_of k = k.adapter
 

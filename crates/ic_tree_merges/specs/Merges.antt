@@ -1,4 +1,4 @@
--- The merge of two sequences, and the split of a sequence in two parts.
+-- Two sequences can be merged into one, and a sequence can be split in two parts.
 use Rattle.std.specs.Prelude.{◌≡◌, ◌⊎◌, Bool, not, Option, Some, None, List, [], ◌∷◌, ◌++◌}
 use Rattle.std.specs.Cmp.{IsTotalOrder}
 use Rattle.std.specs.List.{filter, list_any}
@@ -10,36 +10,36 @@ use Rattle.ic_link_ops.specs.Prelude.{Place, Objects, object_at}
 use Rattle.ic_rbtree.specs.Borders.{IsSorted}
 
 module _ {X : Type 0} (cmp : X → X → Ordering) where
-  -- the first goes before the second
+  -- whether x goes before y
   abbrev pub is_less : X → X → Bool
   is_less x y = is_lt (cmp x y)
 
-  -- MERGED: r has the members of s and t. If the comparison is an order and both were in order, so is r; equal members keep their order, those of s
-  -- before those of t
+  -- MERGED: the sequence r has the members of s and of t. If the comparison is an order, and s and t were in order, r is in order. If s was in order,
+  -- equal members keep their order, those of s before those of t
   pub record Merges (s t r : List X) : Type 0 where
     pub permutes : IsPermutation (s ++ t) r
     pub sorted : IsTotalOrder cmp → IsSorted cmp s → IsSorted cmp t → IsSorted cmp r
     pub stable : IsTotalOrder cmp → IsSorted cmp s → IsStableBy is_less (s ++ t) r
 
-  -- whether x is equal to one of t
+  -- whether x is equal to some member of t
   abbrev pub has_equal : List X → X → Bool
   has_equal t x = list_any (λ y. is_eq (cmp x y)) t
 
--- s interleaves both parts, each in its order
+-- the third sequence interleaves a and b: it has the members of both, and keeps the order within each
 abbrev pub Interleaves : {X : Type 0} → List X → List X → List X → Type 0
 Interleaves a b [] = (a ≡ []) × (b ≡ [])
 Interleaves {X} a b (z ∷ s) = ((a' : List X) × (a ≡ z ∷ a') × Interleaves a' b s) ⊎ ((b' : List X) × (b ≡ z ∷ b') × Interleaves a b' s)
 
 module _ {X : Type 0} (cmp : X → X → Ordering) where
-  -- SPLIT: s interleaves the common members and the rest, each in its order. If the comparison is an order and both s and t were in order, each
-  -- common member is equal to one of t, and the rest are not
+  -- SPLIT: s interleaves `common` and `rest`, which keep its order. If the comparison is an order, and s and t were in order, `common` has exactly the
+  -- members of s that are equal to a member of t
   pub record Parts (s t common rest : List X) : Type 0 where
     pub interleaved : Interleaves common rest s
     pub common_is : IsTotalOrder cmp → IsSorted cmp s → IsSorted cmp t → common ≡ filter (has_equal cmp t) s
     pub rest_is : IsTotalOrder cmp → IsSorted cmp s → IsSorted cmp t → rest ≡ filter (λ x. not (has_equal cmp t x)) s
 
 module _ {V : Type 0} (order : V → V → Ordering) where
-  -- the order of optional objects: a missing one goes before any other
+  -- the order of two objects, each of which may be missing: a missing object goes before any other
   abbrev pub compared_values : Option V → Option V → Ordering
   compared_values None None = Equal
   compared_values None (Some b) = Less

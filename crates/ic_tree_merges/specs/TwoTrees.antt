@@ -1,4 +1,4 @@
--- Two trees that are merged, and one that is split in two.
+-- Two trees can be merged, and one tree can be split in two.
 use Rattle.std.specs.Prelude.{Option, List, ◌++◌}
 use Rattle.std.specs.declared.cmp.Ordering.{Ordering}
 use Rattle.ic_link_ops.specs.Prelude.{Place, Objects, IsDisjoint, Table, ChangesOnlyIn, ArePlaced}
@@ -8,7 +8,7 @@ use Rattle.ic_tree_merges.specs.Merges.{Merges, Parts}
 
 -- `Represents t head s`: the table represents s for the tree with this head
 module _ {E H : Type 0} (Represents : Table E → H → List Place → Type 0) where
-  -- TWO TREES that share no member, with an object at each member
+  -- TWO TREES share no member, and there is an object at each member
   pub record TwoRepresented {V : Type 0} (objects : Objects V) (t : Table E) (a b : H) : Type 0 where
     pub first : List Place
     pub second : List Place
@@ -19,14 +19,15 @@ module _ {E H : Type 0} (Represents : Table E → H → List Place → Type 0) w
     pub other_placed : ArePlaced objects second
 
   module _ (cmp : Place → Place → Ordering) (old new : Table E) where
-    -- MERGED: one list has the members of both, and no entries are changed except those of members
+    -- MERGED: the tree with the head `head` has the members of s and of u, and only the entries of these members are changed
     pub record MergesTo (head : H) (s u : List Place) : Type 0 where
       pub merged : List Place
       pub shown : Represents new head merged
       pub is : Merges cmp s u merged
       pub frame : ChangesOnlyIn old new (s ++ u)
 
-    -- SPLIT: the members of s that are common to s and u, and the rest of s; no entries are changed except those of s
+    -- SPLIT: one tree has the members of s that are equal to members of u, and another tree has the rest of s. Only the entries of members of s are
+    -- changed
     pub record PartsTo (common_head rest_head : H) (s u : List Place) : Type 0 where
       pub common : List Place
       pub rest : List Place
@@ -36,8 +37,8 @@ module _ {E H : Type 0} (Represents : Table E → H → List Place → Type 0) w
       pub is : Parts cmp s u common rest
       pub frame : ChangesOnlyIn old new s
 
-    -- UNITED: s together with the members that are in u alone, and the rest of u; no entries are changed except those
-    -- of members
+    -- UNITED: one tree has s and those members of u that are equal to no member of s. The other tree has the rest of u. Only the entries of members of s
+    -- and u are changed
     pub record UnitesTo (head doubles_head : H) (s u : List Place) : Type 0 where
       pub united : List Place
       pub doubles : List Place
@@ -49,6 +50,6 @@ module _ {E H : Type 0} (Represents : Table E → H → List Place → Type 0) w
       pub frame : ChangesOnlyIn old new (s ++ u)
 
 module _ {E : Type 0} (n : E → Node) where
-  -- THE TREE with this root HAS THE LEAST HEIGHT for the members that the table represents for it
+  -- THE TREE with the root `root` HAS THE LEAST HEIGHT that is possible for its members
   abbrev pub RepresentsLowest : Table E → Option Place → Type 0
   RepresentsLowest t root = (s : List Place) (h : Represents n t root s) → IsLowest h.tree

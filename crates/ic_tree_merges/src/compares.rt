@@ -1,4 +1,4 @@
-//! An order of values, as a call that compares two values.
+//! A merge compares two values by a call, which this trait describes.
 //!
 //! ```text
 //! let mut order = ByKeys::new(ByDeadline); // the order of a keyed tree
@@ -12,19 +12,19 @@ ghost use Rattle.ic_tree_merges.specs.Compares.{adapter_of, looks_of};
 use ic_rbtree::KeyAdapter;
 use std::cmp::Ordering;
 
-/// How values compare, for a merge. The order may count its calls.
+/// An order of values, by which a merge compares them. The order may count its calls.
 pub trait Compares<V> {
-    // How the first compares with the second: `Less` if it goes before.
+    // How a first value compares with a second one. The result is `Less` if the first value goes before the second.
     ghost order: { Self → V → V → Ordering };
 
-    // The number of looks that it has counted.
+    // The number of comparisons (looks) that the order has counted.
     ghost looks: { Self → ℕ };
 
-    // The order counts each look.
+    // The order counts every comparison.
     ghost Counts: { Type 0 };
 
-    /// How `a` compares with `b`: `Less` if `a` goes before. The order compares as before afterwards, and counts at most
-    /// one look more.
+    /// Compares `a` with `b`, and returns `Less` if `a` goes before `b`. The call does not change how values compare, and counts at most one comparison
+    /// more.
     fn compare(&mut self, a: &V, b: &V) -> Ordering
         ensures answer { result ≡ order self.old a.now b.now }
         ensures same { order self.new ≡ order self.old }
@@ -40,7 +40,7 @@ pub struct ByKeys<A> {
 }
 
 impl<A> ByKeys<A> {
-    /// The order of the keys that this adapter finds. It has made no look. O(1).
+    /// Makes the order of the keys that this adapter finds. It has counted no comparison yet. O(1).
     #[inline]
     pub fn new(adapter: A) -> ByKeys<A>
         ensures adapter { adapter_of result ≡ adapter }
@@ -49,8 +49,8 @@ impl<A> ByKeys<A> {
         ByKeys { adapter, looks: 0 }
     }
 
-    /// The number of looks that it has made: how often it compared two values. The count stays at `u64::MAX` once it
-    /// has that value. O(1).
+    /// The number of looks of this order, which is how often it has compared two values. The count stays at `u64::MAX` once it has reached that value.
+    /// O(1).
     #[inline]
     pub fn looks(&self) -> u64
         ensures { result ≡ looks_of self.now }

@@ -1,4 +1,4 @@
-//! Two trees that are merged.
+//! Two trees in order can be merged into one.
 //!
 //! ```text
 //! merge(&mut tree, &mut links, &objects, &mut ByKeys::new(ByDeadline), other); // all members of both, in order
@@ -18,7 +18,7 @@ use ic_rbtree::{NodeStore, RBTree, RBTreeBuilder};
 use ic_unsafe_ref::{Place, Values};
 use std::cmp::Ordering;
 
-// Whether the first member of the left run is taken: the first on the right is not less.
+// Whether a merge takes the first member of the left run next. It does so if the first member of the right run is not less, or if the right run is empty.
 #[inline]
 fn takes_left<V, O: Values<V>, C: Compares<V>>(
     objects: &O,
@@ -45,7 +45,7 @@ fn takes_left<V, O: Values<V>, C: Compares<V>>(
     }
 }
 
-// Makes one vine of two runs. Of equal members, those on the left go first.
+// Makes one vine of two runs. Among equal members, the members of the left run go first.
 pub(crate) fn merge_runs<V, N: NodeStore, O: Values<V>, C: Compares<V>>(
     nodes: &mut N,
     objects: &O,
@@ -83,12 +83,11 @@ pub(crate) fn merge_runs<V, N: NodeStore, O: Values<V>, C: Compares<V>>(
     merged
 }
 
-/// Merges another tree into this one, which then has all members of both. Of equal members, those of this tree go
-/// first.
+/// Merges another tree into this tree, which then has all members of both trees. Among equal members, the members of this tree go first.
 ///
-/// It requires that the two trees share no member, and that all members are placed. If both were in order, the result is in order, and has the
-/// least height. It takes no memory, no link is acquired or released, and trees that share no member with either stay as they are. At most n + m
-/// looks, and O(n + m).
+/// It requires that the two trees share no member, and that `objects` has every member. If both trees were in order, the result is in order, and it has
+/// the least height. The call takes no memory, and acquires and releases no link. Trees that share no member with these two stay as they are. It makes at
+/// most n + m comparisons, and takes O(n + m).
 pub fn merge<A: Copy + Drop, V, N: NodeStore, O: Values<V>, C: Compares<V>>(
     tree: &mut RBTree<A>,
     nodes: &mut N,

@@ -1,4 +1,4 @@
-//! Splits a tree by another one: into the members that are equal to one of the other, and the rest.
+//! These calls split a tree by another tree: into the members that are equal to a member of the other tree, and the rest.
 //!
 //! ```text
 //! let rest = intersection(&mut tree, &mut links, &objects, &mut order, &other); // `tree` keeps what `other` has, too
@@ -22,7 +22,7 @@ use ic_rbtree::{NodeStore, RBTree, RBTreeBuilder};
 use ic_unsafe_ref::{Place, Values};
 use std::cmp::Ordering;
 
-// How a member compares with an optional one: it goes before if there is none.
+// How a member compares with another member, if there is one. If there is no other member, the result is `Less`.
 #[inline]
 fn standing<V, O: Values<V>, C: Compares<V>>(
     objects: &O,
@@ -42,7 +42,7 @@ fn standing<V, O: Values<V>, C: Compares<V>>(
     }
 }
 
-// Makes two vines of a run: one of the members that are equal to one of the other tree, and one of the rest.
+// Makes two vines of a run. One has the members that are equal to a member of the other tree, and one has the rest.
 fn part_run<V, B, N: NodeStore, O: Values<V>, C: Compares<V>>(
     nodes: &mut N,
     objects: &O,
@@ -79,7 +79,7 @@ fn part_run<V, B, N: NodeStore, O: Values<V>, C: Compares<V>>(
     (common, rest)
 }
 
-// Splits the tree into the members that are equal to one of the other tree, and the rest.
+// Splits the tree into two trees. One has the members that are equal to a member of the other tree, and one has the rest.
 fn part<A: Copy + Drop, B, V, N: NodeStore, O: Values<V>, C: Compares<V>>(
     tree: RBTree<A>,
     nodes: &mut N,
@@ -110,11 +110,11 @@ fn part<A: Copy + Drop, B, V, N: NodeStore, O: Values<V>, C: Compares<V>>(
     (common, rest)
 }
 
-/// Keeps the members that are equal to one of the other tree, and returns the rest as a tree, in order.
+/// Keeps the members that are equal to a member of the other tree, and returns the rest as a tree, in order.
 ///
-/// It requires that the two trees share no member, and that all members are placed. If both were in order, exactly the members are kept that
-/// are equal to one of the other tree. The other tree stays as it is. Both resulting trees have the least height. It takes no memory, no link
-/// is acquired or released, and trees that share no member with this one stay as they are. At most n + m looks, and O(n + m).
+/// It requires that the two trees share no member, and that `objects` has every member. If both trees were in order, the call keeps exactly the members
+/// that are equal to a member of the other tree. The other tree stays as it is. Both resulting trees have the least height. The call takes no memory, and
+/// acquires and releases no link. Trees that share no member with this tree stay as they are. It makes at most n + m comparisons, and takes O(n + m).
 pub fn intersection<A: Copy + Drop, B, V, N: NodeStore, O: Values<V>, C: Compares<V>>(
     tree: &mut RBTree<A>,
     nodes: &mut N,
@@ -140,11 +140,11 @@ pub fn intersection<A: Copy + Drop, B, V, N: NodeStore, O: Values<V>, C: Compare
     rest
 }
 
-/// Keeps the members that are equal to none of the other tree, and returns the others as a tree, in order.
+/// Keeps the members that are equal to no member of the other tree, and returns the rest as a tree, in order.
 ///
-/// It requires that the two trees share no member, and that all members are placed. If both were in order, exactly the members are returned
-/// that are equal to one of the other tree. The other tree stays as it is. Both resulting trees have the least height. It takes no memory, no
-/// link is acquired or released, and trees that share no member with this one stay as they are. At most n + m looks, and O(n + m).
+/// It requires that the two trees share no member, and that `objects` has every member. If both trees were in order, the call returns exactly the members
+/// that are equal to a member of the other tree. The other tree stays as it is. Both resulting trees have the least height. The call takes no memory, and
+/// acquires and releases no link. Trees that share no member with this tree stay as they are. It makes at most n + m comparisons, and takes O(n + m).
 pub fn difference<A: Copy + Drop, B, V, N: NodeStore, O: Values<V>, C: Compares<V>>(
     tree: &mut RBTree<A>,
     nodes: &mut N,
@@ -170,12 +170,11 @@ pub fn difference<A: Copy + Drop, B, V, N: NodeStore, O: Values<V>, C: Compares<
     common
 }
 
-/// Moves the members of the other tree that are equal to none of this one into this tree, and returns the others as a tree,
-/// in order.
+/// Moves each member of the other tree that is equal to no member of this tree into this tree. Returns the rest of the other tree as a tree, in order.
 ///
-/// It requires that the two trees share no member, and that all members are placed. If both were in order, both results are in order, and
-/// exactly the members are returned that are equal to one of this tree. Both resulting trees have the least height. It takes no memory, no
-/// link is acquired or released, and trees that share no member with either stay as they are. At most 2 (n + m) looks, and O(n + m).
+/// It requires that the two trees share no member, and that `objects` has every member. If both trees were in order, both results are in order, and the
+/// call returns exactly the members that are equal to a member of this tree. Both resulting trees have the least height. The call takes no memory, and
+/// acquires and releases no link. Trees that share no member with these two stay as they are. It makes at most 2 (n + m) comparisons, and takes O(n + m).
 pub fn union<A: Copy + Drop, V, N: NodeStore, O: Values<V>, C: Compares<V>>(
     tree: &mut RBTree<A>,
     nodes: &mut N,

@@ -1,4 +1,4 @@
-//! A vine that grows at its back.
+//! A vine is a tree in which each member is the right child of the member before it. New members are added at its back.
 //!
 //! ```text
 //! let mut vine = Vine::new();
@@ -17,7 +17,7 @@ ghost use Rattle.ic_tree_merges.specs.Vines.{ends_of};
 use ic_rbtree::NodeStore;
 use ic_unsafe_ref::Place;
 
-/// The ends of a vine.
+/// The first and the last member of a vine.
 #[derive(Clone, Copy)]
 pub(crate) struct Vine {
     pub(crate) first: Option<Place>,
@@ -25,7 +25,7 @@ pub(crate) struct Vine {
 }
 
 impl Vine {
-    // A vine with no member.
+    // Makes a vine with no member.
     pub(crate) fn new() -> Vine
         ensures { ends_of result ≡ no_members }
     {
@@ -35,7 +35,7 @@ impl Vine {
         }
     }
 
-    // Appends a linked place after the last member, and returns the right child that it had.
+    // Adds a linked place after the last member of the vine, and returns the right child that the place had.
     #[inline]
     pub(crate) fn push_back<N: NodeStore>(&mut self, nodes: &mut N, place: Place) -> Option<Place>
         requires linked { IsNode N.node (N.table nodes.old) place }

@@ -1,4 +1,5 @@
--- For callers: maps by numbers, of which one has a key wherever the other has one.
+-- The facts in this file help callers that compare two maps with numbers as keys, if each key of the first is a key of the
+-- second.
 use Rattle.std.proofs.Common.{◌≡◌, ℕ, zero, suc, ◌≤◌, ◌-◌, true, false, cond, List, [], ◌∷◌, length, Some, None, is_some, inl, inr, refl, sym, ap, ◌∙◌, arith}
 use Rattle.std.proofs.lemmas.Bool.{cases_eq}
 use Rattle.std.specs.Cmp.{nat_cmp_total}
@@ -8,21 +9,21 @@ use Rattle.std.specs.Ordering.{nat_cmp}
 use Rattle.ic_unsafe_ref.proofs.ObjectLemmas.{tied, apart}
 
 module _ {X : Type 0} where
-  -- a map that is not empty has a key
+  -- If a map is not empty, it has a key.
   a_key : (m : map.FinMap nat_cmp X) (n : ℕ) → map.len m ≡ suc n → (i : ℕ) × (map.contains_key m i ≡ true)
   a_key m n e = by (map.entries m) refl where
     by : (es : List (ℕ × X)) → map.entries m ≡ es → (i : ℕ) × (map.contains_key m i ≡ true)
     by [] h = absurd (omega (arith, e, len-entries m, ap length h))
     by (x ∷ es) h = (x.0, ap is_some (get-entries m x.0 ∙ ap (find nat_cmp x.0) h ∙ ap (λ b. cond b (Some x.1) (find nat_cmp x.0 es)) (tied x.0 x.0 refl)))
 
-  -- where a key is, the map is not empty
+  -- If a map has a key, the map is not empty.
   pub some_key : (m : map.FinMap nat_cmp X) (i : ℕ) → map.contains_key m i ≡ true → 1 ≤ map.len m
   some_key m i is = by (map.len m) refl where
     by : (n : ℕ) → map.len m ≡ n → 1 ≤ n
     by zero e = let never : false ≡ true = ap is_some (sym (ap (λ a. map.get a i) (empty_of_len m e) ∙ get-empty nat_cmp i)) ∙ is in absurd (cc)
     by (suc n) e = omega arith
 
--- SO MANY KEYS: at most as many as the other map has
+-- THE NUMBER OF KEYS: if each key of the map a is a key of the map b, a has at most as many keys as b.
 pub fewer_keys : {X Y : Type 0} (n : ℕ) (a : map.FinMap nat_cmp X) (b : map.FinMap nat_cmp Y) → map.len a ≡ n
     → ((i : ℕ) → map.contains_key a i ≡ true → map.contains_key b i ≡ true) → n ≤ map.len b
 fewer_keys zero a b e within = omega arith

@@ -1,4 +1,4 @@
--- The values of a list, by the places with their indexes.
+-- This file proves facts about the values of a list, each of which is at the place with its index.
 use Rattle.std.proofs.Common.{◌≡◌, ℕ, zero, suc, ◌+◌, ◌<◌, true, false, cond, List, [], ◌∷◌, Option, Some, None, is_some, length, map, slice_index_or, slice_set, inl, inr, refl, sym, ap, ◌∙◌, arith}
 use Rattle.std.proofs.lemmas.Bool.{cases_eq}
 use Rattle.std.proofs.lemmas.Grind.{get_or-set_at}
@@ -15,7 +15,7 @@ use Rattle.ic_unsafe_ref.specs.Objects.{object_at, is_placed, with_object, at_in
 use Rattle.ic_unsafe_ref.proofs.ObjectLemmas.{apart, get_entries, tied}
 
 module _ {T : Type 0} where
-  -- a list is a slab with no vacant slot
+  -- A slab without vacant slots stores the elements of a list.
   full : List T → Slab T
   full values = record { slots = map (λ (v : T). Some v) values; vacant_key = length values; capacity = length values }
 
@@ -36,14 +36,15 @@ module _ {T : Type 0} where
   slot_there (v ∷ values) zero h = (omega (arith), λ d. refl)
   slot_there (v ∷ values) (suc i) h = let rest = slot_there values i h in (omega (arith, rest.0), rest.1)
 
-  -- where a value stands, the index is in range, and it is the one there
+  -- If there is a value at the place p, the index of p is below the length of the list, and the value is the element at this
+  -- index.
   pub in_range : (values : List T) (p : Place) {i : ℕ} → i ≡ index_of p → is_placed (at_indexes values) p ≡ true
       → (i < length values) × ((d : T) → object_at (at_indexes values) p ≡ Some (slice_index_or values i d))
   in_range values p at_index placed =
       let there = slot_there values (index_of p) (ap is_some (sym (slot_of values p)) ∙ placed) in
       rw at_index (there.0, λ d. slot_of values p ∙ there.1 d)
 
-  -- FOR CALLERS: a value stands at each place whose index is in range
+  -- FOR CALLERS: there is a value at each place whose index is below the length of the list.
   has_slot : (values : List T) (i : ℕ) → i < length values → is_some (slice_index_or (map (λ (v : T). Some v) values) i None) ≡ true
   has_slot [] i h = absurd (omega (arith, h))
   has_slot (v ∷ values) zero h = refl
@@ -52,7 +53,7 @@ module _ {T : Type 0} where
   pub placed_in_range : (values : List T) (p : Place) → index_of p < length values → is_placed (at_indexes values) p ≡ true
   placed_in_range values p h = ap is_some (slot_of values p) ∙ has_slot values (index_of p) h
 
-  -- and one that is written at an index in range is put at the place with that index
+  -- If a value is written at an index below the length of the list, the value is at the place with this index.
   pub set_at_index : (values : List T) (p : Place) (v : T) → index_of p < length values → at_indexes (slice_set values (index_of p) v) ≡ with_object (at_indexes values) p v
   set_at_index values p v within =
       let i = index_of p in

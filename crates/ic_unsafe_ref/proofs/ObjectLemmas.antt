@@ -1,4 +1,4 @@
--- The map of the objects has at each place what the slab has under the place's index.
+-- This file proves that the map of the objects contains, at each place, what the slab contains under the place's index.
 use Rattle.std.proofs.Common.{◌≡◌, ◌≢◌, ℕ, zero, suc, ◌+◌, ◌<◌, true, false, cond, List, [], ◌∷◌, Option, Some, None, is_some, IsSome, count_by, refl, sym, ap, subst, ◌∙◌, arith, eq-eqb, ne_eqb, add_comm}
 use Rattle.std.specs.Ordering.{nat_cmp, eq_by_cmp}
 use Rattle.std.specs.Cmp.{nat_cmp_total, unsigned_tied}
@@ -23,7 +23,7 @@ pub apart : (q k : ℕ) → q ≢ k → eq_by_cmp nat_cmp q k ≡ false
 apart q k n = unsigned_tied q k ∙ ne_eqb q k n
 
 module _ {T : Type 0} where
-  -- no entry stands under a key before the first
+  -- There is no entry under a key that is less than the first key.
   find_before : (key : ℕ) (slots : List (Option T)) (q : ℕ) → q < key → find nat_cmp q (entries_from key slots) ≡ None
   find_before key [] q h = refl
   find_before key (None ∷ slots) q h = find_before (key + 1) slots q (omega (arith, h))
@@ -31,7 +31,7 @@ module _ {T : Type 0} where
       ap (λ b. cond b (Some v) (find nat_cmp q (entries_from (key + 1) slots))) (apart q key (λ e. omega (arith, e, h)))
       ∙ find_before (key + 1) slots q (omega (arith, h))
 
-  -- under the others stands what the slots have
+  -- Under each other key there is what the slot with this number contains.
   find_at : (key : ℕ) (slots : List (Option T)) (q n : ℕ) → key + q ≡ n → find nat_cmp n (entries_from key slots) ≡ get (record { slots = slots; vacant_key = 0; capacity = 0 }) q
   find_at key [] q n e = refl
   find_at key (None ∷ slots) zero n e = find_before (key + 1) slots n (omega (arith, e))
@@ -45,7 +45,7 @@ module _ {T : Type 0} where
   pub get_entries : (s : Slab T) (q : ℕ) → map.get (map.from_entries {R = nat_cmp} (entries s)) q ≡ get s q
   get_entries s q = get-from_entries nat_cmp_total (entries s) q ∙ find_at 0 s.slots q q (omega arith)
 
-  -- the map has as many entries as the slab has values
+  -- The map has as many entries as the slab has values.
   len_from : (key : ℕ) (slots : List (Option T)) → map.len (map.from_entries {R = nat_cmp} (entries_from key slots)) ≡ count_by is_some slots
   len_from key [] = len-empty nat_cmp T
   len_from key (None ∷ slots) = len_from (key + 1) slots
@@ -59,7 +59,7 @@ module _ {T : Type 0} where
   pub len_entries : (s : Slab T) → map.len (map.from_entries {R = nat_cmp} (entries s)) ≡ slab_len s
   len_entries s = len_from 0 s.slots
 
-  -- a value more under a key is an entry more in the map
+  -- If a value is put into the slab under a key, the value is put into the map under this key.
   pub insert_entries : (old new : Slab T) (key : ℕ) (v : T) → Updates old new key (Some v)
       → map.from_entries {R = nat_cmp} (entries new) ≡ map.insert (map.from_entries (entries old)) key v
   insert_entries old new key v updates =
@@ -74,7 +74,7 @@ module _ {T : Type 0} where
             ∙ ap (λ b. cond b (Some v) (map.get (map.from_entries {R = nat_cmp} (entries old)) q)) (apart q key n))
       ])
 
-  -- what a clause sees of a slab of objects
+  -- The store of objects, in the form in which contracts describe a slab.
   abbrev seen : Slab T → Objects T
   seen s = record { values = map.from_entries (entries s); next = s.vacant_key }
 
@@ -86,7 +86,7 @@ module _ {T : Type 0} where
     values = insert_entries old new key v updates ∙ ap (λ k. map.insert (map.from_entries {R = nat_cmp} (entries old)) k v) (sym at_key);
   }
 
-  -- a value less under a key is an entry less in the map
+  -- If a value is removed from the slab under a key, the entry of this key is removed from the map.
   pub remove_entries : (old new : Slab T) (key : ℕ) → Updates old new key None
       → map.from_entries {R = nat_cmp} (entries new) ≡ map.remove (map.from_entries (entries old)) key
   remove_entries old new key updates =
@@ -108,14 +108,14 @@ module _ {T : Type 0} where
     values = remove_entries old new key updates ∙ ap (map.remove (map.from_entries {R = nat_cmp} (entries old))) at_key;
   }
 
-  -- what stands at a place after a write there
+  -- If a value is written at a key of the slab, the store has this value at the place with this index.
   written : (s : Slab T) (key : ℕ) (p : Place) → key ≡ index_of p → ContainsKey s key → (w : T) → seen (with_value s key w) ≡ with_object (seen s) p w
   written s key p at_key present w =
       ap (λ m. let o : Objects T = record { values = m; next = s.vacant_key } in o)
       (insert_entries s (with_value s key w) key w (Updates-with_value s key w present)
       ∙ ap (λ k. map.insert (map.from_entries {R = nat_cmp} (entries s)) k w) at_key)
 
-  -- so the objects are lent at the place as the slab is at its key
+  -- A borrow of the slab at a key lends the objects at the place with this index.
   pub lent_alike : (s : Slab T) (key : ℕ) (p : Place) (r : Option (MutBor T)) → key ≡ index_of p → option_copied_mut r ≡ get s key
       → read_of (ghost_name_of r) (λ w. seen (with_value s key w)) (seen s) ≡ read_of (ghost_name_of r) (with_object (seen s) p) (seen s)
   lent_alike s key p None at_key is = refl

@@ -1,4 +1,4 @@
--- Places are ordered by their words, so by their indexes.
+-- Places are ordered by their words, and therefore by their indexes.
 use Rattle.std.specs.Prelude.{◌≡◌, ◌<◌, ◌↔◌}
 use Rattle.std.specs.Cmp.{nat_cmp_total, nat_cmp_is, ranked}
 use Rattle.std.specs.Ordering.{nat_cmp}

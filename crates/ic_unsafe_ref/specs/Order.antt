@@ -1,4 +1,4 @@
--- How places are ordered.
+-- This file defines what a correct order of places is.
 use Rattle.std.specs.Prelude.{◌≡◌, ◌<◌, ◌↔◌}
 use Rattle.std.specs.Cmp.{IsTotalOrder}
 use Rattle.std.specs.declared.cmp.Ordering.{Ordering}
@@ -6,7 +6,8 @@ use Rattle.std.specs.declared.cmp.Ordering.TheVariants.{Less, Equal}
 use Rattle.ic_unsafe_ref.specs.declared.place.Place.{Place}
 use Rattle.ic_unsafe_ref.specs.Places.{index_of}
 
--- the order is total, Equal exactly if both places are the same, and Less exactly if the first index is less
+-- An order of places is total. The order yields `Equal` exactly if both places are the same, and `Less` exactly if the first
+-- index is less than the second.
 pub record OrdersPlaces (order : Place → Place → Ordering) : Type 0 where
   pub total : IsTotalOrder order
   pub equal : (p q : Place) → (order p q ≡ Equal) ↔ (p ≡ q)

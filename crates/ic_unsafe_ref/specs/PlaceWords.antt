@@ -1,17 +1,18 @@
--- Which numbers are the words of places: 8 * (index + 1), below 2 ^ 36. So the exclusive or of two words is a word.
+-- The word of a place is the number 8 * (index + 1), which is below 2 ^ 36. The exclusive or of two words is a multiple of 8
+-- below 2 ^ 36.
 use Rattle.std.specs.Prelude.{◌≡◌, ℕ, ◌+◌, ◌-◌, ◌<◌, ◌≤◌, ◌%◌, ◌⊎◌}
 use Rattle.std.proofs.Common.{inl, inr, arith}
 use Rattle.std.proofs.lemmas.Bool.Decides.{eqb_tells}
 
--- the word of a place: a multiple of 8, from 8 to below 2 ^ 36
+-- A number is the word of a place if it is a multiple of 8, at least 8, and below 2 ^ 36.
 abbrev pub NamesPlace : ℕ → Type 0
 NamesPlace n = (8 ≤ n) × (n < 68719476736) × (n % 8 ≡ 0)
 
--- the word of a place, or 0 for none
+-- A number is a word if it is the word of a place, or 0, the word for no place.
 abbrev pub IsWord : ℕ → Type 0
 IsWord n = (n < 68719476736) × (n % 8 ≡ 0)
 
--- it is decidable whether a number is the word of a place
+-- For every number it can be decided whether the number is the word of a place.
 pub names_or_not : (n : ℕ) → NamesPlace n ⊎ (NamesPlace n → ⊥)
 names_or_not n =
     elim (eqb_tells ((8 - n) + (n - 68719476735) + n % 8) 0) [

@@ -1,4 +1,4 @@
--- A place, its index, and the word that encodes a place or none.
+-- This file describes a place, its index, and the word that encodes a place or no place.
 use Rattle.std.specs.Prelude.{◌≡◌, ℕ, ◌+◌, ◌-◌, ◌*◌, ◌/◌, Option, Some, None}
 use Rattle.std.proofs.Common.{inl, inr, sym, ap, subst}
 use Rattle.std.proofs.Props.{props}
@@ -7,24 +7,24 @@ use base.Stored.{coded_via}
 use Rattle.ic_unsafe_ref.specs.PlaceWords.{NamesPlace, names_or_not}
 use Rattle.ic_unsafe_ref.specs.declared.place.Place.{Place}
 
--- the index of a place: how many places come before it
+-- The index of a place is the number of places that come before it.
 unfoldable pub index_of : Place → ℕ
 index_of p = p.word / 8 - 1
 
--- the place with that word
+-- The place whose word is the number n, which has to be the word of a place.
 abbrev pub place_of : (n : ℕ) → NamesPlace n → Place
 place_of n h = record { word = n; names_place = h }
 
--- the word for a place or none: 8 * (index + 1), or 0
+-- The word for a place is 8 * (index + 1), and the word for no place is 0.
 abbrev pub word_of : Option Place → ℕ
 word_of None = 0
 word_of (Some p) = 8 * (index_of p + 1)
 
--- the place that a word names, none if the word is 0 or no place has it
+-- The place that a word names. The result is none if the word is 0 or no place has this word.
 unfoldable pub place_at : ℕ → Option Place
 place_at n = elim (names_or_not n) [ inl h ↦ Some (place_of n h) | inr h ↦ None ]
 
--- a place is its word: a number has at most one proof that it is the word of a place
+-- Two places with the same word are equal, because a number has at most one proof that it is the word of a place.
 pub names_once : (n : ℕ) (h k : NamesPlace n) → h ≡ k
 names_once n = Prim.hlevel props
 
@@ -33,6 +33,6 @@ same_word p q e =
     let P : ℕ → Type 0 = λ m. (h : NamesPlace m) → place_of m h ≡ q in
     subst P (sym e) (λ h. ap (place_of q.word) (names_once q.word h q.names_place)) p.names_place
 
--- so a place is stored as its word
+-- A place is encoded as its word, because two places with the same word are equal.
 abbrev pub place_code : Coded Place
 place_code = coded_via coded_ℕ (λ p. p.word) same_word

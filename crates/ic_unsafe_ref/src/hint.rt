@@ -1,4 +1,4 @@
-//! Lets the compiler use facts that are proved.
+//! This file lets the compiler use conditions that are proved.
 //!
 //! ```text
 //! let word = assert_unchecked(self.word, self.word % 8 == 0); // a multiple of 8, for all that is compiled after it
@@ -6,11 +6,12 @@
 
 ghost use Rattle.std.specs.Prelude.{◌≡◌, true};
 
-/// Returns the value, and lets the compiler assume a condition that is proved.
+/// Returns the value, and lets the compiler assume the condition `holds`, which is proved.
 ///
-/// It requires that the condition holds. The compiled program does not test it: if the condition failed, the function would read the
-/// first element of an empty slice. The compiler removes bounds checks here, so it drops that branch, and assumes the condition in all
-/// code that follows. With `unreachable!()` in that branch the compiler would keep the test.
+/// The call requires that the condition holds, and the compiled program does not test the condition. If the condition failed, the
+/// function would read the first element of an empty slice. The compiler removes bounds checks in this function, so it drops the
+/// second branch, and it assumes the condition in all code that follows. If the second branch were `unreachable!()`, the compiler
+/// would keep the test.
 #[inline(always)]
 pub(crate) fn assert_unchecked<T: Copy>(value: T, holds: bool) -> T
     requires holds { holds ≡ true }

@@ -1,7 +1,7 @@
-//! Objects that are kept at places, and references to them.
+//! This crate keeps objects at places, and provides references to them.
 //!
-//! An intrusive collection links objects which already exist. Here an object is a value in [`Objects`]. It is kept at a
-//! [`Place`], and an [`UnsafeRef`] names it by that place.
+//! An intrusive collection links objects which already exist. In this crate an object is a value in [`Objects`]. The object is
+//! kept at a [`Place`], and an [`UnsafeRef`] names the object by its place.
 //!
 //! ```text
 //! let mut objects = Objects::new(rt.alloc());

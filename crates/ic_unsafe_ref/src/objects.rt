@@ -1,4 +1,4 @@
-//! The store of objects, each at its place.
+//! This file defines the store of objects. Each object is at a place.
 //!
 //! ```text
 //! let first = UnsafeRef::from_box(&mut objects, 10)?;
@@ -16,10 +16,9 @@ use slab::Slab;
 use std::alloc::{Allocator, Global};
 use std::marker::Model;
 
-/// A store of values of one type. Each value keeps its place until it is removed.
+/// A store of values of one type. Each value keeps its place until the value is removed.
 ///
-/// In contracts the store is a finite map from places to values, together with the index of the place that the next
-/// value gets.
+/// In contracts the store is a finite map from places to values, and the index of the place that the next value gets.
 #[derive(Drop)]
 pub struct Objects<T, A: Allocator = Global> {
     pub(crate) slab: Slab<T, A>,
@@ -45,7 +44,7 @@ impl<T, A: Allocator> Objects<T, A> {
     ghost use Rattle.std.specs.Option.{option_copied_mut};
     ghost use Rattle.ic_unsafe_ref.specs.Lends.{LendsObject};
 
-    /// An empty store. It takes no memory until the first object is placed. O(1).
+    /// A new store without objects. The store takes no memory until the first object is placed. O(1).
     pub fn new(alloc: A) -> Self
         ensures empty { result.values ≡ map.empty }
         ensures vacant { (place : Place) → object_at result place ≡ None }
@@ -56,7 +55,7 @@ impl<T, A: Allocator> Objects<T, A> {
         }
     }
 
-    /// The number of objects that are placed. O(1).
+    /// The number of objects that are in the store. O(1).
     #[inline]
     pub fn len(&self) -> usize
         ensures { result ≡ map.len self.now.values }
@@ -64,7 +63,7 @@ impl<T, A: Allocator> Objects<T, A> {
         self.slab.len()
     }
 
-    /// The object at `place`, `None` if the place is vacant. One look-up, O(1).
+    /// The object at `place`, or `None` if the place is vacant. The call makes one look-up. O(1).
     #[inline]
     pub fn get(&self, place: Place) -> Option<&T>
         ensures { option_copied result ≡ object_at self.now place }
@@ -72,9 +71,9 @@ impl<T, A: Allocator> Objects<T, A> {
         self.slab.get(place.index())
     }
 
-    /// A mutable reference to the object at `place`, `None` if the place is vacant. One look-up, O(1).
+    /// A mutable reference to the object at `place`, or `None` if the place is vacant. The call makes one look-up. O(1).
     ///
-    /// When the borrow ends, the object at the place is the last value written through the reference, and nothing else
+    /// When the borrow ends, the object at the place is the last value that was written through the reference, and nothing else
     /// has changed.
     #[inline]
     pub fn get_mut(&mut self, place: Place) -> Option<&mut T>
@@ -84,7 +83,7 @@ impl<T, A: Allocator> Objects<T, A> {
         self.slab.get_mut(place.index())
     }
 
-    /// Whether there is an object at `place`. One look-up, O(1).
+    /// Whether there is an object at `place`. The call makes one look-up. O(1).
     #[inline]
     pub fn is_placed(&self, place: Place) -> bool
         ensures { result ≡ is_placed self.now place }
@@ -92,7 +91,7 @@ impl<T, A: Allocator> Objects<T, A> {
         self.slab.contains(place.index())
     }
 
-    /// A reference to the object at `place`, `None` if the place is vacant. O(1).
+    /// A reference to the object at `place`, or `None` if the place is vacant. O(1).
     #[inline]
     pub fn at(&self, place: Place) -> Option<UnsafeRef<T>>
         ensures { result ≡ (if is_placed self.now place then Some place else None) }
@@ -104,7 +103,7 @@ impl<T, A: Allocator> Objects<T, A> {
         }
     }
 
-    /// The place that the next object gets: a vacant one, or `None` if there is no place left. O(1).
+    /// The vacant place that the next object gets, or `None` if there is no place left. O(1).
     #[inline]
     pub fn next_place(&self) -> Option<Place>
         ensures { MatchOption result (2 ^ 32 ≤ self.now.next)

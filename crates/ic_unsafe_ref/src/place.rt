@@ -1,4 +1,4 @@
-//! Places: where objects are kept, and how entries of links name them.
+//! A place is a position for one object in the store, and entries of links name objects by their places.
 //!
 //! ```text
 //! let third = Place::new(2)?; // Some: there are 4,294,967,296 places
@@ -11,13 +11,14 @@ ghost use Rattle.ic_unsafe_ref.specs.PlaceWords.{NamesPlace, IsWord};
 use crate::hint::assert_unchecked;
 use std::fmt;
 
-/// A place for one object, given by its index. [`Place::new`] makes only places with an index below 4,294,967,296, and
-/// tables cover only such places.
+/// A place for one object, named by its index. [`Place::new`] makes only places with an index below 4,294,967,296, and tables
+/// cover only places with such indexes.
 ///
-/// Its number is `2 * (index + 1)`. It is stored as its word, which is four times that number, and links store a neighbor as its word too.
-/// So a word is a multiple of 8, and never 0, and an entry of one word is found at that many bytes without a shift. A word may be any
-/// multiple of 8 below `2^36`, which is twice the range of the first 4,294,967,296 places. So the exclusive or of two words is a word again,
-/// and it is read without a test of its range.
+/// The number of a place is `2 * (index + 1)`. A place is stored as its word, which is four times its number, and links store a
+/// neighbor as its word as well. The word of a place is therefore a multiple of 8 and never 0. A word counts bytes, so a table
+/// with entries of one word finds an entry without a shift. A word can be any multiple of 8 below `2^36`, which is twice the
+/// range of the first 4,294,967,296 places. The exclusive or of two words is therefore a word again, and a place is read from it
+/// without a test of its range.
 #[derive(Clone, Copy, PartialEq, Eq, PartialOrd, Ord)]
 pub struct Place {
     word: u64,
@@ -30,7 +31,7 @@ impl Place {
     /// The greatest number of places that a table can cover.
     pub const COUNT: usize = 4_294_967_296;
 
-    /// The place with that index, or `None` if the index is 4,294,967,296 or more. O(1).
+    /// The place with the given index, or `None` if the index is 4,294,967,296 or more. O(1).
     #[inline]
     pub fn new(index: usize) -> Option<Place>
         ensures { MatchOption result (2 ^ 32 ≤ index) (λ place. (index_of place ≡ index) × index < 2 ^ 32) }
@@ -42,7 +43,7 @@ impl Place {
         }
     }
 
-    // The place with that index.
+    // The place with the given index.
     #[inline]
     #[tactic(auto, using(crate::proofs::PlaceLemmas::index_of_place))]
     pub(crate) fn of_index(index: usize) -> Place
@@ -66,10 +67,11 @@ impl Place {
         (word / 8 - 1) as usize
     }
 
-    /// The place that a word names, `None` if the word is 0. One test.
+    /// The place that a word names, or `None` if the word is 0. The call makes one test.
     ///
-    /// Tables and collections store neighbors and ends as such words, and copy them without decoding. It requires a
-    /// multiple of 8 below `2^36`. [`Place::to_word`] returns such a word, and the exclusive or of two of them is one. O(1).
+    /// Tables and collections store neighbors and ends as words, and copy the words without decoding them. The call requires a
+    /// multiple of 8 below `2^36`. [`Place::to_word`] returns such a word, and the exclusive or of two such words is one as well.
+    /// O(1).
     #[inline]
     #[tactic(auto, using(crate::proofs::PlaceLemmas::place_at_other))]
     pub fn from_word(word: u64) -> Option<Place>
@@ -83,7 +85,7 @@ impl Place {
         }
     }
 
-    /// The word for a place or none: `8 * (index + 1)`, or 0. O(1).
+    /// The word of a place is `8 * (index + 1)`, and the word for no place is 0. O(1).
     #[inline]
     #[tactic(auto, using(crate::proofs::PlaceLemmas::word_is))]
     pub fn to_word(place: Option<Place>) -> u64

@@ -1,4 +1,4 @@
-//! References to objects.
+//! This file defines references to objects.
 //!
 //! ```text
 //! let object = UnsafeRef::from_box(&mut objects, value)?;
@@ -13,10 +13,10 @@ use std::alloc::{AllocError, Allocator};
 use std::fmt;
 use std::marker::{Model, PhantomData};
 
-/// A reference to an object. It names the object by its place.
+/// A reference to an object. The reference names the object by its place.
 ///
-/// It owns nothing and keeps nothing alive. A place that was freed may be given to another object, and an old reference
-/// then names that object.
+/// The reference does not own the object and does not keep it in the store. A place that was freed may be given to another
+/// object. An old reference to the freed place then names the new object.
 pub struct UnsafeRef<T> {
     place: Place,
     of: PhantomData<T>,
@@ -37,7 +37,7 @@ impl<T> Drop for UnsafeRef<T> {
 }
 
 impl<T> UnsafeRef<T> {
-    /// The reference to whatever object is at `place`. O(1).
+    /// A reference to the object that is at `place`, whichever object it is. O(1).
     #[inline]
     pub fn new(place: Place) -> UnsafeRef<T>
         ensures { result ≡ place }
@@ -56,10 +56,10 @@ impl<T> UnsafeRef<T> {
         self.place
     }
 
-    /// Places `value` at the place that [`Objects::next_place`] returns, and returns a reference to it.
+    /// Puts `value` at the place that [`Objects::next_place`] returns, and returns a reference to the value.
     ///
-    /// It requires that there is such a place. If there is no memory for it, the value is returned in the error and
-    /// nothing has changed. O(1) on average, since the slab grows now and then.
+    /// The call requires that a place is left. If there is no memory for the value, the error returns the value and nothing has
+    /// changed. O(1) on average, because the slab grows from time to time.
     pub fn from_box<A: Allocator>(
         objects: &mut Objects<T, A>,
         value: T,
@@ -74,11 +74,11 @@ impl<T> UnsafeRef<T> {
         }
     }
 
-    /// Removes the object from its place and returns it. The place is vacant then, and a later object may get it: other
-    /// references to the removed object then name that object.
+    /// Removes the object from its place and returns it. The place is then vacant, and a later object may get the place. Other
+    /// references to the removed object then name the later object.
     ///
-    /// It requires that the place holds an object. Links are kept apart from objects, so a place that is linked stays
-    /// linked. O(1), and it takes no memory.
+    /// The call requires that the place has an object. Links are stored apart from objects, so a place that is linked stays
+    /// linked. O(1), and the call takes no memory.
     pub fn into_box<A: Allocator>(self, objects: &mut Objects<T, A>) -> T
         requires placed { is_placed objects.old self ≡ true }
         ensures value { object_at objects.old self ≡ Some result }
@@ -93,7 +93,7 @@ impl<T> Clone for UnsafeRef<T> {
 
     ghost is_infallible = { λ _. ⊤ };
 
-    /// The same reference. It never fails.
+    /// Returns a reference to the same object, and never fails.
     fn clone(&self) -> Result<Self, AllocError> {
         Ok(UnsafeRef::new(self.place))
     }

@@ -1,4 +1,4 @@
-//! Values that are found by a place: the objects, or an array with a value for each place.
+//! Values can be found by a place: the objects in a store, or the elements of an array with one value for each place.
 //!
 //! ```text
 //! let deadlines: Vec<u64> = ..;
@@ -12,18 +12,18 @@ use crate::hint::assert_unchecked;
 use crate::{Objects, Place};
 use std::alloc::Allocator;
 
-/// A source of values by place: [`Objects`], a slice or a `Vec` that is read at the index of the place, or a table of
-/// your own.
+/// A source of values by place. A source can be [`Objects`], a slice or a `Vec`, which is read at the index of the place, or a
+/// table of your own.
 ///
-/// Searches and inserts by keys read values through this trait alone. So you can keep keys in an array of their own, where
-/// reading a key is one load.
+/// Searches and inserts by keys read values only through this trait. You can therefore store keys in a separate array, from which
+/// one load reads a key.
 pub trait Values<V> {
     ghost use Rattle.ic_unsafe_ref.specs.Objects.{Objects};
 
-    // The values by place.
+    // `values` gives the store of values, each at its place.
     ghost values: { Self → Objects V };
 
-    /// The value at `place`. It requires that the place has a value. One look-up, O(1).
+    /// The value at `place`. The call requires that the place has a value. The call makes one look-up. O(1).
     fn value(&self, place: Place) -> &V
         requires placed { is_placed (values self.now) place ≡ true }
         ensures { object_at (values self.now) place ≡ Some result.now };
@@ -39,7 +39,7 @@ impl<V, A: Allocator> Values<V> for Objects<V, A> {
     }
 }
 
-// The value of a place by its index.
+// The element of the array at the index of the place.
 #[inline]
 fn value_in<V>(values: &[V], place: Place) -> &V
     requires placed { is_placed (at_indexes values.now) place ≡ true }

@@ -1,4 +1,4 @@
--- Where all steps of one list are claims, each place that was claimed is held at its end.
+-- If all steps of one list are claims, each place that was claimed is held at the end of the list.
 use Rattle.std.proofs.Common.{◌≡◌, ℕ, Bool, true, false, true≢false, cond, eqb, ◌||◌, List, [], ◌∷◌, map, refl, sym, ap, ◌∙◌, subst, eq-eqb, Option, Some, None, is_some}
 use Rattle.ic_link_ops.specs.Prelude.{Place, index_of}
 use Rattle.ic_atomic.specs.declared.step.Step.{Step}
@@ -14,7 +14,7 @@ IsClaim (Claim p) = Unit {0}
 IsClaim (Release p) = ⊥
 IsClaim (Look p) = ⊥
 
--- all steps are claims
+-- all steps of the record are claims
 abbrev pub OnlyClaims : List Event → Type 0
 OnlyClaims [] = Unit {0}
 OnlyClaims (e ∷ es) = IsClaim e.step × OnlyClaims es
@@ -23,7 +23,7 @@ abbrev AllClaims : List Entry → Type 0
 AllClaims [] = Unit {0}
 AllClaims (x ∷ xs) = IsClaim x.event.step × AllClaims xs
 
--- whether the place with that index is claimed by the step, by one of the events, by one of the entries
+-- whether the place with the index n is claimed by a step, by one of several events, or by one of several entries
 abbrev pub claims_at : ℕ → Step → Bool
 claims_at n (Claim p) = eqb n (index_of p)
 claims_at n (Release p) = false
@@ -37,7 +37,7 @@ abbrev asked : ℕ → List Entry → Bool
 asked n [] = false
 asked n (x ∷ xs) = claims_at n x.event.step || asked n xs
 
--- an entry stands in its holder's record
+-- if all steps in the record of an entry's holder are claims, the step of the entry is a claim, because it is in this record
 only_first : (b : Bool) (e : Event) (es : List Event) → b ≡ true → OnlyClaims (cond b (e ∷ es) es) → IsClaim e.step
 only_first true e es is only = only.0
 only_first false e es is only = absurd (true≢false (sym is))
@@ -67,7 +67,7 @@ is_asked : (h n : ℕ) (order : List Entry) → asks n (steps_of h order) ≡ tr
 is_asked h n [] e = e
 is_asked h n (x ∷ xs) e = asked_more (eqb x.holder h) (claims_at n x.event.step) n x.event (steps_of h xs) (asked n xs) refl (is_asked h n xs) e
 
--- a claim leaves no held place free,
+-- a place that is held is still held after a claim
 some_after : (o : Option ℕ) (a : ℕ) (s : Step) → IsClaim s → is_some o ≡ true → is_some (holder_after o a s) ≡ true
 some_after None a (Claim p) is e = refl
 some_after (Some b) a (Claim p) is e = refl
@@ -84,7 +84,7 @@ stay_held m (x ∷ xs) p all e =
     stay_held (map_after m x.holder x.event.step) xs p all.1
     (some_either (eqb (index_of p) (index_of (target x.event.step))) (holder_after (m p) x.holder x.event.step) (m p) (some_after (m p) x.holder x.event.step all.0 e) e)
 
--- and its own place not
+-- after a claim of a place, this place is held
 none_free : (o : Option ℕ) (a : ℕ) (p q : Place) → is_some (holder_after o a (Claim q)) ≡ true
 none_free None a p q = refl
 none_free (Some b) a p q = refl
@@ -112,7 +112,7 @@ some_party : (o : Option ℕ) → is_some o ≡ true → (h : ℕ) × (is_party 
 some_party None e = absurd (true≢false (sym e))
 some_party (Some h) e = (h, eq-eqb h h refl)
 
--- EACH PLACE THAT WAS CLAIMED IS HELD, where no record has any other step
+-- EACH PLACE THAT WAS CLAIMED IS HELD if the records have no other steps than claims
 pub claimed_is_held : (words : List ℕ) (records : List (List Event)) → IsOneList words records → ((h : ℕ) → OnlyClaims (record_at records h))
     → (h : ℕ) (p : Place) → asks (index_of p) (record_at records h) ≡ true → IsHeld records p
 claimed_is_held words records one only h p ask =

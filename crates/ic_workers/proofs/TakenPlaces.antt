@@ -1,4 +1,4 @@
--- Holders that have claimed the first places, each once, have shared them out.
+-- If each holder has claimed each of the first places once, the holders have shared the places out.
 use Rattle.std.proofs.Common.{◌≡◌, ◌<◌, ℕ, zero, suc, true, List, [], ◌∷◌, ◌++◌, map, length, refl, sym, ap, ◌∙◌, subst, arith, All, Vec}
 use Rattle.std.specs.List.{AllZip}
 use Rattle.std.proofs.lemmas.List.{length-map}
@@ -16,7 +16,7 @@ use Rattle.ic_workers.specs.declared.party.Gathered.{Gathered}
 use Rattle.ic_workers.proofs.OnlyClaims.{OnlyClaims, asks, claimed_is_held}
 use Rattle.ic_workers.proofs.Rows.{row_place, holds_chosen, only_each, asks_each, rises_chosen, has_place}
 
--- what a record says of a list: it has only claims, and its holder holds what is in the list
+-- a record agrees with a list: the record has only claims, and its holder holds exactly the places in the list
 record Fits (r : List Event) (s : List Place) : Type 0 where
   only : OnlyClaims r
   held : (p : Place) → holds p r ≡ has s (index_of p)
@@ -27,13 +27,13 @@ fits c = record {
   held = λ p. ap (holds p) c.claimed ∙ (holds_chosen p c.offered c.got c.each ∙ ap (λ l. has l (index_of p)) (sym c.are));
 }
 
--- one list more, as places
+-- if one more vector is given, the lists of places have one more list, with the places of this vector
 pub places_more : {B : Type 0} (ls : List (Vec Place B)) (v : Vec Place B) → places_in (ls ++ v ∷ []) ≡ places_in ls ++ v.items ∷ []
 places_more [] v = refl
 places_more (l ∷ ls) v = ap (λ (xs : List (List Place)). l.items ∷ xs) (places_more ls v)
 
 module _ {A : Type 0} (claims : Claims A) where
-  -- one pair more
+  -- if one more holder has taken the places of one more list, all holders have taken the places of their lists
   pub taken_more : (hs : List Holder) (ls : List (List Place)) (h : Holder) (s : List Place) → AllZip (HasTaken claims) hs ls → HasTaken claims h s
       → AllZip (HasTaken claims) (hs ++ h ∷ []) (ls ++ s ∷ [])
   taken_more [] [] h s have one = (one, tt)
@@ -41,7 +41,7 @@ module _ {A : Type 0} (claims : Claims A) where
   taken_more (g ∷ hs) [] h s have one = absurd have
   taken_more (g ∷ hs) (t ∷ ls) h s have one = (have.0, taken_more hs ls h s have.1 one)
 
-  -- what was gathered, with its list as places
+  -- a worker's result means that its holder has taken the places in its list
   pub has_taken : (gathered : Gathered A) (is : HasGathered claims gathered) {h : Holder} {s : List Place} → h ≡ gathered.holder → s ≡ is.list → HasTaken claims h s
   has_taken gathered is {h} {s} same places = record {
     made = rw same is.made;
@@ -65,7 +65,7 @@ module _ {A : Type 0} (claims : Claims A) where
       rw c.are (rises_chosen 0 (places_of claims) c.offered c.got c.row (omega (arith, long)))
   rises_each (g ∷ hs) (t ∷ ls) have (suc k) d low = rises_each hs ls have.1 k d (omega (arith, low))
 
-  -- the holders were made with the claims, and there are as many as lists
+  -- all these holders were made with the claims, and there are as many holders as lists
   pub each_made : (hs : List Holder) (ls : List (List Place)) → AllZip (HasTaken claims) hs ls → All (IsOf claims) hs
   each_made [] [] have k d low = absurd (omega (arith, low))
   each_made [] (t ∷ ls) have k d low = absurd have
@@ -79,14 +79,14 @@ module _ {A : Type 0} (claims : Claims A) where
   as_many (g ∷ hs) [] have = absurd have
   as_many (g ∷ hs) (t ∷ ls) have = ap suc (as_many hs ls have.1)
 
-  -- what each has claimed, by its record
+  -- by its record, each holder has claimed each of the first places once, and its list has the places whose claims succeeded
   claimed_each : (hs : List Holder) (ls : List (List Place)) → AllZip (HasTaken claims) hs ls → AllZip (ClaimedEach (places_of claims)) (map record_of hs) ls
   claimed_each [] [] have = tt
   claimed_each [] (t ∷ ls) have = absurd have
   claimed_each (g ∷ hs) [] have = absurd have
   claimed_each (g ∷ hs) (t ∷ ls) have = (have.0.claimed, claimed_each hs ls have.1)
 
-  -- the first record claims each place
+  -- the first record has a claim of each of the first places
   asks_first : (hs : List Holder) (ls : List (List Place)) → AllZip (HasTaken claims) hs ls → 0 < length ls → (n : ℕ) → n < places_of claims
       → (p : Place) × (index_of p ≡ n) × (asks (index_of p) (record_at (map record_of hs) 0) ≡ true)
   asks_first [] [] have some n low = absurd (omega (arith, some))
@@ -103,7 +103,7 @@ module _ {A : Type 0} (claims : Claims A) where
     held_by : (i n : ℕ) (p : Place) → index_of p ≡ n → has (list_at ls i) n ≡ true → holds p (record_at (map record_of hs) i) ≡ true
     held_by i n p is e = (fits_at hs ls have i).held p ∙ (ap (has (list_at ls i)) is ∙ e)
 
-    -- THE CLAIMS ARE ONE LIST, if the records are all
+    -- THE CLAIMS ARE ONE LIST OF STEPS if there is a record for each holder of the claims
     pub as_one_list : length ls ≡ holders_of claims → ClaimedAsOneList (holders_of claims) (places_of claims) ls
     as_one_list each = record {
       records = map record_of hs;
@@ -114,7 +114,7 @@ module _ {A : Type 0} (claims : Claims A) where
       one = whole.one;
     }
 
-    -- and the places are shared out
+    -- if there is a list for each holder of the claims, the first places are shared out among the holders
     pub shared_out : length ls ≡ holders_of claims → SharedOut (holders_of claims) (places_of claims) ls
     shared_out each = record {
       each = each;

@@ -4,13 +4,13 @@ use Rattle.std.proofs.lemmas.List.{append_cancel_left}
 use Rattle.ic_link_ops.specs.Prelude.{Place, Cut, join, first, IsAfter, IsBefore}
 use Rattle.ic_link_ops.proofs.SequenceLemmas.{first_is, last_of_push}
 
--- these members of s have been seen, and the position is on the first that has not
+-- the members `seen` of s have been seen, and the position is the first member of s that was not seen
 pub record Seen (seen : List Place) (position : Option Place) (s : List Place) : Type 0 where
   pub rest : List Place
   pub is : s ≡ seen ++ rest
   pub at : position ≡ first rest
 
--- a move sees one more
+-- if the walk moves on from the member p, one more member is seen
 pub seen_more : {seen : List Place} {position new_position : Option Place} {s : List Place} (k : Seen seen position s) (p : Place) → Some p ≡ position
     → ((gap : Cut) → s ≡ join gap → IsAfter gap position → IsBefore gap new_position) → Seen (seen ++ p ∷ []) new_position s
 seen_more {seen} {s} k p here leads =
@@ -22,7 +22,7 @@ seen_more {seen} {s} k p here leads =
       at = leads (record { front = seen ++ p ∷ []; back = drop 1 k.rest }) whole (sym here ∙ sym (last_of_push seen p));
     }
 
--- and one fewer is left
+-- if one more member is seen, one member fewer is left
 pub seen_less : {seen : List Place} {p : Place} {position new_position : Option Place} {s : List Place} (k : Seen seen position s) (m : Seen (seen ++ p ∷ []) new_position s)
     → k.rest ≡ p ∷ m.rest
 seen_less {seen} {p} k m = append_cancel_left seen k.rest (p ∷ m.rest) (sym k.is ∙ (m.is ∙ append_assoc seen (p ∷ []) m.rest))

@@ -3,7 +3,7 @@ use Rattle.std.specs.Prelude.{ℕ, zero, suc, ◌+◌, nat_lt, if◌then◌else�
 use Rattle.ic_unsafe_ref.specs.declared.place.Place.{Place}
 use Rattle.ic_workers.specs.SharedOut.{has}
 
--- how many of the lists contain the place with this index
+-- how many of the lists contain the place with the index n
 abbrev pub times : List (List Place) → ℕ → ℕ
 times [] n = 0
 times (s ∷ lists) n = (if has s n then 1 else 0) + times lists n

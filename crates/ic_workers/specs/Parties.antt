@@ -1,4 +1,4 @@
--- What a worker's party has before it claims the first places, and after.
+-- What the party of a worker has before and after it claims the first places. A party is a claim holder with a table and a list of its own.
 use Rattle.std.specs.Prelude.{◌≡◌, List, [], length}
 use Rattle.ic_unsafe_ref.specs.declared.place.Place.{Place}
 use Rattle.ic_link_ops.specs.declared.link_ops.LinkOps.{Ghosts}
@@ -12,7 +12,7 @@ use Rattle.ic_workers.specs.declared.party.Party.{Party}
 use Rattle.ic_workers.specs.declared.party.Gathered.{Gathered}
 
 module _ {A E : Type 0} {g : Ghosts (DoublyLinkOps A) E} where
-  -- the party has claimed nothing yet. It has the first places to claim, its table covers them, and its list is empty
+  -- The party has claimed nothing yet. The party is given the first places in order, its table covers these places, and its list is empty
   pub record IsReady (claims : Claims A) (party : Party A E g) : Type 0 where
     pub claims_are : claims_of party.links ≡ claims
     pub covers : (plain_table (links_of party.links)).extent.places ≡ places_of claims
@@ -22,14 +22,14 @@ module _ {A E : Type 0} {g : Ghosts (DoublyLinkOps A) E} where
     pub long : length party.offered.now ≡ places_of claims
 
 module _ {A : Type 0} where
-  -- the party has claimed them, and its list has the places whose claims succeeded
+  -- the party has claimed each of the first places once, and its list has the places whose claims succeeded
   pub record HasGathered (claims : Claims A) (gathered : Gathered A) : Type 0 where
     pub made : IsOf claims gathered.holder
     pub list : List Place
     pub shows : PlainRepresents gathered.table gathered.list list
     pub claimed : ClaimedEach (places_of claims) (record_of gathered.holder) list
 
-  -- the same for a holder and its list
+  -- the holder has claimed each of the first places once, and `list` has the places whose claims succeeded
   pub record HasTaken (claims : Claims A) (holder : Holder) (list : List Place) : Type 0 where
     pub made : IsOf claims holder
     pub claimed : ClaimedEach (places_of claims) (record_of holder) list

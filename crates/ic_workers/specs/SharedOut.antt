@@ -1,36 +1,36 @@
--- Places that are shared out: each of them is in exactly one of several lists.
+-- Places that are shared out: each place is in exactly one of several lists.
 use Rattle.std.specs.Prelude.{◌≡◌, ℕ, ◌+◌, ◌<◌, ◌≤◌, ◌==◌, ◌||◌, Bool, true, false, List, [], ◌∷◌, map, length, slice_index_or, Vec, All}
 use Rattle.ic_link_ops.specs.Prelude.{Place, index_of}
 
--- whether the list contains the place with this index
+-- whether the list contains the place with the index i
 abbrev pub has : List Place → ℕ → Bool
 has [] i = false
 has (p ∷ s) i = (i == index_of p) || has s i
 
--- the list rises: each index is larger than the one before it, at least `low` and below `high`
+-- the list rises: the index of each place is larger than the index before it, at least `low` and below `high`
 abbrev pub Rises : ℕ → ℕ → List Place → Type 0
 Rises low high [] = Unit {0}
 Rises low high (p ∷ s) = (low ≤ index_of p) × (index_of p < high) × Rises (index_of p + 1) high s
 
--- the places in several lists
+-- the places of each of the given lists
 abbrev pub places_in : {A : Type 0} → List (Vec Place A) → List (List Place)
 places_in lists = map (λ list. list.items) lists
 
--- the list with that number, counted from 0, or the empty list if there is none
+-- the list with the number i, counted from 0, or the empty list if no list has this number
 abbrev pub list_at : List (List Place) → ℕ → List Place
 list_at lists i = slice_index_or lists i []
 
--- THE FIRST `places` PLACES ARE SHARED OUT among `workers` workers
+-- THE FIRST `places` PLACES ARE SHARED OUT among `workers` workers: each worker has a list, and if there is a worker, each place is in exactly one of the lists
 pub record SharedOut (workers places : ℕ) (lists : List (List Place)) : Type 0 where
   -- There is one list for each worker.
   pub each : length lists ≡ workers
-  -- It rises, and contains only places among the first ones.
+  -- Each list rises, and contains only places among the first ones.
   pub rises : All (Rises 0 places) lists
-  -- No place is in two of the lists,
+  -- No place is in two of the lists.
   pub apart : (i k n : ℕ) → has (list_at lists i) n ≡ true → has (list_at lists k) n ≡ true → i ≡ k
-  -- and, if there is a worker, each place is in one.
+  -- If there is a worker, each of the first places is in one of the lists.
   pub all : 0 < workers → (n : ℕ) → n < places → (i : ℕ) × (has (list_at lists i) n ≡ true)
 
--- A GATE HAS THE COUNTS of these workers, numbered from 1: each of them has reported that it has had this many answers
+-- A GATE HAS THE COUNTS OF THE WORKERS: each worker, numbered from 1, has reported to the gate that it has had `answered` answers
 abbrev pub IsReportedOfEach : (ℕ → ℕ → Type 0) → ℕ → ℕ → Type 0
 IsReportedOfEach Reported workers answered = (worker : ℕ) → 0 < worker → worker ≤ workers → Reported worker answered

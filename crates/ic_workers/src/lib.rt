@@ -1,4 +1,4 @@
-//! Workers in threads of their own. All of them try to claim the same places, and each place is claimed by exactly one of them.
+//! Workers in threads of their own. All workers try to claim the same places, and each place is claimed by exactly one worker.
 //!
 //! ```text
 //! let lists = fan_out(&rt, rt.alloc(), 4, 1000, &gate)?; // a list of places for each of 4 workers

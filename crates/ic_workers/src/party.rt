@@ -1,4 +1,4 @@
-//! What a worker has: its own links, its own list, and the places that it is to claim.
+//! What a worker has: its own links, its own list, and the places that the worker is to claim.
 
 ghost use Rattle.std.specs.Prelude.{◌≡◌, [], List, All, IfOk, length};
 ghost use Rattle.ic_unsafe_ref.specs.declared.place.Place.{Place};
@@ -17,14 +17,14 @@ use std::alloc::{AllocError, Allocator};
 use std::snapshot::Snapshot;
 use std::thread::Promise;
 
-// What all workers share: the claim words, and the places that they are to claim.
+// What all workers share: the claim words, and the places that the workers are to claim.
 #[derive(Drop)]
 pub(crate) struct Offer<'c, A: Allocator> {
     pub(crate) claims: &'c Claims<A>,
     pub(crate) offered: &'c [UnsafeRef<()>],
 }
 
-// A worker's own links and its own list, with the places that it is to claim. The objects have a size of 0 bytes, since only their places matter.
+// A worker's own links and its own list, with the places that the worker is to claim. The objects have a size of 0 bytes, since only their places matter.
 #[derive(Drop)]
 pub(crate) struct Party<'c, A: Allocator>
 where
@@ -63,7 +63,8 @@ impl<'c, A: Allocator + Copy> Party<'c, A> {
 impl<A: Allocator> Party<'_, A> {
     ghost use Rattle.ic_atomic.specs.AtomicLinks.{claims_of};
 
-    // Tries to claim each offered place, and appends to its list the places whose claims succeed. It reports to the gate under this number.
+    // Tries to claim each offered place, and appends to the party's list the places whose claims succeed. The party reports to the gate under the number
+    // `number`.
     pub(crate) fn work<G: Gate>(self, number: usize, gate: &G) -> Gathered<A>
         requires { IsReady (claims_of self.links) self }
         ensures gathered { HasGathered (claims_of self.entry.links) result }
@@ -84,7 +85,7 @@ impl<A: Allocator> Party<'_, A> {
     }
 }
 
-// What a worker returns: its holder, and its list with the table that represents it.
+// What a worker returns: its holder, and its list with the table that represents this list.
 #[derive(Drop)]
 pub(crate) struct Gathered<A: Allocator> {
     holder: Holder,
@@ -130,8 +131,8 @@ fn members<L: LinkedListOps, A: Allocator>(
     Ok(places)
 }
 
-// What a worker's thread guarantees about its result: the worker has tried to claim each place of these claims, and has reported this to the gate
-// under its number.
+// What a worker's thread guarantees about its result: the worker has tried to claim each place of the claims, and has reported each try to the gate under its
+// number.
 #[derive(Drop)]
 pub(crate) struct ClaimedAll<A: Allocator, G> {
     pub(crate) claims: Snapshot<Claims<A>>,

@@ -17,7 +17,7 @@ use std::sync::Wait;
 use std::thread;
 use std::thread::Threads;
 
-// Returns the first places, in order.
+// Returns the first `count` places, in order.
 fn first_places<A: Allocator>(alloc: A, count: usize) -> Result<Vec<UnsafeRef<()>, A>, AllocError>
     requires { count ≤ 4294967296 }
     ensures row { IfOk result (λ places. IsRow 0 places.items) }
@@ -32,7 +32,7 @@ fn first_places<A: Allocator>(alloc: A, count: usize) -> Result<Vec<UnsafeRef<()
     Ok(places)
 }
 
-// Makes a party for each holder.
+// Makes a party for each holder, with links and a list of its own.
 fn parties<'c, A: Allocator + Copy>(
     alloc: A,
     offer: &Offer<'c, A>,
@@ -51,7 +51,7 @@ fn parties<'c, A: Allocator + Copy>(
     Ok(parties)
 }
 
-// Lets each party work in a thread of its own, numbered from 1, and returns all of them when all are done.
+// Lets each party work in a thread of its own, and returns all parties' results when all threads are done. The parties are numbered from 1.
 fn in_threads<R: Threads + Wait + Sync, A: Allocator + Copy + Send + Sync, G: Gate + Sync>(
     rt: &R,
     alloc: A,
@@ -96,7 +96,7 @@ fn in_threads<R: Threads + Wait + Sync, A: Allocator + Copy + Send + Sync, G: Ga
     )
 }
 
-// Returns the holders, and the places in their lists.
+// Returns the holders of the workers, and the places in the workers' lists.
 fn take_apart<A: Allocator + Copy>(
     alloc: A,
     claims: &Claims<A>,
@@ -117,7 +117,7 @@ fn take_apart<A: Allocator + Copy>(
     Ok((holders, lists))
 }
 
-// Returns the lists of all holders of the claims.
+// Lets all holders of the claims claim the places in threads of their own, and returns the list of each holder.
 fn fan_out_over<R: Threads + Wait + Sync, A: Allocator + Copy + Send + Sync, G: Gate + Sync>(
     rt: &R,
     alloc: A,
@@ -144,17 +144,17 @@ fn fan_out_over<R: Threads + Wait + Sync, A: Allocator + Copy + Send + Sync, G: 
     Ok(lists)
 }
 
-/// Starts `workers` threads that all try to claim the first `places` places, and returns the lists of the places that they got, in the order of the
-/// workers.
+/// Starts `workers` threads that all try to claim the first `places` places. The call returns a list for each worker, in the order of the workers, of the
+/// places that the worker got.
 ///
-/// Each worker has links and a list of its own. It tries to claim each place, in rising order, and appends those that it gets to its list. The
-/// workers are numbered from 1, and each reports to the gate under its number how far it is, as in [`gather`](ic_atomic::gather). It is left open
-/// which worker gets which place: each gets a rising list, and each place is in exactly one of them. One sequence of steps has each worker's claims
-/// in the order in which that worker made them, and explains the result of every claim.
+/// Each worker has links and a list of its own. A worker tries to claim each place, in rising order, and appends the places that it gets to its list. The
+/// workers are numbered from 1, and each reports to the gate under its number how far it is, as in [`gather`](ic_atomic::gather). The contract leaves open
+/// which worker gets which place. Each worker gets a rising list, and each place is in exactly one of the lists. One sequence of steps has each worker's claims
+/// in the order in which the worker made them. The result of every claim follows from this sequence.
 ///
-/// It is refused if `places` is above 4,294,967,296, if there is not enough memory, or if a thread cannot be started, which is `OutOfMemory`, too.
-/// Then it waits first until the workers that have begun are done. It waits for all its threads. It allocates all memory before it starts the first
-/// thread, except that of the lists at the end. O(workers * places).
+/// The call is refused if `places` is above 4,294,967,296, if there is not enough memory, or if a thread cannot be started. The error for a thread that cannot
+/// be started is also `OutOfMemory`. A refused call first waits until the workers that have begun are done. The call waits for all its threads. The call
+/// allocates all memory before it starts the first thread, except the memory for the lists at the end. O(workers * places).
 pub fn fan_out<R: Threads + Wait + Sync, A: Allocator + Copy + Send + Sync, G: Gate + Sync>(
     rt: &R,
     alloc: A,

@@ -1,4 +1,4 @@
--- That a world's collections share no member, and that each is placed, from what it keeps.
+-- From the invariant of a world it follows that its collections share no member, and that there is an object at each member.
 use Rattle.std.proofs.Common.{◌≡◌, ℕ, List, Option, Some, None, [], ◌∷◌, refl, sym, ap, ◌∙◌, subst}
 use Rattle.ic_link_ops.specs.Prelude.{Place, Objects, IsDistinct, IsDisjoint, Table, ArePlaced}
 use Rattle.ic_link_ops.proofs.SequenceLemmas.{some_same}
@@ -8,12 +8,12 @@ use Rattle.ic_world.specs.declared.collection.Collection.{Collection}
 use Rattle.ic_world.specs.Tables.{table, sequence, seen_as, represented_as, at, family_of, IsWhole}
 use Rattle.ic_world.specs.Family.{Sequence, collection}
 use Rattle.ic_world.specs.Apart.{AreApart, AreAllPlaced}
-use Rattle.ic_world.proofs.OneCall.{all_placed}
+use Rattle.ic_world.proofs.CollectionCall.{all_placed}
 use Rattle.ic_world.proofs.Readings.{collection_at}
 
--- NO MEMBER IS SHARED, as a world keeps it
+-- NO MEMBER IS SHARED: this follows if the tables, objects and collections are those of a whole world
 module _ {A V : Type 0} (adapter : A) {objects : Objects V} {room : ℕ} {ts : List (Table Entry)} {cs : List (Option (Collection V))} (whole : IsWhole objects room ts cs) where
-  -- what a collection of the family is
+  -- each collection of the family is represented by the tables for a stored collection k
   seen : (o : Option (Collection V)) (s : Sequence) → represented_as ts o ≡ Some s → (k : Collection V) × (o ≡ Some k) × (seen_as k (sequence ts k) ≡ s)
   seen None s e = absurd cc
   seen (Some k) s e = (k, refl, some_same e)
@@ -31,7 +31,7 @@ module _ {A V : Type 0} (adapter : A) {objects : Objects V} {room : ℕ} {ts : L
         (whole.apart c d k.0 l.0 differ k.1 l.1 (ap (λ x. x.field) k.2 ∙ same ∙ sym (ap (λ x. x.field) l.2))))),
   )
 
-  -- EVERY MEMBER IS PLACED
+  -- EVERY MEMBER IS PLACED: there is an object at each member of each collection of the family
   placed_there : (s : List Place) → ArePlaced objects s → ArePlaced (record { values = objects.values; next = 0 }) s
   placed_there [] placed = tt
   placed_there (p ∷ s) placed = (placed.0, placed_there s placed.1)

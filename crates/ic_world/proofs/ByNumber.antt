@@ -1,4 +1,4 @@
--- Collections by number and by field: what one call leaves of both.
+-- Collections by number and by field: what stays true of their slots and lists if one collection changes.
 use Rattle.std.proofs.Common.{◌≡◌, ◌≢◌, ℕ, zero, suc, ◌<◌, ◌≤◌, inl, inr, List, [], ◌∷◌, ◌++◌, length, map, set, get_or, Option, Some, None, refl, sym, ap, ◌∙◌, subst, arith}
 use Rattle.std.specs.Prelude.{IsSome, slice_get}
 use Rattle.std.proofs.lemmas.Bool.{cases_eq}
@@ -13,7 +13,7 @@ use Rattle.ic_world.specs.Tables.{at}
 use Rattle.ic_world.specs.Collections.{having, with_members}
 use Rattle.ic_world.specs.ByNumber.{items_of, live_in, disposed, lying, in_field, in_slot, by_number, AreNumbered}
 
--- an item, where one was written or appended
+-- which item a list has at an index, after an item was written at some index or appended
 pub get_written : {X : Type 0} (xs : List X) (i : ℕ) (x : X) → i < length xs → slice_get (set xs i x) i ≡ Some x
 get_written [] i x h = absurd (omega (arith, h))
 get_written (y ∷ xs) zero x h = refl
@@ -47,7 +47,7 @@ none_is_some e there = let no = subst IsSome e there in cc
 pub some_not_none : {X : Type 0} {o : Option X} {x : X} → o ≡ Some x → o ≡ None → ⊥
 some_not_none e h = cc
 
--- the live collections of each field
+-- a list of the live collections for each field, by the number of the field
 abbrev pub Lists : Type 0 → Type 0
 Lists V = List (List (Numbered V))
 
@@ -61,7 +61,7 @@ module _ {V : Type 0} where
   at_number ls (s ∷ ns) zero = refl
   at_number ls (s ∷ ns) (suc c) = at_number ls ns c
 
-  -- what a call represents, if it represents the same under all numbers but one
+  -- if slots and lists lead to the same collection under each number except c, then only the collection with number c has changed, to x
   pub shows : (ls new : Lists V) (ns after : List Slot) (c : ℕ) (x : Option (Collection V)) → length after ≡ length ns
       → ((d : ℕ) → d ≢ c → shown new (slice_get after d) ≡ shown ls (slice_get ns d)) → shown new (slice_get after c) ≡ x → by_number new after ≡ set (by_number ls ns) c x
   shows ls new ns after c x count others here =
@@ -74,18 +74,18 @@ module _ {V : Type 0} where
       ])
 
   module _ {ls : Lists V} {ns : List Slot} (are : AreNumbered ls ns) where
-    -- what lies in the slot of a number has that number
+    -- a collection to which the slot of the number c leads has the number c
     pub number_is : (c : ℕ) (s : Slot) (n : Numbered V) → slice_get ns c ≡ Some s → lying ls s.field s.index ≡ Some n → n.number ≡ c
     number_is c s n is lies =
         let m = are.kept c s is (λ e. let low = are.before s.field s.index n lies in omega (arith, low, e)) in
         ap (λ (x : Numbered V). x.number) (same_Some _ _ (sym lies ∙ m.1))
 
-    -- so no two numbers have one slot
+    -- no two numbers have the same slot, if a live collection is there
     pub number_apart : (c d : ℕ) (s t : Slot) (n : Numbered V) → slice_get ns c ≡ Some s → slice_get ns d ≡ Some t → lying ls s.field s.index ≡ Some n → t.field ≡ s.field → t.index ≡ s.index → d ≡ c
     number_apart c d s t n is_s is_t lies f i =
         sym (number_is d t n is_t (ap (λ x. lying ls x t.index) f ∙ ap (lying ls s.field) i ∙ lies)) ∙ number_is c s n is_s lies
 
-  -- another item at one index of one field
+  -- `written_here`: another item was written at the index i in the list of the field f
   written_here : (ls : Lists V) (f i : ℕ) (n : Numbered V) → f < length ls → i < length (live_in ls f) → lying (set ls f (set (live_in ls f) i n)) f i ≡ Some n
   written_here ls f i n in_ls in_f =
       ap (λ xs. slice_get xs i) (get_or-set_same ls f (set (live_in ls f) i n) [] in_ls) ∙ get_written (live_in ls f) i n in_f
@@ -103,7 +103,7 @@ module _ {V : Type 0} where
   field_within (l ∷ ls) zero i n e = omega arith
   field_within (l ∷ ls) (suc f) i n e = let low = field_within ls f i n e in omega (arith, low)
 
-  -- OTHER MEMBERS of one collection, in place
+  -- THE LIST OR TREE OF ONE COLLECTION IS REPLACED by m, at the same index of the same field
   module _ {ls : Lists V} {ns : List Slot} (are : AreNumbered ls ns) (c : ℕ) (s : Slot) (is : slice_get ns c ≡ Some s) (n : Numbered V) (lies : lying ls s.field s.index ≡ Some n) (m : AnyCollection V) where
     abbrev f : ℕ
     f = s.field
@@ -129,7 +129,7 @@ module _ {V : Type 0} where
     apart : (g j : ℕ) → (g ≡ f → j ≡ i → ⊥) → lying new g j ≡ lying ls g j
     apart g j differ = written_apart ls f i one g j in_ls differ
 
-    -- each item is the one that lay there, but for its members
+    -- each item has the number of the item that was at the same index before. Only its members may differ
     was : (g j : ℕ) (x : Numbered V) → lying new g j ≡ Some x → (y : Numbered V) × (lying ls g j ≡ Some y) × (y.number ≡ x.number)
     was g j x e = elim (cases_eq g f) [
       | inr other ↦ (x, sym (apart g j (λ same _. other same)) ∙ e, refl)
@@ -170,7 +170,7 @@ module _ {V : Type 0} where
             by None e = refl
             by (Some t) e = ap (in_field t.field) (apart t.field t.index (λ same at_i. other (number_apart are c d s t n is e lies same at_i)))
 
--- WHAT A CALL READS under the number of a collection: its slot, and what lies there
+-- WHAT A CALL READS under the number c of a collection: the slot s of the number, and the collection to which the slot leads
 pub record Reads {V : Type 0} (ls : Lists V) (ns : List Slot) (c : ℕ) (s : Slot) : Type 0 where
   pub slot : slice_get ns c ≡ Some s
   pub one : Numbered V
@@ -197,7 +197,7 @@ module _ {V : Type 0} {cs : List (Option (Collection V))} (ls : Lists V) (ns : L
 pub reads_live : {V : Type 0} {ls : Lists V} {ns : List Slot} → AreNumbered ls ns → (c : ℕ) (s : Slot) → slice_get ns c ≡ Some s → s.index ≢ disposed → Reads ls ns c s
 reads_live are c s is live = let y = are.kept c s is live in record { slot = is; one = record { number = c; members = y.0 }; lies = y.1 }
 
--- and what a read of the lists finds: the list of the field, and what lies in it
+-- a call that reads the lists finds the list of the slot's field, and in it the collection at the slot's index
 module _ {V M : Type 0} (lists : List (Vec (Numbered V) M)) (ns : List Slot) (c : ℕ) (s : Slot) (r : Reads (map items_of lists) ns c s) where
   pub field_there : s.field < length lists
   field_there = rw (length-map lists (items_of {V = V} {M = M})) at (field_within (map items_of lists) s.field s.index r.one r.lies)
@@ -212,7 +212,7 @@ module _ {V M : Type 0} (lists : List (Vec (Numbered V) M)) (ns : List Slot) (c 
     pub one_is : (x : Numbered V) → x ≡ get_or list.items s.index x → x ≡ r.one
     one_is x at_index = at_index ∙ get_or_from_slice_get list.items s.index r.one x (ap (λ xs. slice_get xs s.index) (sym list_is) ∙ r.lies)
 
-    -- OTHER MEMBERS in what lies there
+    -- THE LIST OR TREE of the found collection is replaced by m, and the list of the field is written back
     module _ (x : Numbered V) (at_index : x ≡ get_or list.items s.index x) (m : AnyCollection V) (v : Vec (Numbered V) M) (set_in : v.items ≡ set list.items s.index (record { number = x.number; members = m })) where
       abbrev other : Numbered V
       other = record { number = r.one.number; members = m }

@@ -1,4 +1,4 @@
--- What holds where no test of a splice refuses it, and the splice by its parts.
+-- What holds of a splice that no test refuses, and how the splice follows from its parts.
 use Rattle.std.proofs.Common.{◌≡◌, ◌≢◌, ℕ, Bool, true, false, not, nat_eq, List, [], ◌∷◌, set, Option, Some, None, map, get_or, refl, sym, ap, ◌∙◌, subst, inl, inr, ne_eqb, eq-eqb, ◌<◌, length, arith}
 use Rattle.std.proofs.lemmas.Bool.{cases_eq}
 use Rattle.std.proofs.lemmas.Option.{same_Some}
@@ -30,7 +30,7 @@ use Rattle.ic_world.proofs.Steps.{asks_none}
 pub eq_of : (m n : ℕ) → nat_eq m n ≡ true → m ≡ n
 eq_of m n t = elim (cases_eq m n) [ inl e ↦ e | inr d ↦ absurd (let f : nat_eq m n ≡ false = ne_eqb m n d in cc) ]
 
--- a splice that no test refuses is of two collections of one kind and field, which has the call
+-- if no test refuses a splice, the two collections differ, have one kind and one field, and their kind has the call
 pub can_splice_of : {A V : Type 0} (old : Family A V) (has : Kind → Bool) (c d : ℕ) (s t : Sequence) → collection old c ≡ Some s → collection old d ≡ Some t → refusal_of_splice old has c d ≡ None
     → (has s.kind ≡ true) × (same_kind s.kind t.kind ≡ true) × (c ≢ d) × (s.field ≡ t.field)
 can_splice_of old has c d s t is_s is_t e =
@@ -44,7 +44,7 @@ can_splice_of old has c d s t is_s is_t e =
     )
 
 module _ {V : Type 0} where
-  -- two collections that can be spliced
+  -- the collections k and l, with the numbers c and d, can be spliced
   record CanSplice (has : Kind → Bool) (cs : List (Option (Collection V))) (c d : ℕ) (k l : Collection V) : Type 0 where
     is_k : at cs c ≡ Some k
     is_l : at cs d ≡ Some l
@@ -71,7 +71,7 @@ module _ {V : Type 0} where
     two (Some k) None none is_k is_l = absurd (let e = rw (collection_is adapter objects ts cs c k is_k, collection_at adapter objects ts cs d, is_l) at none in cc)
     two (Some k) (Some l) none is_k is_l = (k, l, fit k l none is_k is_l)
 
--- A SPLICE that no test refuses
+-- A SPLICE that no test refuses: `none` says that no refusal applies
 module _ {A V : Type 0} {adapter : A} {objects : Objects V} {room : ℕ} {ts : List (Table Entry)} {cs : List (Option (Collection V))} (whole : IsWhole objects room ts cs)
     {old : Family A V} (view : family_of adapter objects ts cs ≡ old) (before : Bool) (c d : ℕ) (none : refusal_of_splice old (can_splice before) c d ≡ None) where
   none_now : refusal_of_splice (family_of adapter objects ts cs) (can_splice before) c d ≡ None
@@ -102,11 +102,11 @@ module _ {A V : Type 0} {adapter : A} {objects : Objects V} {room : ℕ} {ts : L
     apart = subst (λ s. IsDisjoint s (sequence ts k)) (sym given_is) (whole.apart d c l k (λ e. fits.differ (sym e)) fits.is_l fits.is_k (sym fits.fields));
   }
 
-  -- what is asked of them
+  -- the two collections meet what the splice requires
   pub can_be_joined : CanBeJoined before ts cs c d
   can_be_joined = record { list = k; given = l; list_is = fits.is_k; given_is = fits.is_l; differ = fits.differ; can = fit_together }
 
-  -- THE INVARIANT and THE STEP
+  -- THE INVARIANT holds after the splice, and THE STEP of the model is the splice
   pub joined : {us : List (Table Entry)} {new : List (Option (Collection V))} → AreJoined before ts us cs new c d
       → IsWhole objects room us new × StepSplice (IsBesideOf before) (can_splice before) old c d done (family_of adapter objects us new)
   joined {us} joins =
@@ -134,7 +134,8 @@ module _ {A V : Type 0} {adapter : A} {objects : Objects V} {room : ℕ} {ts : L
             )),
           )
 
--- TWO COLLECTIONS THAT CAN BE SPLICED, as they are read: `field` and `k` are the first one's, and `l` the given one's members, which are taken before
+-- TWO COLLECTIONS THAT CAN BE SPLICED, as the call reads them. `field` and `k` are the field and the members of the first collection. `l` are the
+-- members of the given collection, which are taken from it before `k` is read
 module _ {V M : Type 0} {before : Bool} (tables : List (WorldField M)) {cs : List (Option (Collection V))} {c d : ℕ} (can : CanBeJoined before (map table_of tables) cs c d) (field : ℕ) (has : Some field ≡ its_field (at cs c)) where
   field_within : field < length tables
   field_within =
@@ -176,11 +177,11 @@ module _ {V M : Type 0} {before : Bool} (tables : List (WorldField M)) {cs : Lis
         all : members_in t taken ≡ members_in t l
         all = one_sequence t (subst IsLawful (sym read) (lawful_field now.links)) taken (members_in t l) (same t (members_in t l) pair_fits.given).shown
 
-        -- the members that are put beside the cursor of the first list, as that asks
+        -- the table keeps the taken members, as the call requires that inserts them beside the cursor of the first list
         pub taken_held : Held (table_of now) taken
         taken_held = subst (λ u. Held u taken) read (subst (Keeps t taken) (sym all) (same t (members_in t l) pair_fits.given))
 
-        -- and what is left
+        -- if the given list was emptied and its members were inserted beside the cursor of the first list, the collections c and d are spliced
         pub joined_by : Emptied l emptied → (nf : WorldField M) (m : AnyCollection V) → PutsBeside before (table_of now) (table_of nf) k m (members_in (table_of now) taken)
             → AreJoined before (map table_of tables) (map table_of (set tables field nf)) cs (with_members between c m) c d
         joined_by e nf m puts x y is_x is_y =

@@ -1,4 +1,4 @@
--- A collection less, which was cleared.
+-- A collection is disposed of: its members are removed first, and then its number names no collection.
 use Rattle.std.proofs.Common.{◌≡◌, ℕ, inl, inr, Bool, List, length, set, Option, Some, None, refl, sym, ap, ◌∙◌, arith}
 use Rattle.std.proofs.lemmas.Bool.{cases_eq}
 use Rattle.std.proofs.lemmas.List.{get_or-set_same, get_or-set_other, get_or_past, length-set, map-set, set-set}
@@ -8,8 +8,8 @@ use Rattle.ic_any_collection.specs.declared.entry.Entry.{Entry}
 use Rattle.ic_world.specs.declared.collection.Collection.{Collection}
 use Rattle.ic_world.specs.declared.call.Refusal.{Refusal}
 use Rattle.ic_world.specs.declared.call.Command.TheVariants.{Dispose}
-use Rattle.ic_world.specs.declared.calls.one_call.Call.TheVariants as one
-use Rattle.ic_world.specs.declared.calls.whole.Whole.TheVariants.{Clear}
+use Rattle.ic_world.specs.declared.calls.collection_call.Call.TheVariants as one
+use Rattle.ic_world.specs.declared.calls.bulk_edit.BulkEdit.TheVariants.{Clear}
 use Rattle.ic_world.specs.Family.{Family, Sequence, collection, linked_of, with_collection, with_linked}
 use Rattle.ic_world.specs.Calls.{State, Reply, done, refused, cleared, unlinked}
 use Rattle.ic_world.specs.LeftLinked.{NoneLeftLinked}
@@ -31,7 +31,7 @@ module _ {V : Type 0} where
     | inr other ↦ sym (get_or-set_other cs c d None None other) ∙ is
   ]
 
-  -- THE INVARIANT with a collection less
+  -- THE INVARIANT still holds if the collection with the number c is removed
   pub dropped_whole : {objects : Objects V} {room : ℕ} {ts : List (Table Entry)} {cs : List (Option (Collection V))} → IsWhole objects room ts cs → (c : ℕ) → IsWhole objects room ts (set cs c None)
   dropped_whole {cs = cs} whole c = record {
     within = whole.within;
@@ -48,34 +48,34 @@ module _ {V : Type 0} where
       let collections = map-set (represented_as ts) cs c None in
       λ i. record (family_of adapter objects ts cs) { collections = collections i }
 
--- what is accepted by a step that no test refuses
+-- a step that no test refuses is accepted, so that what an accepted call does holds of it
 taken_step : {A V : Type 0} (refusal : Option Refusal) (accepts : Reply → Family A V → Type 0) (old : Family A V) (reply : Reply) (new : Family A V) → refusal ≡ None → StepBy refusal accepts old reply new → accepts reply new
 taken_step None accepts old reply new e h = h
 taken_step (Some r) accepts old reply new e h = absurd cc
 
--- `cmp`, `key_of`: the order of the keys, and the key of a value
+-- `cmp` is the order of the keys, and `key_of` computes the key of a value
 module _ {A V K : Type 0} (cmp : K → K → Ordering) (key_of : A → V → K) (old mid : Family A V) (c : ℕ) where
-  -- THE STEP of a disposal, by that of a clear: its refusal is the same
-  pub dispose_refused : (r : Refusal) → StepOn cmp key_of old c (one.Whole Clear) (refused r) mid → Step cmp key_of old (Dispose c) (refused r) mid
+  -- THE STEP OF A DISPOSAL follows from the step of `clear`. Both calls are refused in the same cases
+  pub dispose_refused : (r : Refusal) → StepOn cmp key_of old c (one.BulkEdit Clear) (refused r) mid → Step cmp key_of old (Dispose c) (refused r) mid
   dispose_refused r step = by (collection old c) refl step
     where
-      by : (o : Option Sequence) → collection old c ≡ o → StepOn cmp key_of old c (one.Whole Clear) (refused r) mid → Step cmp key_of old (Dispose c) (refused r) mid
+      by : (o : Option Sequence) → collection old c ≡ o → StepOn cmp key_of old c (one.BulkEdit Clear) (refused r) mid → Step cmp key_of old (Dispose c) (refused r) mid
       by None e h = rw e (rw e at h)
       by (Some s) e h =
-          let a = taken_step (refusal_on {K = K} old c (one.Whole Clear)) (AcceptsOn {K = K} cmp key_of old c (one.Whole Clear)) old (refused r) mid (ap (λ o. asks_collection o (λ _. None)) e) h in
+          let a = taken_step (refusal_on {K = K} old c (one.BulkEdit Clear)) (AcceptsOn {K = K} cmp key_of old c (one.BulkEdit Clear)) old (refused r) mid (ap (λ o. asks_collection o (λ _. None)) e) h in
           absurd (let no = a.3.0 in cc)
 
-  accepted : (s : Sequence) → collection old c ≡ Some s → StepOn cmp key_of old c (one.Whole Clear) done mid → AcceptsOn cmp key_of old c (one.Whole Clear) done mid
-  accepted s e h = taken_step (refusal_on {K = K} old c (one.Whole Clear)) (AcceptsOn {K = K} cmp key_of old c (one.Whole Clear)) old done mid (ap (λ o. asks_collection o (λ _. None)) e) h
+  accepted : (s : Sequence) → collection old c ≡ Some s → StepOn cmp key_of old c (one.BulkEdit Clear) done mid → AcceptsOn cmp key_of old c (one.BulkEdit Clear) done mid
+  accepted s e h = taken_step (refusal_on {K = K} old c (one.BulkEdit Clear)) (AcceptsOn {K = K} cmp key_of old c (one.BulkEdit Clear)) old done mid (ap (λ o. asks_collection o (λ _. None)) e) h
 
-  cleared_there : StepOn cmp key_of old c (one.Whole Clear) done mid → AcceptsOn cmp key_of old c (one.Whole Clear) done mid
+  cleared_there : StepOn cmp key_of old c (one.BulkEdit Clear) done mid → AcceptsOn cmp key_of old c (one.BulkEdit Clear) done mid
   cleared_there step = by (collection old c) refl step
     where
-      by : (o : Option Sequence) → collection old c ≡ o → StepOn cmp key_of old c (one.Whole Clear) done mid → AcceptsOn cmp key_of old c (one.Whole Clear) done mid
+      by : (o : Option Sequence) → collection old c ≡ o → StepOn cmp key_of old c (one.BulkEdit Clear) done mid → AcceptsOn cmp key_of old c (one.BulkEdit Clear) done mid
       by None e h = absurd (let no = (rw e at h).0 in cc)
       by (Some s) e h = accepted s e h
 
-  pub disposed : StepOn cmp key_of old c (one.Whole Clear) done mid → Step cmp key_of old (Dispose c) done (with_collection mid c None)
+  pub disposed : StepOn cmp key_of old c (one.BulkEdit Clear) done mid → Step cmp key_of old (Dispose c) done (with_collection mid c None)
   disposed step =
       let a = cleared_there step in
       let s = a.0 in
@@ -84,8 +84,8 @@ module _ {A V K : Type 0} (cmp : K → K → Ordering) (key_of : A → V → K) 
       step_accepted cmp key_of old (Dispose c) done (with_collection mid c None) (ap (λ o. asks_collection o (λ _. None)) a.2)
       (s, a.2, refl, ap (λ w. with_collection w c None) (a.4 ∙ ap (with_state old c s.field) a.3.1) ∙ last)
 
-  -- and nothing is left linked, since it had no member any more
-  pub none_disposed : {left : List Bool} → StepOn cmp key_of old c (one.Whole Clear) done mid → NoneLeftLinked left mid → NoneLeftLinked left (with_collection mid c None)
+  -- a disposal leaves no place linked, because the collection has no member after `clear`
+  pub none_disposed : {left : List Bool} → StepOn cmp key_of old c (one.BulkEdit Clear) done mid → NoneLeftLinked left mid → NoneLeftLinked left (with_collection mid c None)
   none_disposed step none =
       let a = cleared_there step in
       let is : collection mid c ≡ Some (sequence_of a.0.field a.1) = ap (λ (w : Family A V). collection w c) a.4 ∙ get_or-set_same old.collections c (Some (sequence_of a.0.field a.1)) None (some_within old.collections c a.2) in

@@ -1,4 +1,4 @@
--- One table and one collection change: all other collections keep their sequences, and the family is the edited one.
+-- An edit changes one table and one collection. All other collections keep their sequences, and the family changes as the edit says.
 use Rattle.std.proofs.Common.{◌≡◌, ◌≢◌, ℕ, zero, suc, ◌<◌, ◌⊎◌, inl, inr, true, false, List, [], ◌∷◌, length, map, get_or, set, Option, Some, None, refl, sym, ap, ◌∙◌, subst, arith}
 use Rattle.std.proofs.lemmas.Bool.{cases_eq}
 use Rattle.std.proofs.lemmas.List.{get_or-set_same, get_or-set_other, get_or_past, length-set, map-set, get_or-map, set-get_or}
@@ -17,7 +17,7 @@ use Rattle.ic_world.specs.Tables.{table, no_table, field_in, sequence, seen_as, 
 use Rattle.ic_any_collection.proofs.AllKinds.{one_sequence, keeps_frame}
 use Rattle.ic_world.proofs.Linked.{side}
 
--- a map over two lists that differ at one index
+-- two functions that agree at each index except c give the same list, if the item at c is set to y
 pub set_map_same : {A B : Type 0} (f g : A → B) (xs : List A) (c : ℕ) (y : B) (d : A)
     → ((i : ℕ) → i ≢ c → i < length xs → g (get_or xs i d) ≡ f (get_or xs i d)) → set (map g xs) c y ≡ set (map f xs) c y
 set_map_same f g [] c y d same = refl
@@ -29,7 +29,7 @@ set_map_same f g (x ∷ xs) zero y d same = ap (λ l. y ∷ l) (map_same f g xs 
 set_map_same f g (x ∷ xs) (suc c) y d same =
     λ i. same zero (λ e. omega (arith, e)) (omega arith) i ∷ set_map_same f g xs c y d (λ j n h. same (suc j) (λ e. n (omega (arith, e))) (omega (arith, h))) i
 
--- the table of another field, and of this one
+-- after the table of the field f was set to t, each other field has its old table, and f has t
 table_other : (ts : List (Table Entry)) (f g : ℕ) (t : Table Entry) → g ≢ f → table (set ts f t) g ≡ table ts g
 table_other ts f g t d = get_or-set_other ts f g t no_table d
 
@@ -48,7 +48,8 @@ module _ {V : Type 0} where
             omega (arith, a, b)
       ]
 
-  -- what an edit of collection c, of its field's table and of no other leaves: only entries of `touched` change, and only objects are linked
+  -- an edit changes the collection c and the table of its field, and no other. Only entries of `touched` change, only places of objects are linked,
+  -- and no other collection of the field has a member in `touched`
   pub record Edit (objects : Objects V) (ts : List (Table Entry)) (cs : List (Option (Collection V))) (c : ℕ) (k : Collection V) (t : Table Entry) (m : AnyCollection V) (members touched : List Place) : Type 0 where
     pub was : at cs c ≡ Some k
     pub kept : Keeps t m members
@@ -58,7 +59,7 @@ module _ {V : Type 0} where
     pub within : (q : Place) → IsAbsent q touched → IsAbsent q members
     pub beside : (d : ℕ) (l : Collection V) → d ≢ c → at cs d ≡ Some l → l.field ≡ k.field → IsDisjoint (sequence ts l) touched
 
-  -- the collection after it
+  -- the collection after an edit that gives it the members m
   abbrev pub after : Collection V → AnyCollection V → Collection V
   after k m = record { field = k.field; members = m }
 
@@ -77,7 +78,7 @@ module _ {V : Type 0} where
         let same = ap (λ x. x.places) e.frame.extent in
         omega (arith, a, b, same)
 
-    -- the table of any field after the edit
+    -- only covered places are linked in the table of each field after the edit
     lawful_after : (f : ℕ) → IsLawful (table (set ts k.field t) f)
     lawful_after f =
         elim (cases_eq f k.field) [
@@ -85,7 +86,7 @@ module _ {V : Type 0} where
           | inr other ↦ rw (table_other ts k.field f t other) (lawful whole f)
         ]
 
-    -- each collection is kept after an edit of another one
+    -- each other collection is still kept by its table after the edit of c
     kept_beside : (d : ℕ) (l : Collection V) → d ≢ c → at cs d ≡ Some l → Keeps (table (set ts k.field t) l.field) l.members (sequence ts l)
     kept_beside d l n is =
         elim (cases_eq l.field k.field) [
@@ -100,11 +101,11 @@ module _ {V : Type 0} where
               subst Q (sym (table_other ts k.field l.field t other)) (whole.held d l is)
         ]
 
-    -- so its sequence is the same
+    -- each other collection has the same sequence after the edit of c
     pub same_sequence : (d : ℕ) (l : Collection V) → d ≢ c → at cs d ≡ Some l → sequence (set ts k.field t) l ≡ sequence ts l
     same_sequence d l n is = one_sequence (table (set ts k.field t) l.field) (lawful_after l.field) l.members (sequence ts l) (kept_beside d l n is).shown
 
-    -- the edited one represents its new members
+    -- the sequence of the edited collection is `members`
     pub new_sequence : sequence (set ts k.field t) (after k m) ≡ members
     new_sequence = ap (λ u. members_in u m) here ∙ one_sequence t edited_lawful m members e.kept.shown
 
@@ -124,21 +125,21 @@ module _ {V : Type 0} where
         let this : new_seen (Some (after k m)) ≡ new_one = ap (λ (s : List Place). let r : Option Sequence = Some (seen_as (after k m) s) in r) new_sequence in
         map-set new_seen cs c (Some (after k m)) ∙ ap (set (map new_seen cs) c) this ∙ others
 
-    -- the field keeps its kind
+    -- the field of the edited collection keeps its kind, and its linked places are those of the new table
     field_after : {A : Type 0} (adapter : A) (linked : _) → linked_in t ≡ linked → field_in t ≡ record { kind = (field_of (family_of adapter objects ts cs) k.field).kind; linked = linked }
     field_after adapter linked is =
         let at_f : field_of (family_of adapter objects ts cs) k.field ≡ field_in (table ts k.field) = get_or-map field_in ts k.field no_table _ in_ts in
         let kinds : kind_of t ≡ (field_of (family_of adapter objects ts cs) k.field).kind = ap (λ x. kind_with x.identity) e.frame.extent ∙ ap (λ (x : LinkField). x.kind) (sym at_f) in
         λ i. record { kind = kinds i; linked = is i }
 
-    -- THE FAMILY after an edit
+    -- THE FAMILY after an edit is the old family with the edited collection, and with the new linked places of its field
     pub edited_family : {A : Type 0} {adapter : A} → (linked : _) → linked_in t ≡ linked
         → family_of adapter objects (set ts k.field t) (set cs c (Some (after k m))) ≡ with_linked (with_collection (family_of adapter objects ts cs) c (Some (seen_as (after k m) members))) k.field linked
     edited_family {adapter = adapter} linked is =
         let fields = map-set field_in ts k.field t ∙ ap (set (map field_in ts) k.field) (field_after adapter linked is) in
         λ i. record { adapter = adapter; objects = (family_of adapter objects ts cs).objects; fields = fields i; collections = collections_after i }
 
-    -- the same where as many places are linked as before: the collection alone is another
+    -- if an edit leaves the same places linked, the new family differs from the old one only in the edited collection
     pub unlinked_family : {A : Type 0} {adapter : A} → linked_in t ≡ linked_in (table ts k.field)
         → family_of adapter objects (set ts k.field t) (set cs c (Some (after k m))) ≡ with_collection (family_of adapter objects ts cs) c (Some (seen_as (after k m) members))
     unlinked_family {adapter = adapter} is =
@@ -147,7 +148,7 @@ module _ {V : Type 0} where
         let fields = map-set field_in ts k.field t ∙ ap (set (map field_in ts) k.field) one ∙ sym (map-set field_in ts k.field (table ts k.field)) ∙ ap (map field_in) (set-get_or ts k.field no_table) in
         λ i. record { adapter = adapter; objects = (family_of adapter objects ts cs).objects; fields = fields i; collections = collections_after i }
 
-    -- what stands at a number after an edit
+    -- a collection after an edit is the edited collection under the number c, or an old collection under another number
     pub at_after : (d : ℕ) (l : Collection V) → at (set cs c (Some (after k m))) d ≡ Some l → ((d ≡ c) × (l ≡ after k m)) ⊎ ((d ≢ c) × (at cs d ≡ Some l))
     at_after d l is =
         elim (cases_eq d c) [
@@ -158,7 +159,7 @@ module _ {V : Type 0} where
           | inr other ↦ inr (other, sym (get_or-set_other cs c d (Some (after k m)) None other) ∙ is)
         ]
 
-    -- THE INVARIANT after an edit
+    -- THE INVARIANT of the world holds after an edit
     pub edited_whole : IsWhole objects room (set ts k.field t) (set cs c (Some (after k m)))
     edited_whole = record {
       within = whole.within;

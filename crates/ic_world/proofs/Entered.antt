@@ -1,4 +1,4 @@
--- One collection more in a field, under the next number.
+-- A field gets one more collection, under the next number.
 use Rattle.std.proofs.Common.{◌≡◌, ◌≢◌, ℕ, zero, suc, ◌<◌, inl, inr, List, [], ◌∷◌, ◌++◌, length, map, set, get_or, Some, None, refl, sym, ap, ◌∙◌, subst, arith}
 use Rattle.std.specs.Prelude.{slice_get, true, false, Result, Ok, Err, OnOk, is_ok, is_err, if◌then◌else◌}
 use Rattle.std.proofs.lemmas.Bool.{cases_eq}
@@ -11,7 +11,7 @@ use Rattle.ic_world.specs.declared.collections_by_number.Numbered.{Numbered}
 use Rattle.ic_world.specs.ByNumber.{items_of, live_in, disposed, lying, in_field, in_slot, by_number, AreNumbered, HaveLists, IsEntered}
 use Rattle.ic_world.proofs.ByNumber.{Lists, get_front, get_last, some_not_none}
 
--- a list more, which is empty, represents what was there
+-- if an empty list is appended to the lists, each field has the same collections as before
 empty_more : {V : Type 0} (ls : Lists V) (l : List (Numbered V)) → l ≡ [] → HaveLists ls (ls ++ l ∷ [])
 empty_more [] l e zero = e
 empty_more [] l e (suc g) = refl
@@ -19,7 +19,7 @@ empty_more (x ∷ ls) l e zero = refl
 empty_more (x ∷ ls) l e (suc g) = empty_more ls l e g
 
 module _ {V : Type 0} where
-  -- THE SAME LISTS represent the same
+  -- LISTS WITH THE SAME COLLECTIONS in each field represent the same collections by number
   module _ (ls new : Lists V) (same : HaveLists ls new) where
     lying_same : (g j : ℕ) → lying new g j ≡ lying ls g j
     lying_same g j = ap (λ xs. slice_get xs j) (same g)
@@ -35,7 +35,7 @@ module _ {V : Type 0} where
     represented_same [] = refl
     represented_same (s ∷ ns) = λ i. in_field s.field (lying_same s.field s.index i) ∷ represented_same ns i
 
-  -- ONE MORE in a field, under the next number
+  -- ONE MORE COLLECTION n IS IN THE FIELD f, in the slot s, under the next number
   module _ {ls new : Lists V} {ns : List Slot} (are : AreNumbered ls ns) (f : ℕ) (n : Numbered V) (s : Slot) (entered : IsEntered ls f n s new) (next : n.number ≡ length ns) where
     before_last : (g j : ℕ) → (g ≡ f → j ≡ s.index → ⊥) → lying new g j ≡ lying ls g j
     before_last g j differ = elim (cases_eq g f) [
@@ -53,7 +53,7 @@ module _ {V : Type 0} where
     slot_before : (c : ℕ) (t : Slot) → slice_get ns c ≡ Some t → slice_get (ns ++ s ∷ []) c ≡ Some t
     slot_before c t e = get_front ns s c (let low = slice_get_within ns c t e in λ is. omega (arith, low, is)) ∙ e
 
-    -- no earlier number has the slot
+    -- no earlier number has the slot of the new collection
     free : (c : ℕ) (t : Slot) → slice_get ns c ≡ Some t → t.field ≡ f → t.index ≡ s.index → ⊥
     free c t e same at_index =
         let y = are.kept c t e (λ past. omega (arith, past, at_index, entered.before)) in
@@ -106,7 +106,7 @@ module _ {V : Type 0} where
             let there = within zero t refl in
             λ i. in_field t.field (before_last t.field t.index (free there.0 t there.1) i) ∷ same part (λ c u e. within (suc c) u e) i
 
--- THE LISTS AS A CALL WRITES THEM: that of one field is read, and written back
+-- THE LISTS AS A CALL WRITES THEM: the call reads the list of the field f, and writes it back
 module _ {V M : Type 0} (old lists : List (Vec (Numbered V) M)) (same : HaveLists (map items_of old) (map items_of lists)) (f : ℕ) (within : f < length lists) (list : Vec (Numbered V) M) (read : list ≡ get_or lists f list) (v : Vec (Numbered V) M) where
   here : live_in (map items_of (set lists f v)) f ≡ v.items
   here = ap (λ ls. live_in ls f) (map-set items_of lists f v) ∙ get_or-set_same (map items_of lists) f v.items [] (rw length-map within)
@@ -132,7 +132,7 @@ module _ {V M : Type 0} (old lists : List (Vec (Numbered V) M)) (same : HaveList
     others = elsewhere;
   }
 
--- a push that was done, and one that was not
+-- a push that succeeded has appended the item x, and a push that failed has left the list as it was
 pub pushed : {X U E : Type 0} (result : Result U E) → false ≡ is_err result → (old : List X) (x : X) {new : List X} → new ≡ (if is_ok result then old ++ x ∷ [] else old) → new ≡ old ++ x ∷ []
 pushed (Ok u) e old x items = items
 pushed (Err u) e old x items = absurd cc
@@ -145,7 +145,7 @@ pub not_refused : {A E P : Type 0} (r : Result A E) → false ≡ is_err r → O
 not_refused (Ok a) e h = h
 not_refused (Err x) e h = absurd cc
 
--- a list more, which is empty
+-- if an empty list is appended to the lists of a call, each field has the same collections as before
 pub lists_more : {V M : Type 0} (old lists : List (Vec (Numbered V) M)) (v : Vec (Numbered V) M) → v.items ≡ [] → HaveLists (map items_of old) (map items_of lists) → (new : List (Vec (Numbered V) M)) → new ≡ lists ++ v ∷ []
     → HaveLists (map items_of old) (map items_of new)
 lists_more old lists v none same new more g =

@@ -1,4 +1,4 @@
--- A collection of which all members went out and stay linked.
+-- `fast_clear`: all members of a collection are removed and stay linked.
 use Rattle.std.proofs.Common.{◌≡◌, ℕ, true, List, map, set, Option, Some, None, refl, sym, ap, ◌∙◌}
 use Rattle.std.proofs.lemmas.List.{map-set}
 use Rattle.std.specs.declared.cmp.Ordering.{Ordering}
@@ -28,7 +28,7 @@ module _ {A V M : Type 0} {adapter : A} {objects : Objects V} {room : ℕ} {tabl
   same_tables : map table_of (set tables k.field nf) ≡ map table_of tables
   same_tables = map-set table_of tables k.field nf ∙ sym (map-set table_of tables k.field now) ∙ ap (map table_of) at_k.table_back
 
-  -- THE INVARIANT and THE STEP
+  -- THE INVARIANT holds after `fast_clear`, and THE STEP of the model is `fast_clear`
   pub fast_cleared_kept : IsKept adapter objects room (set tables k.field nf) (set cs c (Some (after k m)))
   fast_cleared_kept =
       let left = map-set (λ (x : WorldField M). x.left_linked) tables k.field nf in

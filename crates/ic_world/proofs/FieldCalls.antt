@@ -1,4 +1,4 @@
--- Calls of one field: whether an object is linked in it, and an object unlinked by force.
+-- Calls of one field: `is_linked` says whether an object is linked in the field, and `force_unlink` unlinks an object.
 use Rattle.std.proofs.Common.{◌≡◌, ◌≢◌, ℕ, ◌<◌, inl, inr, true, false, not, ◌&&◌, List, [], ◌∷◌, length, map, get_or, Option, Some, None, refl, sym, ap, ◌∙◌, subst, arith, Bool, eq-eqb, ne_eqb, ltb-true, ◌↔◌, IsTrue}
 use Rattle.std.proofs.Common.{set as set_at}
 use Rattle.std.proofs.lemmas.Bool.{cases_eq}
@@ -33,11 +33,11 @@ use Rattle.ic_world.proofs.LeftLinked.{none_freed}
 use Rattle.ic_world.proofs.Steps.{step_accepted, field_there, passes}
 
 module _ {A V M : Type 0} {adapter : A} {objects : Objects V} {room : ℕ} (tables : List (WorldField M)) {cs : List (Option (Collection V))} (kept : IsKept adapter objects room tables cs) where
-  -- a field that is there has a table
+  -- if the family has the field f, the world has a table for f
   pub within_by : (f : ℕ) → has_field (family_of adapter objects (map table_of tables) cs) f ≡ true → f < length tables
   within_by f there = let low = ltb-true f _ there in rw (length-map, length-map) at low
 
-  -- each table covers each object
+  -- each table covers the place of each object
   pub covers_object : (f : ℕ) (t : WorldField M) (p : Place) → f < length tables → t ≡ get_or tables f t → place_is_placed objects p ≡ true → IsCovered (table_of t) p
   covers_object f t p within read has =
       let reach = (kept.0.within (index_of p) has).0 in
@@ -45,7 +45,7 @@ module _ {A V M : Type 0} {adapter : A} {objects : Objects V} {room : ℕ} (tabl
       let same = ap (λ u. u.extent.places) (table_read tables f t within read) in
       omega (arith, reach, covers, same)
 
-  -- the family has an object in its linked set as the table has its entry
+  -- a place is in the linked set of the family's field exactly if its entry in the table is linked
   linked_read : (f : ℕ) (t : WorldField M) (p : Place) → f < length tables → t ≡ get_or tables f t
       → set.contains (linked_of (family_of adapter objects (map table_of tables) cs) f) (index_of p) ≡ is_linked ((table_of t).entry p)
   linked_read f t p within read =
@@ -58,7 +58,7 @@ module _ {A V M : Type 0} {adapter : A} {objects : Objects V} {room : ℕ} (tabl
       let w = family_of adapter objects (map table_of tables) cs in
       step_accepted cmp key_of w (IsLinked f p) (linked answer) w (field_there w f _ (rw (length-map, length-map) within) ∙ passes (is_placed w p) NoSuchObject None has) (ap linked (is ∙ sym (linked_read f t p within read)), refl)
 
--- whether a place is among the members, told as calls tell it
+-- the function `is_among` says whether p is a member of s: `false` if p is absent, and `true` if p is a member
 absent_among : (p : Place) (s : List Place) → IsAbsent p s → is_among p s ≡ false
 absent_among p [] out = refl
 absent_among p (x ∷ s) out = rw (ne_eqb (index_of x) (index_of p) (λ e. out.0 (sym (same_index x p e)))) (absent_among p s out.1)
@@ -78,14 +78,14 @@ among_is p s false tells = elim (absent_or s p) [
   | inr there ↦ absurd (let no = tells.1 there in cc)
 ]
 
--- and a place that is not among them is absent
+-- if `is_among` says that p is not a member of s, p is absent from s
 pub not_among : (p : Place) (s : List Place) → is_among p s ≡ false → IsAbsent p s
 not_among p s lacks = elim (absent_or s p) [
   | inl out ↦ out
   | inr there ↦ absurd (let yes = member_among p s there in let both : true ≡ false = sym yes ∙ lacks in cc)
 ]
 
--- nor a member of a collection of a field in which it is in none
+-- if p is a member of no collection of the field f, p is absent from each collection of the field
 absent_in : {A V : Type 0} (w : Family A V) (f : ℕ) (p : Place) → is_member_in w f p ≡ false → (c : ℕ) (s : Sequence) → collection w c ≡ Some s → s.field ≡ f → IsAbsent p s.members
 absent_in w f p none c s is same = not_among p s.members (by (is_among p s.members) refl)
   where
@@ -100,7 +100,7 @@ module _ {A V M : Type 0} {adapter : A} {objects : Objects V} {room : ℕ} (tabl
   abbrev whole : IsWhole objects room (map table_of tables) cs
   whole = kept.0
 
-  -- a collection of the field, as a call reads it
+  -- the table that a call reads for the field f keeps each collection of the field
   pub held_read : (c : ℕ) (k : Collection V) (t : WorldField M) → at cs c ≡ Some k → k.field ≡ f → t ≡ get_or tables f t → Held (table_of t) k.members
   held_read c k t is same read =
       let within : f < length tables = let a = whole.in_field c k is in omega (arith, a, same, length-map tables table_of) in
@@ -109,7 +109,7 @@ module _ {A V M : Type 0} {adapter : A} {objects : Objects V} {room : ℕ} (tabl
   has_at : (c : ℕ) → has_member_in f p (get_or (map (represented_as (map table_of tables)) cs) c None) ≡ has_member_in f p (represented_as (map table_of tables) (at cs c))
   has_at c = ap (has_member_in f p) (map_at (represented_as (map table_of tables)) cs c None)
 
-  -- it has the place as a member, as its table tells
+  -- a collection of the field f has p as a member in the family exactly if the table says so
   here_is : (c : ℕ) (k : Collection V) (t : WorldField M) → at cs c ≡ Some k → k.field ≡ f → t ≡ get_or tables f t → (b : Bool) → (IsTrue b ↔ IsMember p (members_in (table_of t) k.members))
       → has_member_in f p (get_or (map (represented_as (map table_of tables)) cs) c None) ≡ b
   here_is c k t is same read b tells =
@@ -119,7 +119,7 @@ module _ {A V M : Type 0} {adapter : A} {objects : Objects V} {room : ℕ} (tabl
       ∙ ap (λ x. x && is_among p (sequence (map table_of tables) k)) (eq-eqb k.field f same)
       ∙ ap (is_among p) (sym seen) ∙ among_is p (members_in (table_of t) k.members) b tells
 
-  -- one of another field has not, nor has none
+  -- a collection of another field does not count as a collection of f with the member p, and a number without a collection does not count
   other_is : (c : ℕ) (k : Collection V) → at cs c ≡ Some k → k.field ≢ f → has_member_in f p (get_or (map (represented_as (map table_of tables)) cs) c None) ≡ false
   other_is c k is other =
       has_at c ∙ ap (λ o. has_member_in f p (represented_as (map table_of tables) o)) is ∙ ap (λ x. x && is_among p (sequence (map table_of tables) k)) (ne_eqb k.field f other)
@@ -127,7 +127,7 @@ module _ {A V M : Type 0} {adapter : A} {objects : Objects V} {room : ℕ} (tabl
   none_is : (c : ℕ) → at cs c ≡ None → has_member_in f p (get_or (map (represented_as (map table_of tables)) cs) c None) ≡ false
   none_is c is = has_at c ∙ ap (λ o. has_member_in f p (represented_as (map table_of tables) o)) is
 
-  -- it is a member of none, if no collection of the field has it
+  -- p is a member of no collection of the family's field f, if no stored collection of the field has it
   none_has : (t : WorldField M) → t ≡ get_or tables f t → ((c : ℕ) (k : Collection V) → at cs c ≡ Some k → k.field ≡ f → IsMember p (members_in (table_of t) k.members) → ⊥)
       → is_member_in (family_of adapter objects (map table_of tables) cs) f p ≡ false
   none_has t read lacks =
@@ -143,12 +143,12 @@ module _ {A V M : Type 0} {adapter : A} {objects : Objects V} {room : ℕ} (tabl
         | inr other ↦ other_is c k is other
       ]
 
-  -- AN UNLINKED OBJECT is a member of none
+  -- AN UNLINKED OBJECT is a member of no collection of the field
   pub in_none : (t : WorldField M) → t ≡ get_or tables f t → IsUnlinked is_linked (table_of t) p → is_member_in (family_of adapter objects (map table_of tables) cs) f p ≡ false
   in_none t read free =
       none_has t read (λ c k is same there. there (unlinked_absent (table_of t) k.members (members_in (table_of t) k.members) (held_read c k t is same read).shown free))
 
-  -- AN OBJECT THAT THE COLLECTIONS OF THE FIELD WERE ASKED FOR is a member as they tell
+  -- A SEARCH OF ALL COLLECTIONS OF THE FIELD for an object gives the right result: b is true exactly if the object is a member of one of them
   pub asked : (t : WorldField M) → t ≡ get_or tables f t → (b : Bool) → (IsTrue b ↔ HasMember cs f (table_of t) p) → b ≡ is_member_in (family_of adapter objects (map table_of tables) cs) f p
   asked t read true tells =
       let h = tells.0 refl in
@@ -157,7 +157,7 @@ module _ {A V M : Type 0} {adapter : A} {objects : Objects V} {room : ℕ} (tabl
   asked t read false tells =
       sym (none_has t read (λ c k is same there. let no = tells.1 (record { number = c; one = k; is = is; field = same; member = there }) in cc))
 
-  -- A LINKED OBJECT is a member of one, where none was left linked
+  -- A LINKED OBJECT is a member of a collection of the field, if `fast_clear` left no member linked in the field
   pub in_some : (t : WorldField M) → f < length tables → t ≡ get_or tables f t → is_linked ((table_of t).entry p) ≡ true → t.left_linked ≡ false
       → is_member_in (family_of adapter objects (map table_of tables) cs) f p ≡ true
   in_some t within read held left = by (is_member_in w f p) refl
@@ -172,7 +172,7 @@ module _ {A V M : Type 0} {adapter : A} {objects : Objects V} {room : ℕ} (tabl
       by true e = e
       by false e = absurd (kept.1.none f p kept_in (linked_read tables kept f t p within read ∙ held, absent_in w f p e))
 
-  -- AN OBJECT UNLINKED BY FORCE, where it is a member of none
+  -- AN OBJECT IS UNLINKED BY FORCE, if it is a member of no collection of the field
   module _ (within : f < length tables) (t : WorldField M) (read : t ≡ get_or tables f t) (links : AnyTable M) (free : IsUnlinked is_linked (table_in links) p) (frame : ChangesOnly (table_of t) (table_in links) p)
       {old : Family A V} (view : family_of adapter objects (map table_of tables) cs ≡ old) (none : is_member_in old f p ≡ false) where
     in_map : f < length (map table_of tables)

@@ -1,4 +1,4 @@
--- Tables that cover more places, and a field more: the family stays what it is.
+-- The tables grow to cover more places, and the family stays as it is. A field is added, and the other fields stay as they are.
 use Rattle.std.proofs.Common.{◌≡◌, ◌≢◌, ℕ, ◌<◌, ◌≤◌, ◌+◌, get_or, is_ok, inl, inr, Bool, true, false, List, [], ◌∷◌, ◌++◌, length, map, set, Option, Some, None, refl, sym, ap, ◌∙◌, subst, arith, length-append, max, Result, Ok, Err, OnOk, OnErr}
 use Rattle.std.proofs.lemmas.Bool.{cases_eq}
 use Rattle.std.proofs.lemmas.List.{get_or_past, map-append, map-set, length-map, length-set, get_or-set_same, get_or-set_other, ext_get_or, get_or_append_left, get_or_push, get_or-map}
@@ -37,7 +37,7 @@ use Rattle.ic_world.proofs.Edits.{lawful}
 use Rattle.ic_world.proofs.Opened.{disjoint_none}
 use Rattle.ic_world.proofs.LeftLinked.{none_added}
 
--- the first f of the tables cover so many places already
+-- while the tables grow one after the other, each of the first f tables already covers at least `count` places
 pub record GrownTo (ts us : List (Table Entry)) (f count : ℕ) : Type 0 where
   pub grown : Grown ts us
   pub done : (g : ℕ) → g < f → count ≤ (table us g).extent.places
@@ -49,7 +49,7 @@ grows_on t u v a b = record {
   entries = λ q. b.entries q ∙ a.entries q;
 }
 
--- one of them grows
+-- if the table of the field f grows once more, the tables have still grown from `ts`
 grown_more : (ts us : List (Table Entry)) (f : ℕ) (t : Table Entry) → Grown ts us → f < length us → GrowsTo (table us f) t → Grown ts (set us f t)
 grown_more ts us f t so within more = record {
   count = length-set us f t ∙ so.count;
@@ -59,12 +59,12 @@ grown_more ts us f t so within more = record {
   ];
 }
 
--- a table that was asked to cover n places covers no fewer than before
+-- a table covers at least as many places as before, after a call that should make it cover n places
 covers_more : {A E : Type 0} (r : Result A E) (old new : Extent) (n : ℕ) → OnOk r (new.places ≡ max old.places n) → OnErr r (new ≡ old) → old.places ≤ new.places
 covers_more (Ok a) old new n ok err = omega (arith, ok)
 covers_more (Err e) old new n ok err = let same = ap (λ (x : Extent). x.places) err in omega (arith, same)
 
--- a table was asked to cover `count` places
+-- the contract of a call that should make a table cover `count` places
 abbrev Covering : {A E : Type 0} → ℕ → Result A E → (too_many : Type 0) → (old new : Table Entry) → (enough : Type 0) → Type 0
 Covering count r said old new is_enough = record {
   too_many : said;
@@ -75,7 +75,7 @@ Covering count r said old new is_enough = record {
   refused : OnErr r (new.extent ≡ old.extent);
 }
 
--- it is table f, which was read
+-- the table that grows is the table of the field f, which the call has read
 module _ {M A E : Type 0} {said is_enough : Type 0} (ts : List (Table Entry)) (tables : List (WorldField M)) (f count : ℕ) (within : f < length tables) (x : WorldField M) (links : AnyTable M) (r : Result A E)
     (e : Covering count r said (table_of (get_or tables f x)) (table_in links) is_enough) where
   abbrev u : WorldField M
@@ -96,7 +96,7 @@ module _ {M A E : Type 0} {said is_enough : Type 0} (ts : List (Table Entry)) (t
     ];
   }
 
--- what each table covers, where not all of them grew, and where all did
+-- if some tables grew, each still covers at least `room` places. If all grew, each covers at least `room` and `count` places
 pub grows_some : (room : ℕ) (ts us : List (Table Entry)) → Grown ts us → Grows room ts room us
 grows_some room ts us so = record {
   grown = so;
@@ -111,7 +111,7 @@ grows_all room room' count f ts us so past e = record {
   covered = λ old g h. let n = so.grown.count in let a = (grows_some room ts us so.grown).covered old g h in let b = so.done g (omega (arith, h, n, past)) in omega (arith, a, b, e);
 }
 
--- OTHER TABLES that keep each collection: its sequence is the same
+-- OTHER TABLES THAT KEEP EACH COLLECTION with its sequence represent the same sequences
 module _ {V : Type 0} {objects : Objects V} {room : ℕ} {ts : List (Table Entry)} {cs : List (Option (Collection V))} (whole : IsWhole objects room ts cs) (us : List (Table Entry))
     (law : (f : ℕ) → IsLawful (table us f)) (kept : (c : ℕ) (k : Collection V) → at cs c ≡ Some k → Keeps (table us k.field) k.members (sequence ts k)) where
   kept_sequence : (c : ℕ) (k : Collection V) → at cs c ≡ Some k → sequence us k ≡ sequence ts k
@@ -155,7 +155,7 @@ module _ {A V : Type 0} (adapter : A) (objects : Objects V) (ts us : List (Table
       let links = linked_same (table ts f) (table us f) (lawful whole f) (grown_lawful f) (λ q. ap is_linked ((grown.each f).entries q)) in
       λ i. record { kind = kinds i; linked = links i }
 
-  -- THE SAME FAMILY, with longer tables
+  -- THE FAMILY IS THE SAME after the tables have grown
   pub grown_family : family_of adapter objects us cs ≡ family_of adapter objects ts cs
   grown_family =
       let fields : map field_in us ≡ map field_in ts =
@@ -164,12 +164,12 @@ module _ {A V : Type 0} (adapter : A) (objects : Objects V) (ts us : List (Table
       let collections = kept_collections whole us grown_lawful grown_kept in
       λ i. record { adapter = adapter; objects = objects.values; fields = fields i; collections = collections i }
 
-  -- and the invariant, where each table covers what the objects need
+  -- the invariant holds with the grown tables, if each of them covers at least `more` places
   pub grown_whole : (more : ℕ) → room ≤ more → Cover more us → IsWhole objects more us cs
   grown_whole more reach covered =
       kept_whole whole us grown_lawful grown_kept more reach (let n = grown.count in omega (arith, n)) covered (λ f q h. whole.placed f q (rw ((grown.each f).entries q) at h))
 
--- in a table that covered no place when it was made nothing is linked, and growing keeps it so
+-- no place is linked in a table that covered no place when it was made, and this stays true when the table grows
 pub nothing_linked : {M : Type 0} (links : AnyTable M) (t : Table Entry) → (table_in links).extent.places ≡ 0 → ((q : Place) → t.entry q ≡ (table_in links).entry q) → (q : Place) → is_linked (t.entry q) ≡ false
 nothing_linked links t covers same q = by (is_linked (t.entry q)) refl
   where
@@ -177,7 +177,7 @@ nothing_linked links t covers same q = by (is_linked (t.entry q)) refl
     by true e = let h : IsCovered (table_in links) q = lawful_field links q (rw (same q) at e) in absurd (omega (arith, h, covers))
     by false e = e
 
--- A FIELD more, of which no place is linked
+-- A FIELD IS ADDED. No place is linked in its table t
 module _ {V : Type 0} {objects : Objects V} {room : ℕ} {ts : List (Table Entry)} {cs : List (Option (Collection V))} (whole : IsWhole objects room ts cs) (t : Table Entry)
     (none : (q : Place) → is_linked (t.entry q) ≡ false) where
   abbrev more : List (Table Entry)
@@ -189,14 +189,14 @@ module _ {V : Type 0} {objects : Objects V} {room : ℕ} {ts : List (Table Entry
   last : (f : ℕ) → length ts ≤ f → f < length more → table more f ≡ t
   last f past within = get_or_push ts t no_table f (let n = length-append ts (t ∷ []) in omega (arith, within, past, n))
 
-  -- past the old ones nothing is linked
+  -- no place is linked in a field whose number is past the old fields
   unlinked : (f : ℕ) (q : Place) → length ts ≤ f → is_linked ((table more f).entry q) ≡ false
   unlinked f q past = elim (side (length more) f) [
     | inl beyond ↦ rw (get_or_past more f no_table beyond) refl
     | inr within ↦ rw (last f past within) (none q)
   ]
 
-  -- the tables are lawful and keep each collection
+  -- in each table, with the added one, only covered places are linked, and each collection is still kept
   law : (f : ℕ) → IsLawful (table more f)
   law f q h = elim (side (length ts) f) [
     | inl past ↦ absurd (let both : true ≡ false = sym h ∙ unlinked f q past in cc)
@@ -226,7 +226,7 @@ module _ {V : Type 0} {objects : Objects V} {room : ℕ} {ts : List (Table Entry
         | inr old ↦ whole.placed f q (rw (in_old f old) at h)
       ])
 
--- and what adding it comes to
+-- adding the field is the step `AddField` of the model, and keeps the invariant of the world
 module _ {A V K M : Type 0} {adapter : A} {objects : Objects V} {room : ℕ} (tables : List (WorldField M)) {cs : List (Option (Collection V))} (kept : IsKept adapter objects room tables cs)
     {old : Family A V} (view : family_of adapter objects (map table_of tables) cs ≡ old) (cmp : K → K → Ordering) (key_of : A → V → K) where
   pub field_added : (kind : Kind) (links : AnyTable M) → IsFresh kind room (table_in links) → (r : Result ℕ Refusal) (news : List (WorldField M)) → Appends tables (record { links = links; left_linked = false }) r news
@@ -240,7 +240,7 @@ module _ {A V K M : Type 0} {adapter : A} {objects : Objects V} {room : ℕ} (ta
       rw (← view, e.1, tables_are, left_are) ((field_whole kept.0 (table_in links) fresh.free fresh.covers, rw family none), (rw (length-map, length-map) e.0, family))
   field_added kind links fresh (Err r) news e = rw (e.0, e.1) (kept, view)
 
--- A PLACE LESS LINKED in the table of field f, that of no member of a collection there
+-- A PLACE p IS UNLINKED in the table of the field f. The place p is a member of no collection of the field
 module _ {V : Type 0} {objects : Objects V} {room : ℕ} {ts : List (Table Entry)} {cs : List (Option (Collection V))} (whole : IsWhole objects room ts cs) (f : ℕ) (within : f < length ts)
     (t : Table Entry) (p : Place) (free : IsUnlinked is_linked t p) (frame : ChangesOnly (table ts f) t p)
     (none : (c : ℕ) (k : Collection V) → at cs c ≡ Some k → k.field ≡ f → IsAbsent p (sequence ts k)) where

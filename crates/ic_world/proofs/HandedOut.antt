@@ -1,4 +1,4 @@
--- A CALL THAT HANDS A PART OUT, for the world: the collection is edited, and then there is one more.
+-- A CALL THAT GIVES A PART AWAY, for the world: the collection is edited, and then the world has one more collection.
 use Rattle.std.proofs.Common.{◌≡◌, ℕ, ◌<◌, inl, inr, Bool, true, false, List, [], ◌∷◌, ◌++◌, length, map, set, Option, Some, None, refl, sym, ap, ◌∙◌, subst}
 use Rattle.std.proofs.lemmas.List.{length-map, length-set, map-set, get_or_append_left, get_or_at, set_at, set-append_left}
 use Rattle.ic_link_ops.specs.Prelude.{Objects, IsDisjoint, Table}
@@ -9,7 +9,7 @@ use Rattle.ic_world.specs.declared.field.WorldField.{WorldField}
 use Rattle.ic_any_collection.specs.declared.any_collection.AnyCollection.{AnyCollection}
 use Rattle.ic_any_collection.specs.AnyCollection.{Held, members_in, kind_in}
 use Rattle.ic_world.specs.declared.collection.Collection.{Collection}
-use Rattle.ic_world.specs.declared.part.Part.{Part}
+use Rattle.ic_world.specs.declared.taken_part.TakenPart.{TakenPart}
 use Rattle.ic_world.specs.declared.call.Refusal.TheVariants.{WrongKind, OutOfMemory}
 use Rattle.ic_world.specs.Family.{Family, with_opened}
 use Rattle.ic_world.specs.Calls.{opened, refused, asks}
@@ -21,11 +21,11 @@ use Rattle.ic_world.proofs.Readings.{Found, left_back, collection_is, some_withi
 use Rattle.ic_world.specs.Collections.{with_members}
 use Rattle.ic_world.proofs.Edits.{Edit, after, at_after, here, new_sequence, same_sequence, edited_family, edited_whole}
 use Rattle.ic_world.proofs.Opened.{appended_whole, appended_family}
-use Rattle.ic_world.proofs.OneCall.{same_state}
+use Rattle.ic_world.proofs.CollectionCall.{same_state}
 use Rattle.ic_world.proofs.LeftLinked.{none_out}
 
 module _ {V : Type 0} {objects : Objects V} {room : ℕ} {ts : List (Table Entry)} {cs : List (Option (Collection V))} (whole : IsWhole objects room ts cs)
-    (c : ℕ) (k : Collection V) (is : at cs c ≡ Some k) (part : Part) {new : Table Entry} {m handed : AnyCollection V} (parts : HandsOut (PartsOf part) (table ts k.field) new k.members m handed) where
+    (c : ℕ) (k : Collection V) (is : at cs c ≡ Some k) (part : TakenPart) {new : Table Entry} {m handed : AnyCollection V} (parts : HandsOut (PartsOf part) (table ts k.field) new k.members m handed) where
   part_edit : Edit objects ts cs c k new m (members_in new m) (sequence ts k)
   part_edit = record {
     was = is;
@@ -80,8 +80,8 @@ module _ {V : Type 0} {objects : Objects V} {room : ℕ} {ts : List (Table Entry
   )
 
 module _ {A V M : Type 0} {adapter : A} {objects : Objects V} {room : ℕ} (tables : List (WorldField M)) {cs : List (Option (Collection V))} (kept : IsKept adapter objects room tables cs)
-    (c : ℕ) {k : Collection V} {old : Family A V} (view : family_of adapter objects (map table_of tables) cs ≡ old) (part : Part) where
-  -- where it is refused
+    (c : ℕ) {k : Collection V} {old : Family A V} (view : family_of adapter objects (map table_of tables) cs ≡ old) (part : TakenPart) where
+  -- the call is refused if the kind has no such part, or if there is not enough memory
   module _ (is : at cs c ≡ Some k) where
     tested_by : (b : Bool) → has_part part (kind_in k.members) ≡ b → refusal_of_part (family_of adapter objects (map table_of tables) cs) c part ≡ asks b WrongKind None
     tested_by b has = ap (λ o. asks_collection o (λ s. asks (has_part part s.kind) WrongKind None)) (collection_is adapter objects (map table_of tables) cs c k is) ∙ ap (λ x. asks x WrongKind None) has
@@ -92,7 +92,7 @@ module _ {A V M : Type 0} {adapter : A} {objects : Objects V} {room : ℕ} (tabl
     pub part_unroomed : has_part part (kind_in k.members) ≡ true → StepOut old c part (refused OutOfMemory) old
     part_unroomed has = rw (← view, tested_by true has) refl
 
-  -- where it is not
+  -- the call is not refused: it is the step of the model, and the invariant holds after it
   module _ {now : WorldField M} (at_k : Found tables cs c k now) (links : AnyTable M) (m handed : AnyCollection V) (parts : HandsOut (PartsOf part) (table_of now) (table_of (record now { links = links })) k.members m handed)
       (has : has_part part (kind_in k.members) ≡ true) where
     abbrev nf : WorldField M
@@ -113,7 +113,7 @@ module _ {A V M : Type 0} {adapter : A} {objects : Objects V} {room : ℕ} (tabl
     handed_kept =
         (rw map-set (part_whole kept.0 c k at_k.is part there), rw (left_back tables k.field now links at_k.table_back) (none_out (subst (NoneLeftLinked (left_in tables)) view kept.1) c part (opened (length cs)) (handed_step (length cs) refl)))
 
--- the collections, where an empty one was opened for the part first
+-- the list of collections, if an empty collection was appended for the part before the part was taken
 module _ {V : Type 0} (cs : List (Option (Collection V))) (c : ℕ) {k : Collection V} (is : at cs c ≡ Some k) (empty : Collection V) where
   pub still_there : at (cs ++ Some empty ∷ []) c ≡ Some k
   still_there = get_or_append_left cs (Some empty ∷ []) None c (some_within cs c is) ∙ is

@@ -1,4 +1,4 @@
--- What an object that is put into a gap, or in the place of a member, leaves to the world, and what it is refused for.
+-- What a world guarantees of a call that inserts an object into a gap, or replaces a member by an object, and when such a call is refused.
 use Rattle.std.proofs.Common.{◌≡◌, ◌∙◌, Bool, true, false, not, is_some, Option, Some, None, [], ◌∷◌, Ok, Err, refl, sym, ap}
 use Rattle.ic_link_ops.specs.Prelude.{Place, Cut, join, first, IsCovered, IsLinked}
 use Rattle.ic_any_collection.specs.declared.gap.Gap.{Gap}
@@ -12,7 +12,7 @@ use Rattle.ic_any_collection.specs.declared.any_collection.AnyCollection.{AnyCol
 use Rattle.ic_any_collection.specs.AnyCollection.{kind_in, cursor_in, members_in, Held}
 use Rattle.ic_any_collection.specs.Edits.{AtGap, Puts, SwapsIfAny, IsUnchanged}
 use Rattle.ic_any_collection.proofs.AllKinds.{lawful, distinct}
-use Rattle.ic_world.specs.declared.calls.one_call.Call.TheVariants as one
+use Rattle.ic_world.specs.declared.calls.collection_call.Call.TheVariants as one
 use Rattle.ic_world.specs.declared.call.Refusal.TheVariants.{NothingThere, AlreadyLinked}
 use Rattle.ic_world.specs.Calls.{done, object, member_at, refusal_of, is_linked_in}
 use Rattle.ic_world.specs.Calls as calls
@@ -23,11 +23,11 @@ use Rattle.ic_world.proofs.Tested.{goes_on, stops}
 use Rattle.ic_world.proofs.Turned.{turns_put, turns_swap}
 
 module _ {V M : Type 0} (K : Type 0) (old new : AnyTable M) (at : Gap) (p : Place) (m m' : AnyCollection V) where
-  -- whether p is linked, as the world asks it
+  -- the world's test whether p is unlinked gives the result that the entry of p in the table gives
   linked_so : {b : Bool} → is_linked ((table_in old).entry p) ≡ b → not (is_linked_in (state_of (table_in old) m) p) ≡ not b
   linked_so e = ap not (in_linked (table_in old) (lawful old) p ∙ e)
 
-  -- AN OBJECT IS PUT IN,
+  -- AN OBJECT IS INSERTED: if the collection inserted p into the gap, the world's call is accepted
   module _ (can : can_insert at (kind_in m) ≡ true) where
     pub put_in : AtGap (members_in (table_in old) m) (λ gap. IsGapAt at (cursor_in m) gap × Puts (table_in old) (table_in new) m m' gap p (rests at (cursor_in m)))
         → Ran {R = Unit {0}} (p ∷ []) (refusal_of {K = K} (one.Put at p)) (λ a s t. calls.PutReplies at p s done t) old new m m' (Ok tt)
@@ -37,11 +37,11 @@ module _ {V M : Type 0} (K : Type 0) (old new : AnyTable M) (at : Gap) (p : Plac
       unchanged = tt;
     }
 
-    -- or refused
+    -- if p was linked already and nothing has changed, the world's call is refused with `AlreadyLinked`
     pub put_not : IsLinked is_linked (table_in old) p × IsUnchanged old new m m' → Ran {R = Unit {0}} (p ∷ []) (refusal_of {K = K} (one.Put at p)) (λ a s t. calls.PutReplies at p s done t) old new m m' (Err AlreadyLinked)
     put_not e = record { tested = goes_on _ _ _ can (stops _ _ _ (linked_so e.0)); turned = tt; unchanged = e.1 }
 
-  -- AN OBJECT TAKES THE PLACE of a member: the one that is meant,
+  -- AN OBJECT REPLACES A MEMBER: the replaced member is the one after the gap that the call names
   member_there : (at : Gap) → can_replace at (kind_in m) ≡ true → Held (table_in old) m → (gap : Cut) → join gap ≡ members_in (table_in old) m → gaps.IsFrontOf at (members_in (table_in old) m) (cursor_in m) gap
       → member_at at (state_of (table_in old) m) ≡ first gap.back
   member_there Front can held gap same front = cc
@@ -65,7 +65,7 @@ module _ {V M : Type 0} (K : Type 0) (old new : AnyTable M) (at : Gap) (p : Plac
       unchanged = tt;
     }
 
-    -- none is there, or the object is linked
+    -- the replacement is refused if there is no member to replace, or if the object is already linked
     pub swap_nothing : (acquired : Bool) → Swapped None acquired
         → Ran (p ∷ []) (refusal_of {K = K} (one.Swap at p)) (λ out s t. calls.SwapReplies at p s (object out) t) old new m m' (Err NothingThere)
     swap_nothing acquired e = record { tested = goes_on _ _ _ can (stops _ _ _ (is_there None acquired e)); turned = tt; unchanged = e.2.2 }

@@ -1,4 +1,4 @@
--- What keyed calls leave to the world, from what the tree's own calls give.
+-- What a world guarantees of keyed calls follows from the contracts of the tree's own calls.
 use Rattle.std.proofs.Common.{◌≡◌, ◌∙◌, ℕ, inl, Bool, true, false, not, Option, Some, None, List, [], ◌∷◌, refl, sym, ap, Ok, Err, IfOk, OnErr}
 use Rattle.std.specs.Bool.{OnTrue, OnFalse}
 use Rattle.std.specs.declared.cmp.Ordering.{Ordering}
@@ -21,7 +21,7 @@ use Rattle.ic_world.proofs.Linked.{in_linked}
 use Rattle.ic_world.proofs.Tested.{goes_on, stops}
 use Rattle.ic_world.proofs.Turned.{turns_by, turns_put}
 
--- the cursor alone has moved, in a call that names what it may
+-- a call that only moves the cursor meets what the world requires of a call, whatever objects it names
 still : {V M : Type 0} (links : AnyTable M) {m m' : AnyCollection V} {names : List Place} {cursor : Option Place} {Accepts : State → State → Type 0} → (e : Moves (table_in links) m m' cursor)
     → (state_of (table_in links) m' ≡ moved (state_of (table_in links) m) cursor → Accepts (state_of (table_in links) m) (state_of (table_in links) m'))
     → Turns names Accepts (table_in links) (table_in links) m m'
@@ -31,13 +31,13 @@ still links {m' = m'} e accepts =
     (λ q out. out) refl accepts
 
 module _ {V M : Type 0} {links : AnyTable M} {m : AnyCollection V} where
-  -- A SEARCH of a tree
+  -- A SEARCH of a tree, which only moves the cursor, is an accepted call of the world
   pub searched : {R : Type 0} {names : List Place} {m' : AnyCollection V} {cursor : Option Place} {accepts : R → State → State → Type 0} (answer : R) → is_tree (kind_in m) ≡ true
       → Moves (table_in links) m m' cursor → (state_of (table_in links) m' ≡ moved (state_of (table_in links) m) cursor → accepts answer (state_of (table_in links) m) (state_of (table_in links) m'))
       → Ran names (λ s. asks (is_tree s.kind) WrongKind None) accepts links links m m' (Ok answer)
   searched answer is e accepts = record { tested = goes_on _ _ _ is refl; turned = still links e accepts; unchanged = tt }
 
-  -- AN INSERT IN ORDER with so many looks, or its refusal
+  -- AN INSERT IN ORDER that compared `looks` keys is an accepted call of the world, or is refused because the object was already linked
   pub inserted : {links' : AnyTable M} {m' : AnyCollection V} {cursor : Option Place} {accepts : ℕ → State → State → Type 0} (Asked : Type 0) (at : Place → Ordering) (p : Place) (acquired : Bool) (looks : ℕ)
       → is_tree (kind_in m) ≡ true → OnTrue acquired (PutsInOrder at (table_in links) (table_in links') m m' p cursor) → OnTrue acquired (WithinComparisonBound looks (members_in (table_in links) m))
       → (WithinComparisonBound looks (members_in (table_in links) m) → (gap : Cut) → join gap ≡ members_in (table_in links) m → IsBorder (less_at at) gap → state_of (table_in links') m' ≡ put (state_of (table_in links) m) gap p cursor
@@ -55,7 +55,7 @@ module _ {V M : Type 0} {links : AnyTable M} {m : AnyCollection V} where
     unchanged = refused.2;
   }
 
--- AN ENTRY
+-- AN ENTRY with the key `key` and the object p: a member with the key is found, or p is inserted, or p is refused
 module _ {V K : Type 0} (cmp : K → K → Ordering) (key_of : V → K) (objects : Objects V) (key : K) (p : Place) where
   abbrev at : Place → Ordering
   at = key_at cmp key_of objects key

@@ -15,12 +15,12 @@ use Rattle.ic_any_collection.specs.declared.kind.Kind.TheVariants.{Singly}
 use Rattle.ic_world.specs.declared.call.Refusal.{Refusal}
 use Rattle.ic_world.specs.declared.call.Refusal.TheVariants.{AlreadyLinked, OutOfMemory}
 use Rattle.ic_world.specs.declared.call.Command.TheVariants.{Open, ForceUnlink}
-use Rattle.ic_world.specs.declared.calls.one_call.Call.TheVariants as one
-use Rattle.ic_world.specs.declared.calls.one_call.Direction.TheVariants.{Next, Prev}
-use Rattle.ic_world.specs.declared.part.Part.{Part}
-use Rattle.ic_world.specs.declared.part.Part.TheVariants.{All, After, Before}
+use Rattle.ic_world.specs.declared.calls.collection_call.Call.TheVariants as one
+use Rattle.ic_world.specs.declared.calls.collection_call.Neighbor.TheVariants.{Next, Prev}
+use Rattle.ic_world.specs.declared.taken_part.TakenPart.{TakenPart}
+use Rattle.ic_world.specs.declared.taken_part.TakenPart.TheVariants.{All, After, Before}
 use Rattle.ic_world.specs.declared.calls.seek.Seek.TheVariants.{Null, On, With}
-use Rattle.ic_world.specs.declared.calls.whole.Whole.TheVariants.{Clear, Reverse}
+use Rattle.ic_world.specs.declared.calls.bulk_edit.BulkEdit.TheVariants.{Clear, Reverse}
 use Rattle.ic_world.specs.declared.calls.insertion.Insertion.TheVariants.{Insert, CursorInsert}
 use Rattle.ic_world.specs.declared.calls.search.Search.TheVariants.{Find, LowerBound, UpperBound}
 use Rattle.ic_world.specs.Family.{Family, LinkField, Sequence, collection, field_of, linked_of, objects_of, with_linked, with_collection, with_opened}
@@ -32,7 +32,7 @@ use Rattle.ic_world.proofs.Linked.{side}
 use Rattle.ic_world.proofs.Readings.{some_within}
 use Rattle.ic_world.proofs.CanSplice.{can_splice_of}
 
--- a place that is in a set with q, and is another, was in it; and one that is in it without q
+-- a place other than q that is in the set l with q added is in l. A place that is in l without q is in l, and is not q
 module _ (l : set_of.FinSet nat_cmp) (q p : Place) where
   was_in : p ≢ q → set_of.contains (set_of.insert l (index_of q)) (index_of p) ≡ true → set_of.contains l (index_of p) ≡ true
   was_in d h =
@@ -55,13 +55,13 @@ still_unlinked l (x ∷ s) p h =
     let rest = still_unlinked l s p here.1 in
     ((here.0, rest.0), rest.1)
 
--- p is linked in the field of the collection, and no member of it
+-- the place p is linked in the field of the collection, but is not a member of the collection
 abbrev IsBeside : Place → State → Type 0
 IsBeside p s = (is_linked_in s p ≡ true) × IsAbsent p s.members
 
--- WHAT IS BESIDE A COLLECTION after a call was so before it: no member was left linked
+-- A PLACE THAT IS LINKED BUT NOT A MEMBER after a call of the collection s was linked and not a member before it. So the call left no member linked
 module _ (p : Place) (s : State) where
-  -- the collection is cut there
+  -- the members of the collection are cut at `gap`
   module _ (gap : Cut) (cut : join gap ≡ s.members) where
     absent_there : IsAbsent p gap.front → IsAbsent p gap.back → IsAbsent p s.members
     absent_there front back = subst (IsAbsent p) cut (absent_both p gap.front gap.back front back)
@@ -103,8 +103,8 @@ module _ (p : Place) (s : State) where
     was_beside (one.Seek Null) reply h = left_as h.1 (λ k. k)
     was_beside (one.Seek (On q)) reply h = left_as h.1 (λ k. k)
     was_beside (one.Seek (With way q beside)) reply h = left_as h.1 (λ k. k)
-    was_beside (one.Whole Clear) reply h = left_as h.1 beside_cleared
-    was_beside (one.Whole Reverse) reply h = left_as h.1 (λ k. (k.0, subst (IsAbsent p) (reverse-reverse s.members) (absent_reverse p (reverse s.members) k.1)))
+    was_beside (one.BulkEdit Clear) reply h = left_as h.1 beside_cleared
+    was_beside (one.BulkEdit Reverse) reply h = left_as h.1 (λ k. (k.0, subst (IsAbsent p) (reverse-reverse s.members) (absent_reverse p (reverse s.members) k.1)))
     was_beside (one.Search (Find key)) (found q n) h = left_as h.2 (λ k. k)
     was_beside (one.Search (LowerBound bound)) (found q n) h = left_as h.2 (λ k. k)
     was_beside (one.Search (UpperBound bound)) (found q n) h = left_as h.2 (λ k. k)
@@ -115,14 +115,14 @@ module _ (p : Place) (s : State) where
     was_beside (one.Enter key q) (refused AlreadyLinked) h = left_as h.2 (λ k. k)
     was_beside _ _ h = absurd h
 
-  -- and what is beside a part that stays and beside the part that was handed out
-  beside_parts : (part : Part) (t handed : State) → PartsOf part s t handed → IsAbsent p handed.members → IsBeside p t → IsBeside p s
+  -- a linked place that is a member neither of the part that stays nor of the part that was given away was no member before the call
+  beside_parts : (part : TakenPart) (t handed : State) → PartsOf part s t handed → IsAbsent p handed.members → IsBeside p t → IsBeside p s
   beside_parts All t handed h out = left_as h.0 (λ k. (k.0, subst (λ (x : State). IsAbsent p x.members) h.1 out))
   beside_parts After t handed h out = left_as h.2.1 (λ k. (k.0, absent_there h.0 h.1 k.1 (subst (λ (x : State). IsAbsent p x.members) h.2.2 out)))
   beside_parts Before t handed h out = left_as h.2.1 (λ k. (k.0, absent_there h.0 h.1 (subst (λ (x : State). IsAbsent p x.members) h.2.2 out) k.1))
 
 module _ {A V : Type 0} (w : Family A V) (f : ℕ) (p : Place) where
-  -- a field with other linked places
+  -- if the linked places of the field f are set to l, a place that is then linked in f is in l
   linked_now : (l : set_of.FinSet nat_cmp) → set_of.contains (linked_of (with_linked w f l) f) (index_of p) ≡ true → set_of.contains l (index_of p) ≡ true
   linked_now l h = elim (side (length w.fields) f) [
     | inl past ↦ absurd (let no = ap (λ (fs : List LinkField). set_of.contains (field_of (record w { fields = fs }) f).linked (index_of p)) (set_past w.fields f _ past) ∙ ap (λ (x : LinkField). set_of.contains x.linked (index_of p)) (get_or_past w.fields f _ past) ∙ contains-empty nat_cmp (index_of p) in let both : false ≡ true = sym no ∙ h in cc)
@@ -141,7 +141,7 @@ module _ {A V : Type 0} (w : Family A V) (f : ℕ) (p : Place) where
     h.1,
   )
 
-  -- another collection, or none, under a number
+  -- if the collection c is replaced by o, a place that is then left linked was left linked before, provided that it was no member of c
   replaced : (c : ℕ) (o : Option Sequence) → ((s : Sequence) → collection w c ≡ Some s → s.field ≡ f → IsAbsent p s.members)
       → IsLeftLinked (with_collection w c o) f p → IsLeftLinked w f p
   replaced c o back h = (
@@ -156,7 +156,7 @@ module _ {A V : Type 0} (w : Family A V) (f : ℕ) (p : Place) where
   replaced_is c o is = get_or-set_same w.collections c o None (some_within w.collections c is)
 
 module _ {A V : Type 0} (w : Family A V) (f : ℕ) (p : Place) where
-  -- a collection in another state
+  -- if the collection c gets the state t, a place that is then left linked was left linked before, provided that it was no member of c
   restated : (c : ℕ) (s : Sequence) → collection w c ≡ Some s → (t : State) → (s.field ≡ f → IsBeside p t → IsBeside p (state_in w s))
       → IsLeftLinked (with_state w c s.field t) f p → IsLeftLinked w f p
   restated c s is t back h = elim (cases_eq f s.field) [
@@ -173,20 +173,20 @@ module _ {A V : Type 0} (w : Family A V) (f : ℕ) (p : Place) where
       mid : Family A V
       mid = with_collection w c (Some (sequence_of s.field t))
 
-  -- a collection more
+  -- if one more collection x is opened, a place that is left linked was left linked before, and is no member of x
   not_opened : (x : Sequence) → IsLeftLinked (with_opened w x) f p → IsLeftLinked w f p × (x.field ≡ f → IsAbsent p x.members)
   not_opened x h = (
     (h.0, λ d s is field. h.1 d s (get_or_append_left w.collections (Some x ∷ []) None d (some_within w.collections d is) ∙ is) field),
     λ field. h.1 (length w.collections) x (get_or_push w.collections (Some x) None (length w.collections) refl) field,
   )
 
--- SO NONE IS LEFT LINKED after a call, if none was before it
+-- A CALL LEAVES NO MEMBER LINKED: if no place was left linked before the call, none is after it
 module _ {A V : Type 0} {left : List Bool} {old : Family A V} (none : NoneLeftLinked left old) {new : Family A V} where
   none_as : {w : Family A V} → new ≡ w → ((f : ℕ) (p : Place) → IsLeftLinked w f p → IsLeftLinked old f p) → NoneLeftLinked left new
   none_as same back = record { none = λ f p kept h. none.none f p kept (back f p (subst (λ w. IsLeftLinked w f p) same h)) }
 
-  -- one that hands a part out
-  pub none_out : (c : ℕ) (part : Part) (reply : Reply) → StepOut old c part reply new → NoneLeftLinked left new
+  -- a call that gives a part of a collection away leaves no member linked
+  pub none_out : (c : ℕ) (part : TakenPart) (reply : Reply) → StepOut old c part reply new → NoneLeftLinked left new
   none_out c part reply step = by (refusal_of_part old c part) reply step
     where
       by : (o : Option Refusal) (reply : Reply) → StepBy o (OpensWith old c part) old reply new → NoneLeftLinked left new
@@ -197,7 +197,7 @@ module _ {A V : Type 0} {left : List Bool} {old : Family A V} (none : NoneLeftLi
       by None (refused OutOfMemory) h = none_as h (λ f p k. k)
       by None _ h = absurd h
 
-  -- a splice
+  -- a splice leaves no member linked
   pub none_spliced : (Beside : Cut → Option Place → Type 0) (has : Kind → Bool) (c d : ℕ) (reply : Reply) → StepSplice Beside has old c d reply new → NoneLeftLinked left new
   none_spliced Beside has c d reply step = by (refusal_of_splice old has c d) refl step
     where
@@ -224,9 +224,9 @@ module _ {A V : Type 0} {left : List Bool} {old : Family A V} (none : NoneLeftLi
           let rest = absent_right p t.members gap.back (absent_right p gap.front (t.members ++ gap.back) all) in
           subst (λ (x : Sequence). IsAbsent p x.members) same (subst (IsAbsent p) h.4 (absent_both p gap.front gap.back (absent_left p gap.front (t.members ++ gap.back) all) rest))) k))
 
-  -- `cmp`, `key_of`: the order of the keys, and the key of a value
+  -- `cmp` is the order of the keys, and `key_of` computes the key of a value
   module _ {K : Type 0} (cmp : K → K → Ordering) (key_of : A → V → K) where
-    -- one of one collection
+    -- a call of one collection leaves no member linked
     pub none_on : (c : ℕ) (call : Call K) (reply : Reply) → StepOn cmp key_of old c call reply new → NoneLeftLinked left new
     none_on c call reply step = by (refusal_on old c call) step
       where
@@ -234,7 +234,7 @@ module _ {A V : Type 0} {left : List Bool} {old : Family A V} (none : NoneLeftLi
         by (Some r) h = none_as h.1 (λ f p k. k)
         by None h = none_as h.4 (λ f p. restated old f p c h.0 h.2 h.1 (λ e. was_beside p (state_in old h.0) cmp (key_of old.adapter) (objects_of old) h.1 call reply h.3))
 
-    -- one that opens a collection
+    -- a call that opens a collection leaves no member linked
     pub none_opened : (f : ℕ) (k : Kind) (reply : Reply) → Step cmp key_of old (Open f k) reply new → NoneLeftLinked left new
     none_opened f k reply step = by (refusal_of_open old f k) reply step
       where
@@ -244,7 +244,7 @@ module _ {A V : Type 0} {left : List Bool} {old : Family A V} (none : NoneLeftLi
         by None (refused OutOfMemory) h = none_as h (λ g p k. k)
         by None _ h = absurd h
 
-    -- one that unlinks an object by force
+    -- a call that unlinks an object by force leaves no member linked
     pub none_freed : (f : ℕ) (q : Place) (reply : Reply) → Step cmp key_of old (ForceUnlink f q) reply new → NoneLeftLinked left new
     none_freed f q reply step = by (refusal {K = K} old (ForceUnlink f q)) step
       where
@@ -252,7 +252,7 @@ module _ {A V : Type 0} {left : List Bool} {old : Family A V} (none : NoneLeftLi
         by (Some r) h = none_as h.1 (λ g p k. k)
         by None h = none_as h.1 (λ g p. relinked old g p f _ (λ e k. (still_in _ q p k).1))
 
--- one that leaves all members of a collection linked, and says so of its field
+-- `fast_clear` leaves members linked, but it sets the mark of the field, so that no field without the mark has members that are left linked
 pub none_cleared : {A V : Type 0} {left : List Bool} {old : Family A V} → NoneLeftLinked left old → (c : ℕ) (s : Sequence) → collection old c ≡ Some s
     → NoneLeftLinked (set left s.field true) (with_collection old c (Some (with_members s [] None)))
 none_cleared {left = left} {old = old} before c s is = record {
@@ -268,7 +268,7 @@ none_cleared {left = left} {old = old} before c s is = record {
   ];
 }
 
--- one that gives up a collection with no member
+-- a call that disposes of a collection with no member leaves no member linked
 pub none_dropped : {A V : Type 0} {left : List Bool} {old : Family A V} → NoneLeftLinked left old → (c : ℕ) (s : Sequence) → collection old c ≡ Some s → s.members ≡ []
     → NoneLeftLinked left (with_collection old c None)
 none_dropped {old = old} before c s is empty = record {
@@ -276,7 +276,7 @@ none_dropped {old = old} before c s is empty = record {
       subst (λ (x : Sequence). IsAbsent p x.members) (some_same (sym is ∙ is_r)) (subst (IsAbsent p) (sym empty) tt)) h);
 }
 
--- one that makes a field, in which nothing is linked
+-- a call that makes a field leaves no member linked, because no place is linked in the new field
 pub none_added : {A V : Type 0} {left : List Bool} {old : Family A V} → NoneLeftLinked left old → length left ≡ length old.fields → (kind : Kind)
     → NoneLeftLinked (left ++ false ∷ []) (record old { fields = old.fields ++ record { kind = kind; linked = set_of.empty } ∷ [] })
 none_added {left = left} {old = old} before count kind = record {

@@ -13,7 +13,7 @@ pub mod Live
 pub mod Edits
 pub mod Opened
 pub mod Turned
-pub mod OneCall
+pub mod CollectionCall
 pub mod Growth
 pub mod ObjectChanges
 pub mod HandedOut

@@ -1,4 +1,4 @@
--- The linked set of a table, as its entries change.
+-- How the set of the linked places of a table changes with the entries of the table.
 use Rattle.std.proofs.Common.{◌≡◌, ◌≢◌, ℕ, zero, suc, ◌<◌, ◌+◌, ◌*◌, Option, Some, None, ◌≤◌, ◌⊎◌, inl, inr, Bool, true, false, cond, not, ◌&&◌, ◌||◌, nat_eq, List, [], ◌∷◌, refl, sym, ap, ◌∙◌, subst, arith, eq-eqb, ne_eqb}
 use Rattle.std.specs.List.{list_any}
 use Rattle.std.specs.Ordering.{nat_cmp}
@@ -15,7 +15,7 @@ use Rattle.ic_world.specs.Calls.{unlinked}
 use Rattle.ic_world.specs.LinkedSets.{linked_there, linked_index, linked_below, linked_in}
 use Rattle.ic_world.specs.Tables.{no_table}
 
--- an index is that of a place, or past all places
+-- `linked_index` at the index of a place says whether the entry of the place is linked. An index past all places is not linked
 linked_index_is : (t : Table Entry) (p : Place) → linked_index t (index_of p) ≡ is_linked (t.entry p)
 linked_index_is t p = ap (linked_there t) (place_at_word (Some p))
 
@@ -33,7 +33,7 @@ side zero n = inl (omega arith)
 side (suc m) zero = inr (omega arith)
 side (suc m) (suc n) = elim (side m n) [ inl h ↦ inl (omega (arith, h)) | inr h ↦ inr (omega (arith, h)) ]
 
--- the list has exactly the linked indexes below n
+-- the list `linked_below t n` has exactly the linked indexes below n
 above : (t : Table Entry) (n i : ℕ) → n ≤ i → list_any (λ y. nat_eq y i) (linked_below t n) ≡ false
 above t zero i h = refl
 above t (suc n) i h =
@@ -73,7 +73,7 @@ in_linked t law p =
       | inr h ↦ below t n (index_of p) h ∙ linked_index_is t p
     ]
 
--- and no other index is in it
+-- an index past the indexes of all places is not in the linked set
 beyond : (t : Table Entry) (i : ℕ) → 8589934591 ≤ i → set.contains (linked_in t) i ≡ false
 unfolding linked_in
 beyond t i h =
@@ -101,11 +101,11 @@ pub linked_empty : linked_in no_table ≡ set.empty
 unfolding linked_in
 linked_empty = refl
 
--- the set is as the entries are linked
+-- the linked set stays the same, if each place is linked in the new table exactly if it was linked in the old one
 pub linked_same : (old new : Table Entry) → IsLawful old → IsLawful new → ((q : Place) → is_linked (new.entry q) ≡ is_linked (old.entry q)) → linked_in new ≡ linked_in old
 linked_same old new law law' same = is_linked_set new law' (linked_in old) (λ p. in_linked old law p ∙ sym (same p)) (beyond old)
 
--- p is linked now
+-- if p is linked now and nothing else changes, p is added to the linked set
 pub linked_gains : (old new : Table Entry) → IsLawful old → IsLawful new → (p : Place) → is_linked (new.entry p) ≡ true
     → ((q : Place) → q ≢ p → is_linked (new.entry q) ≡ is_linked (old.entry q)) → linked_in new ≡ set.insert (linked_in old) (index_of p)
 linked_gains old new law law' p now same =
@@ -121,7 +121,7 @@ linked_gains old new law law' p now same =
     ∙ ap (λ b. b || set.contains (linked_in old) i) (unsigned_tied i (index_of p) ∙ ne_eqb i (index_of p) (λ e. omega (arith, e, h, index_small p)))
     ∙ beyond old i h)
 
--- p is linked no more
+-- if p is now unlinked and nothing else changes, p is removed from the linked set
 pub linked_loses : (old new : Table Entry) → IsLawful old → IsLawful new → (p : Place) → is_linked (new.entry p) ≡ false
     → ((q : Place) → q ≢ p → is_linked (new.entry q) ≡ is_linked (old.entry q)) → linked_in new ≡ set.remove (linked_in old) (index_of p)
 linked_loses old new law law' p now same =
@@ -137,7 +137,7 @@ linked_loses old new law law' p now same =
     ∙ ap (λ b. not b && set.contains (linked_in old) i) (unsigned_tied i (index_of p) ∙ ne_eqb i (index_of p) (λ e. omega (arith, e, h, index_small p)))
     ∙ beyond old i h)
 
--- a place is absent from some, or it is not
+-- a place q is absent from the sequence s, or is a member of it
 pub absent_or : (s : List Place) (q : Place) → IsAbsent q s ⊎ (IsAbsent q s → ⊥)
 absent_or [] q = inl tt
 absent_or (x ∷ s) q =
@@ -149,7 +149,7 @@ absent_or (x ∷ s) q =
       ]
     ]
 
--- some places are linked no more
+-- if the places of s are now unlinked and nothing else changes, they are removed from the linked set
 pub linked_unlinks : (old new : Table Entry) → IsLawful old → IsLawful new → (s : List Place) → ((q : Place) → (IsAbsent q s → ⊥) → is_linked (new.entry q) ≡ false)
     → ((q : Place) → IsAbsent q s → is_linked (new.entry q) ≡ is_linked (old.entry q)) → linked_in new ≡ unlinked (linked_in old) s
 linked_unlinks old new law law' s now same =
@@ -182,7 +182,7 @@ linked_unlinks old new law law' s now same =
     past [] i h = beyond old i h
     past (x ∷ s) i h = step s x i (λ e. omega (arith, e, h, index_small x)) ∙ past s i h
 
--- p is linked, and then `out` is linked no more
+-- if first p is linked and then `out` is unlinked, p is added to the linked set and `out` is removed from it
 pub linked_swaps : (old mid new : Table Entry) → IsLawful old → IsLawful new → (p out : Place) → IsCovered old p → LinksAlso is_linked old mid p → Unlinks is_linked mid new out
     → linked_in new ≡ set.remove (set.insert (linked_in old) (index_of p)) (index_of out)
 linked_swaps old mid new law law' p out covered gains loses =

@@ -1,4 +1,4 @@
--- The live collections of a field, as its list has them.
+-- The live collections of a field are those in the list of the field.
 use Rattle.std.proofs.Common.{◌≡◌, ℕ, ◌<◌, ◌≤◌, ◌+◌, inl, inr, List, [], length, map, get_or, Option, Some, None, refl, sym, ap, ◌∙◌, subst, arith, Bool, true, false, ◌↔◌, IsTrue}
 use Rattle.std.proofs.lemmas.Bool.{cases_eq}
 use Rattle.std.specs.Prelude.{slice_get}
@@ -17,11 +17,11 @@ use Rattle.ic_world.specs.ByNumber.{items_of, live_in, lying, in_field, by_numbe
 use Rattle.ic_world.proofs.ByNumber.{Lists, shown, represented_is, some_not_none}
 
 module _ {V : Type 0} {cs : List (Option (Collection V))} (ls : Lists V) (ns : List Slot) (are : AreNumbered ls ns) (view : by_number ls ns ≡ cs) where
-  -- what lies in a field is represented under its number
+  -- a collection in the list of the field f is the collection of its number
   live_represented : (f i : ℕ) (n : Numbered V) → lying ls f i ≡ Some n → at cs n.number ≡ Some (record { field = f; members = n.members })
   live_represented f i n lies = represented_is ls ns n.number (record { field = f; index = i }) view ∙ ap (shown ls) (are.found f i n lies) ∙ ap (in_field f) lies
 
-  -- and what is represented lies in its field
+  -- a collection that has a number is in the list of its field
   represented_live : (c : ℕ) (k : Collection V) → at cs c ≡ Some k → (i : ℕ) × (n : Numbered V) × (lying ls k.field i ≡ Some n) × (n.members ≡ k.members)
   represented_live c k is = by (slice_get ns c) refl
     where
@@ -56,13 +56,13 @@ module _ {V : Type 0} {cs : List (Option (Collection V))} (ls : Lists V) (ns : L
       })),
     )
 
-    -- a field past the lists has none
+    -- a field whose number is past the lists has no collection, so no place is a member of one
     pub has_none : (p : Place) → length ls ≤ f → HasMember cs f t p → ⊥
     has_none p past has =
         let n = represented_live has.number has.one has.is in
         some_not_none n.2 (ap (λ xs. slice_get xs n.0) (get_or_past ls has.one.field [] (omega (arith, past, has.field))))
 
--- THE LIST OF A FIELD, asked from its front
+-- THE LIST OF A FIELD IS SEARCHED from its front for a collection with the member p
 module _ {V : Type 0} (t : Table Entry) (p : Place) (list : List (Numbered V)) where
   abbrev Lack : ℕ → Type 0
   Lack i = (j : ℕ) → j < i → (n : Numbered V) → slice_get list j ≡ Some n → IsMember p (members_in t n.members) → ⊥
@@ -85,6 +85,6 @@ module _ {V : Type 0} (t : Table Entry) (p : Place) (list : List (Numbered V)) w
   none_has i past lacks =
       ((λ never. absurd (let no = never in cc)), (λ has. absurd (let low = slice_get_within list has.index has.one has.is in lacks has.index (omega (arith, low, past)) has.one has.is has.member)))
 
--- the list of a field, as it is read
+-- the list that a call reads for the field f has the live collections of the field
 pub field_list : {V M : Type 0} (lists : List (Vec (Numbered V) M)) (f : ℕ) (list : Vec (Numbered V) M) → f < length lists → list ≡ get_or lists f list → live_in (map items_of lists) f ≡ list.items
 field_list {V} {M} lists f list within read = get_or-map items_of lists f list [] within ∙ ap (λ (v : Vec (Numbered V) M). v.items) (sym read)

@@ -1,4 +1,4 @@
--- How few looks a search by a fresh probe has made.
+-- How few looks (key comparisons) a search has made whose probe had compared nothing before.
 use Rattle.std.proofs.Common.{◌≡◌, ℕ, Bool, true, false, List, refl, sym, subst, arith}
 use Rattle.std.specs.Bool.{OnTrue}
 use Rattle.std.specs.declared.cmp.Ordering.{Ordering}
@@ -11,16 +11,16 @@ use Rattle.ic_rbtree.specs.KeyProbe.{looks_of}
 use Rattle.ic_world.specs.Looks.{WithinComparisonBound, WithinBound, looks_within}
 
 module _ {A V K : Type 0} (order : KeyProbe A V K → V → Ordering) where
-  -- a probe that was never asked before has counted the looks of one descent,
+  -- a probe that had compared nothing before has counted only the looks of one search
   pub few_asked : {old new : KeyProbe A V K} {s : List Place} → looks_of old ≡ 0 → Looks order looks_of old new s → WithinComparisonBound (looks_of new) s
   few_asked {new = new} {s} none l = let e : looks_of new ≡ l.looks = omega (arith, l.counted, none) in subst (λ n. WithinComparisonBound n s) (sym e) l.few
 
-  -- if what it was asked for is done,
+  -- if an insertion was made, its probe has counted only the looks of one search
   pub few_done : (old new : KeyProbe A V K) (s : List Place) (acquired : Bool) → looks_of old ≡ 0 → OnTrue acquired (Looks order looks_of old new s) → OnTrue acquired (WithinComparisonBound (looks_of new) s)
   few_done old new s true none l = few_asked none l
   few_done old new s false none l = tt
 
-  -- and so has the probe of a bound
+  -- the probe of a bound, which had compared nothing before, has counted only the looks of one search
   few_within : (old new : Bound (KeyProbe A V K)) (s : List Place) → looks_within old ≡ 0 → LooksWithin order looks_of old new s → WithinBound old (looks_within new) s
   few_within (Included old) (Included new) s none l = few_asked none l
   few_within (Excluded old) (Excluded new) s none l = few_asked none l
@@ -32,7 +32,7 @@ module _ {A V K : Type 0} (order : KeyProbe A V K → V → Ordering) where
   few_within Unbounded (Included new) s none l = absurd l
   few_within Unbounded (Excluded new) s none l = absurd l
 
--- what is made of the end of a bound changes nothing of it
+-- a function that changes the key of a bound does not change how many looks are allowed
 module _ {B C : Type 0} (f : B → C) (n : ℕ) (s : List Place) where
   few_of_end : (bound : Bound B) → WithinBound bound n s → WithinBound (bound_map f bound) n s
   few_of_end (Included end) few = few
@@ -44,7 +44,7 @@ module _ {B C : Type 0} (f : B → C) (n : ℕ) (s : List Place) where
   few_of_map (Excluded end) few = few
   few_of_map Unbounded few = few
 
--- the looks of a search for the key of a bound, from none
+-- a search with a bound, by a probe that had compared nothing, makes at most the looks that are allowed for the bound
 pub few_for : {A V K : Type 0} (order : KeyProbe A V K → V → Ordering) (by_key : K → V → Ordering) (objects : Objects V) (bound : Bound K) (old new : Bound (KeyProbe A V K)) (s : List Place)
     → looks_within old ≡ 0 → compared_within order objects old ≡ compared_within by_key objects bound → LooksWithin order looks_of old new s → WithinBound bound (looks_within new) s
 few_for order by_key objects bound old new s none same looks =

@@ -1,4 +1,4 @@
--- What the tests on members and their neighbors answer, by a gap beside the member.
+-- What the tests of members and their neighbors return, if the sequence is cut at a gap beside the member.
 use Rattle.std.proofs.Common.{◌≡◌, ◌≢◌, ◌↔◌, IsTrue, inl, inr, Bool, true, false, cond, Option, Some, None, List, [], ◌∷◌, ◌++◌, refl, sym, ap, ◌∙◌, subst, drop, append_assoc, eq-eqb, ne_eqb}
 use Rattle.std.proofs.lemmas.Bool.{false_from_ne_true}
 use Rattle.ic_link_ops.specs.Prelude.{Place, index_of, Cut, join, first, last, last_or, but_last, IsAfter, IsBefore, IsAbsent, IsMember, IsDistinct}
@@ -13,7 +13,8 @@ same_here p = eq-eqb (index_of p) (index_of p) refl
 other_there : (x p : Place) → p ≢ x → same_place x p ≡ false
 other_there x p n = ne_eqb (index_of x) (index_of p) (λ e. n (sym (same_index x p e)))
 
--- in a sequence where p stands, and none before it is p
+-- in a sequence with the member p, the test finds that p is a member. If p is not among the members before it, its neighbors are the last of them and
+-- the next member
 among_at : (f b : List Place) (p : Place) → is_among p (f ++ p ∷ b) ≡ true
 among_at [] b p = rw (same_here p) refl
 among_at (x ∷ f) b p = elim (same_place x p) as (λ c. cond c true (is_among p (f ++ p ∷ b)) ≡ true) [ true ↦ refl | false ↦ among_at f b p ]
@@ -30,7 +31,7 @@ pub not_among : (s : List Place) (p : Place) → IsAbsent p s → is_among p s �
 not_among [] p out = refl
 not_among (x ∷ s) p out = rw (other_there x p out.0) (not_among s p out.1)
 
--- a member is after a gap
+-- a sequence can be cut at the gap directly before a member p
 pub member_gap : (s : List Place) (p : Place) → IsMember p s → (gap : Cut) × (join gap ≡ s) × IsBefore gap (Some p)
 member_gap s p member = let e = member_split p s member in (record { front = e.0; back = p ∷ e.1 }, sym e.2, refl)
 
@@ -51,7 +52,7 @@ module _ (gap : Cut) {s : List Place} {p : Place} (cut : join gap ≡ s) (is : I
     pub after_gap : after_of s p ≡ first (drop 1 gap.back)
     after_gap = ap (λ t. after_of t p) whole ∙ after_at gap.front (drop 1 gap.back) p in_front
 
--- the member after a cursor
+-- the member after a cursor is the first member after the gap that is after the cursor
 pub next_gap : (gap : Cut) (cursor : Option Place) {s : List Place} → IsDistinct s → join gap ≡ s → IsAfter gap cursor → next_of s cursor ≡ first gap.back
 next_gap gap None distinct cut is = ap first (sym cut) ∙ ap (λ f. first (f ++ gap.back)) (nothing_last gap.front is)
 next_gap gap (Some p) {s} distinct cut is =
@@ -61,7 +62,7 @@ next_gap gap (Some p) {s} distinct cut is =
     let out = absent_left p (but_last gap.front) gap.back (distinct_middle (but_last gap.front) gap.back p (subst IsDistinct all distinct)) in
     ap (λ t. after_of t p) all ∙ after_at (but_last gap.front) gap.back p out
 
--- whether it is found that p is a member
+-- a test b that is true exactly if p is a member of s gives the result of `is_among`
 pub contains_tells : (s : List Place) (p : Place) (b : Bool) → IsTrue b ↔ IsMember p s → is_among p s ≡ b
 contains_tells s p b tells = elim (absent_or s p) [
   | inl out ↦ not_among s p out ∙ sym (false_from_ne_true b (λ h. tells.0 h out))

@@ -1,4 +1,4 @@
--- An object more, another value in an object's place, and an object less.
+-- What a world guarantees if an object is placed, if the value of an object is replaced, and if an object is removed.
 use Rattle.std.proofs.Common.{◌≡◌, ◌≢◌, ℕ, ◌<◌, ◌^◌, ◌⊎◌, inl, inr, Bool, true, false, cond, List, length, map, get_or, Option, Some, None, is_some, refl, sym, ap, subst, ◌∙◌, eq-eqb, ne_eqb, arith, Result, Ok, Err, IfOk}
 use Rattle.std.proofs.lemmas.Bool.{cases_eq}
 use Rattle.std.proofs.lemmas.List.{get_or_past, get_or-map, length-map}
@@ -35,14 +35,14 @@ use Rattle.ic_world.proofs.Edits.{lawful}
 use Rattle.ic_world.proofs.Growth.{grown_whole, grown_family}
 use Rattle.ic_world.proofs.Steps.{step_accepted, step_refused, passes, fails}
 
--- whether p is linked in a field of the family, by its table
+-- p is linked in the field f of the family exactly if its entry in the table of f is linked
 pub field_has : {M : Type 0} (tables : List (WorldField M)) (p : Place) (f : ℕ) (x : WorldField M) → f < length tables
     → set_of.contains (get_or (map field_in (map table_of tables)) f (field_in no_table)).linked (index_of p) ≡ is_linked ((table_of (get_or tables f x)).entry p)
 field_has tables p f x within =
     ap (λ (t : LinkField). set_of.contains t.linked (index_of p)) (map_at field_in (map table_of tables) f no_table ∙ ap field_in (get_or-map table_of tables f x no_table within))
     ∙ in_linked (table_of (get_or tables f x)) (lawful_field (get_or tables f x).links) p
 
--- what stands at an index after a value was put at p
+-- after a value was put at p, there is an object at p, and every other index has the value that it had
 put_at : {V : Type 0} (old new : Objects V) (p : Place) (v : V) → new.values ≡ map_of.insert old.values (index_of p) v → (i : ℕ)
     → ((i ≡ index_of p) × HasObject new i) ⊎ ((i ≢ index_of p) × (map_of.get new.values i ≡ map_of.get old.values i))
 put_at old new p v values i =
@@ -56,7 +56,7 @@ put_at old new p v values i =
           inr (d, got ∙ ap (λ b. cond b (Some v) (map_of.get old.values i)) no)
     ]
 
--- and after that at p was removed
+-- after the object at p was removed, there is no object at p, and every other index has the value that it had
 removed_at : {V : Type 0} (old new : Objects V) (p : Place) → new.values ≡ map_of.remove old.values (index_of p) → (i : ℕ)
     → ((i ≡ index_of p) × (map_of.get new.values i ≡ None)) ⊎ ((i ≢ index_of p) × (map_of.get new.values i ≡ map_of.get old.values i))
 removed_at old new p values i =
@@ -88,7 +88,7 @@ module _ {V : Type 0} {objects : Objects V} {room : ℕ} {ts : List (Table Entry
       ]
 
 module _ {V : Type 0} {old new : Objects V} {room : ℕ} {ts : List (Table Entry)} {cs : List (Option (Collection V))} (whole : IsWhole old room ts cs) where
-  -- A VALUE PUT at a place for which there is room
+  -- A VALUE IS PUT at a place for which there is room, and the invariant of the world still holds
   pub put_whole : (p : Place) (v : V) → new.values ≡ map_of.insert old.values (index_of p) v → (index_of p < room) × (index_of p < 2 ^ 32) → IsWhole new room ts cs
   put_whole p v values reach = record {
     within = λ i has. elim (put_at old new p v values i) [
@@ -105,7 +105,7 @@ module _ {V : Type 0} {old new : Objects V} {room : ℕ} {ts : List (Table Entry
     apart = whole.apart;
   }
 
-  -- AN OBJECT LESS, which is linked nowhere
+  -- AN OBJECT IS REMOVED that is linked in no field, and the invariant of the world still holds
   pub removed_whole : (p : Place) → new.values ≡ map_of.remove old.values (index_of p) → list_any (λ (f : LinkField). set_of.contains f.linked (index_of p)) (map field_in ts) ≡ false
       → IsWhole new room ts cs
   removed_whole p values none = record {
@@ -123,15 +123,15 @@ module _ {V : Type 0} {old new : Objects V} {room : ℕ} {ts : List (Table Entry
     apart = whole.apart;
   }
 
--- what was swapped out stood there
+-- the old value that `set_value` returns was the value of the object at p
 pub value_was : {V : Type 0} (old : Objects V) (p : Place) (v : V) (r : Result V (Refusal × V)) (new : Objects V) → SwapsValue old p v r new → IfOk r (λ was. map_of.get old.values (index_of p) ≡ Some was)
 value_was old p v (Ok was) new e = e.0
 value_was old p v (Err x) new e = tt
 
--- `cmp`, `key_of`: the order of the keys, and the key of a value
+-- `cmp` is the order of the keys, and `key_of` computes the key of a value
 module _ {A V K : Type 0} (cmp : K → K → Ordering) (key_of : A → V → K) {adapter : A} {objects : Objects V} {room : ℕ} {ts : List (Table Entry)} {cs : List (Option (Collection V))}
     (whole : IsWhole objects room ts cs) {old : Family A V} (view : family_of adapter objects ts cs ≡ old) where
-  -- WHERE A VALUE WAS TO BE SWAPPED
+  -- A VALUE IS REPLACED OR REFUSED: the call is a step `SetValue`, and the invariant of the world holds after it
   pub value_swapped : (p : Place) (v : V) (r : Result V (Refusal × V)) (new : Objects V) → SwapsValue objects p v r new
       → IsWhole new room ts cs × Step cmp key_of old (SetValue p v) (reply_of_value (λ _. done) r) (family_of adapter new ts cs)
   value_swapped p v (Ok was) new e =
@@ -142,7 +142,7 @@ module _ {A V K : Type 0} (cmp : K → K → Ordering) (key_of : A → V → K) 
   value_swapped p v (Err x) new e =
       rw (e.1, e.2) (whole, rw view (step_refused cmp key_of old (SetValue p v) NoSuchObject (rw (← view) (fails _ NoSuchObject None (ap is_some e.0)))))
 
-  -- WHERE A VALUE WAS TO BE PLACED, after the tables grew
+  -- A VALUE IS PLACED OR REFUSED, after the tables have grown
   module _ {room' : ℕ} {us : List (Table Entry)} (grows : Grows room ts room' us) where
     longer_whole : IsWhole objects room' us cs
     longer_whole = grown_whole adapter objects ts us cs whole grows.grown room' grows.more (grows.covered whole.covered)

@@ -1,4 +1,4 @@
--- An empty collection more.
+-- An empty collection is opened in a field.
 use Rattle.std.proofs.Common.{◌≡◌, ℕ, zero, suc, ◌<◌, ◌⊎◌, inl, inr, true, List, [], ◌∷◌, ◌++◌, length, map, get_or, Option, Some, None, refl, sym, ap, ◌∙◌, subst, arith, Result, Ok, Err}
 use Rattle.std.proofs.lemmas.Bool.{ltb-true}
 use Rattle.std.proofs.lemmas.List.{map-append, length-map}
@@ -46,7 +46,7 @@ get_pushed (y ∷ xs) x (suc d) l e =
       | inr h ↦ inr (ap suc h.0, h.1)
     ]
 
--- A COLLECTION MORE, which shares no member with one of its field
+-- A COLLECTION k IS ADDED. It shares no member with another collection of its field
 module _ {V : Type 0} {objects : Objects V} {room : ℕ} {ts : List (Table Entry)} {cs : List (Option (Collection V))} (whole : IsWhole objects room ts cs)
     (k : Collection V) (within : k.field < length ts) (held : Held (table ts k.field) k.members)
     (apart : (d : ℕ) (l : Collection V) → at cs d ≡ Some l → l.field ≡ k.field → IsDisjoint (sequence ts l) (sequence ts k)) where
@@ -78,14 +78,14 @@ module _ {V : Type 0} {objects : Objects V} {room : ℕ} {ts : List (Table Entry
   pub appended_family : {A : Type 0} {adapter : A} → family_of adapter objects ts (cs ++ Some k ∷ []) ≡ with_opened (family_of adapter objects ts cs) (seen_as k (sequence ts k))
   appended_family {adapter = adapter} = λ i. record { adapter = adapter; objects = objects.values; fields = (family_of adapter objects ts cs).fields; collections = map-append (represented_as ts) cs (Some k ∷ []) i }
 
--- what a test of an opening tells of the field, of the table that was read
+-- the tests of `open` for an existing field depend only on the kind of the table that the call has read
 pub open_tests : {A V M : Type 0} (adapter : A) (objects : Objects V) (tables : List (WorldField M)) (cs : List (Option (Collection V))) {old : Family A V} → family_of adapter objects (map table_of tables) cs ≡ old → (f : ℕ) (kind : Kind) (t : WorldField M)
     → f < length tables → t ≡ get_or tables f t → refusal_of_open old f kind ≡ asks (carries (kind_of (table_of t)) kind) WrongKind None
 open_tests adapter objects tables cs view f kind t within read =
     rw (← view) (field_there (family_of adapter objects (map table_of tables) cs) f _ (rw (length-map, length-map) within)
     ∙ ap (λ x. asks (carries x.kind kind) WrongKind None) (field_at adapter objects (map table_of tables) cs f (rw length-map within) ∙ ap field_in (table_read tables f t within read)))
 
--- members of a kind that were made new
+-- a list or tree m of the given kind is new: it is empty in each table that can serve its kind, and its cursor is at null
 abbrev New : {V : Type 0} → Kind → AnyCollection V → Type 0
 New of_kind m = record {
   kind : kind_in m ≡ of_kind;
@@ -93,7 +93,7 @@ New of_kind m = record {
   kept : (t : Table Entry) → carries (kind_of t) of_kind ≡ true → Keeps t m [];
 }
 
--- AN OPENING that no test refuses. `cmp`, `key_of`: the order of the keys, and the key of a value
+-- AN OPENING that no test refuses. `cmp` is the order of the keys, and `key_of` computes the key of a value
 module _ {A V K : Type 0} (cmp : K → K → Ordering) (key_of : A → V → K) {adapter : A} {objects : Objects V} {room : ℕ} {ts : List (Table Entry)} {cs : List (Option (Collection V))}
     (whole : IsWhole objects room ts cs) {old : Family A V} (view : family_of adapter objects ts cs ≡ old) (f : ℕ) (kind : Kind) (none : refusal_of_open old f kind ≡ None)
     (m : AnyCollection V) (new : New kind m) where
@@ -123,7 +123,7 @@ module _ {A V K : Type 0} (cmp : K → K → Ordering) (key_of : A → V → K) 
       )
   opened_by (Err r) news e = rw (e.0, e.1) (whole, step_accepted cmp key_of old (Open f kind) (refused OutOfMemory) _ none view)
 
--- A world with nothing in it
+-- THE INVARIANT HOLDS OF A NEW WORLD, which has no object, field or collection
 pub empty_whole : {V : Type 0} (objects : Objects V) → objects.values ≡ map_of.empty → IsWhole objects 0 [] []
 empty_whole objects none = record {
   within = λ i has. let lacks : map_of.get objects.values i ≡ None = ap (λ m. map_of.get m i) none ∙ get-empty nat_cmp i in let h = rw lacks at has in cc;

@@ -1,4 +1,4 @@
--- What was read, a range or where a cursor is, is a step that changes nothing.
+-- A call that reads a range or the position of a cursor is a step of the model that changes nothing.
 use Rattle.std.proofs.Common.{◌≡◌, ℕ, Bool, true, List, Option, refl, sym, ap, ◌∙◌, subst}
 use Rattle.std.specs.declared.cmp.Ordering.{Ordering}
 use Rattle.ic_link_ops.specs.Prelude.{Place, Objects, Table}
@@ -18,12 +18,12 @@ use Rattle.ic_world.specs.Seen.{Sees}
 use Rattle.ic_world.specs.Tables.{family_of}
 use Rattle.ic_world.proofs.Steps.{step_accepted}
 
--- the test of the kind was made of this collection
+-- the test whether the collection is a tree was made with the kind of this collection
 pub kind_tested : {k kind : Kind} {b answer : Bool} → k ≡ kind → b ≡ is_tree k → b ≡ answer → is_tree kind ≡ answer
 kind_tested e is tested = ap is_tree (sym e) ∙ sym is ∙ tested
 
 module _ {A V K : Type 0} (cmp : K → K → Ordering) (key_of : A → V → K) (min max : Bound K) (places : List Place) (first second : ℕ) where
-  -- a range of such members
+  -- the places are the members of s between the two bounds, and the numbers of looks are within what is allowed
   abbrev Ranges : Family A V → List Place → Type 0
   Ranges w s = IsRange (bound_at cmp (key_of w.adapter) (objects_of w) min) (bound_at cmp (key_of w.adapter) (objects_of w) max) (runs_up cmp (key_of w.adapter) (objects_of w)) s places
       × WithinBound min first s × WithinBound max second s
@@ -40,7 +40,7 @@ module _ {A V K : Type 0} (cmp : K → K → Ordering) (key_of : A → V → K) 
       → WithinBound min first (members_in t m) × WithinBound max second (members_in t m) → Step cmp key_of w (Range c min max) (range places first second) w
   ranged {t} {m} adapter objects ts cs {w} c view sees tree is looks = step_ranged w c sees tree (subst (λ v. Ranges v (members_in t m)) view (is, looks.0, looks.1))
 
--- WHERE A CURSOR IS
+-- `current` RETURNS THE MEMBER that the cursor of the collection is on, and this is a step of the model
 pub current_read : {A V K : Type 0} (cmp : K → K → Ordering) (key_of : A → V → K) (w : Family A V) (c : ℕ) {t : Table Entry} {m : AnyCollection V} → Sees w c t m
     → Step cmp key_of w (Current c) (object_or_nothing (cursor_in m)) w
 current_read cmp key_of w c {m = m} sees =

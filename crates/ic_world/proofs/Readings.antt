@@ -1,4 +1,4 @@
--- What the family of some parts has at a place, in a field and under a number.
+-- What the family has at a place, in a field and under a number, in terms of the objects, tables and collections that represent it.
 use Rattle.std.proofs.Common.{◌≡◌, ℕ, Bool, ◌<◌, List, length, map, set, get_or, Option, Some, None, refl, sym, ap, subst, ◌∙◌, arith}
 use Rattle.std.specs.Prelude.{IsSome}
 use Rattle.std.proofs.lemmas.Option.{same_Some}
@@ -17,30 +17,30 @@ use Rattle.ic_world.specs.LeftLinked.{IsKept}
 use Rattle.ic_world.specs.LinkedSets.{linked_in}
 use Rattle.ic_world.specs.Family.{Family, collection, field_of, linked_of}
 
--- what a read of the vector of tables found
+-- the table t that a call has read for the field f is the table of that field
 pub table_read : {M : Type 0} (tables : List (WorldField M)) (f : ℕ) (t : WorldField M) → f < length tables → t ≡ get_or tables f t → table (map table_of tables) f ≡ table_of t
 table_read tables f t h e = get_or-map table_of tables f t no_table h ∙ ap table_of (sym e)
 
--- a number below the length that was read is one of the list's
+-- an index below the length that a call has read is an index of the list
 pub in_list : {X : Type 0} (xs : List X) {i n len : ℕ} → i < n → n ≡ len → len ≡ length xs → i < length xs
 in_list xs {i} {n} {len} h e l = omega (arith, h, e, l)
 
--- what was read, written back, changes nothing
+-- an item that was read at an index and is written back there changes nothing
 pub set_back : {X : Type 0} (xs : List X) (i : ℕ) (x : X) → x ≡ get_or xs i x → set xs i x ≡ xs
 set_back xs i x e = ap (set xs i) e ∙ set-get_or xs i x
 
--- a table in the place of one of a field: the field says what it said
+-- if a field gets another table, its mark for members that are left linked stays as it was
 pub left_back : {M : Type 0} (tables : List (WorldField M)) (f : ℕ) (now : WorldField M) (links : AnyTable M) → set tables f now ≡ tables → left_in (set tables f (record now { links = links })) ≡ left_in tables
 left_back {M} tables f now links back =
     let says : WorldField M → Bool = λ x. x.left_linked in
     map-set says tables f (record now { links = links }) ∙ sym (map-set says tables f now) ∙ ap left_in back
 
--- a number under which something stands is one of the list's
+-- an index at which the list has an item is below the length of the list
 pub some_within : {X : Type 0} (xs : List (Option X)) (c : ℕ) {x : X} → get_or xs c None ≡ Some x → c < length xs
 some_within xs c is = grind (arith, get_or_past)
 
 module _ {V : Type 0} where
-  -- what is known where a call has found k under number c, and has read the table of its field
+  -- what a call knows that has found the collection k under the number c, and has read the table of its field
   pub record Found {M : Type 0} (tables : List (WorldField M)) (cs : List (Option (Collection V))) (c : ℕ) (k : Collection V) (now : WorldField M) : Type 0 where
     pub is : at cs c ≡ Some k
     pub field : k.field < length (map table_of tables)
@@ -62,7 +62,7 @@ module _ {V : Type 0} where
         table_back = set_back tables k.field now links;
       }
 
-  -- what a call reads of a collection: that there is one, and which one it is; or that there is none
+  -- what a call knows after it has read the field under a number: whether there is a collection, and which collection it is
   pub is_there : (o : Option (Collection V)) {f : ℕ} → Some f ≡ its_field o → IsSome o
   is_there None h = absurd cc
   is_there (Some k) h = refl
@@ -79,7 +79,7 @@ module _ {V : Type 0} where
   one_read None f m h e = absurd cc
   one_read (Some k) f m h e = λ i. Some (record { field = same_Some _ _ (sym h) i; members = same_Some _ _ (sym e) i })
 
-  -- it has other members now
+  -- if the collection c gets the members m, the list of collections has k with these members at the index c
   pub with_is : (cs : List (Option (Collection V))) (c : ℕ) (k : Collection V) → at cs c ≡ Some k → (m : AnyCollection V) → with_members cs c m ≡ set cs c (Some (record { field = k.field; members = m }))
   with_is cs c k is m = ap (λ o. set cs c (having m o)) is
 
@@ -99,6 +99,6 @@ module _ {V : Type 0} where
     pub linked_at : (f : ℕ) → f < length ts → linked_of (family_of adapter objects ts cs) f ≡ linked_in (table ts f)
     linked_at f h = ap (λ x. x.linked) (field_at f h)
 
-    -- where nothing stands under a number, the family has nothing
+    -- if no collection is stored under the number c, the family has no collection with this number
     pub missing : (c : ℕ) → at cs c ≡ None → {old : Family A V} → family_of adapter objects ts cs ≡ old → collection old c ≡ None
     missing c is view = rw (← view) (collection_not c is)

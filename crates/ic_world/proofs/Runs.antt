@@ -1,4 +1,4 @@
--- Steps, one after the other.
+-- Runs of steps, one after the other.
 use Rattle.std.proofs.Common.{◌≡◌, ◌∙◌, ℕ, ◌+◌, ◌<◌, ◌++◌, List, [], ◌∷◌, length, take, map, get_or, refl, sym, ap, subst}
 use Rattle.std.proofs.lemmas.List.{take_more, map-append}
 use Rattle.std.specs.declared.cmp.Ordering.{Ordering}
@@ -8,7 +8,7 @@ use Rattle.ic_world.specs.Calls.{Reply}
 use Rattle.ic_world.specs.Step.{Step, Runs}
 
 module _ {A V K : Type 0} (cmp : K → K → Ordering) (key_of : A → V → K) where
-  -- a run, and one call more
+  -- a run of calls that is followed by the step of one more call is a run of all these calls
   pub runs_more : (calls : List (Command V K)) (replies : List Reply) (call : Command V K) (reply : Reply) (old mid new : Family A V) → Runs cmp key_of old calls replies mid
       → Step cmp key_of mid call reply new → Runs cmp key_of old (calls ++ call ∷ []) (replies ++ reply ∷ []) new
   runs_more [] [] call reply old mid new run step = (new, subst (λ w. Step cmp key_of w call reply new) run step, refl)
@@ -16,7 +16,7 @@ module _ {A V K : Type 0} (cmp : K → K → Ordering) (key_of : A → V → K) 
   runs_more [] (r ∷ replies) call reply old mid new run step = absurd run
   runs_more (c ∷ calls) [] call reply old mid new run step = absurd run
 
-  -- the same of a loop over the calls, which keeps its answers
+  -- a loop over the calls that appends each answer to a list makes a run: after each turn it is a run of one more call
   pub runs_next : {X : Type 0} (replied : X → Reply) (calls : List (Command V K)) (i : ℕ) (call : Command V K) (given : List X) (answer : X) (old mid new : Family A V)
       → i < length calls → call ≡ get_or calls i call → Runs cmp key_of old (take i calls) (map replied given) mid → Step cmp key_of mid call (replied answer) new
       → Runs cmp key_of old (take (i + 1) calls) (map replied (given ++ answer ∷ [])) new

@@ -1,4 +1,4 @@
--- Calls that write no table: seeks, and an XOR list turned round.
+-- Calls that write no table: seeks, and the reversal of an XOR list.
 use Rattle.std.proofs.Common.{◌≡◌, true, false, Some, None, List, [], reverse, Result, Ok, Err, refl}
 use Rattle.ic_unsafe_ref.specs.declared.place.Place.{Place}
 use Rattle.ic_link_ops.proofs.SequenceLemmas.{absent_reverse}
@@ -11,8 +11,8 @@ use Rattle.ic_any_collection.specs.AnyCollection.{kind_in, cursor_in, members_in
 use Rattle.ic_any_collection.proofs.AllKinds.{lawful}
 use Rattle.ic_world.specs.declared.call.Refusal.{Refusal}
 use Rattle.ic_world.specs.declared.call.Refusal.TheVariants.{WrongKind}
-use Rattle.ic_world.specs.declared.calls.one_call.Call.TheVariants.{Seek as seek, Whole as whole}
-use Rattle.ic_world.specs.declared.calls.whole.Whole.TheVariants.{Reverse}
+use Rattle.ic_world.specs.declared.calls.collection_call.Call.TheVariants.{Seek as seek, BulkEdit as whole}
+use Rattle.ic_world.specs.declared.calls.bulk_edit.BulkEdit.TheVariants.{Reverse}
 use Rattle.ic_world.specs.declared.calls.seek.Seek.{Seek}
 use Rattle.ic_world.specs.Calls.{State, Call, done, moved, having, names, has_call, refusal_of}
 use Rattle.ic_world.specs.Seeks.{Sought}
@@ -20,7 +20,7 @@ use Rattle.ic_world.specs.Turns.{Ran}
 use Rattle.ic_world.proofs.Tested.{goes_on, stops}
 use Rattle.ic_world.proofs.Turned.{turns_still, turns_kept, unmoved}
 
--- no kind has both: a cursor made on a member from its place alone, and neighbors that must be told
+-- no kind of collection both can make a cursor from a member's place alone, and needs a neighbor to make it
 pub pointer_not_xor : (k : Kind) → has_pointer k ≡ true → is_xor k ≡ true → ⊥
 pointer_not_xor kind.Singly e h = cc
 pointer_not_xor kind.Doubly e h = cc
@@ -38,7 +38,7 @@ pub ran_not : {V M K R : Type 0} {links : AnyTable M} {m : AnyCollection V} {nam
     → Ran names (refusal_of call) accepts links links m m (Err WrongKind)
 ran_not call held lacks = record { tested = stops _ _ _ lacks; turned = tt; unchanged = (refl, unmoved held) }
 
--- AN XOR LIST IS TURNED ROUND
+-- AN XOR LIST IS REVERSED: the call is accepted, and no entry changes
 pub turns_round : {V M : Type 0} (K : Type 0) (links : AnyTable M) {m m' : AnyCollection V} → is_xor (kind_in m) ≡ true
     → Keeps (table_in links) m' (reverse (members_in (table_in links) m)) → Alike m m' → cursor_in m' ≡ None
     → Ran {R = Unit {0}} [] (refusal_of {K = K} (whole Reverse)) (λ a s t. (done ≡ done) × (t ≡ having s (reverse s.members) None)) links links m m' (Ok tt)

@@ -1,4 +1,4 @@
--- That a world's family is sound, from what it keeps.
+-- From the invariant of a world it follows that its family is sound.
 use Rattle.std.proofs.Common.{◌≡◌, ℕ, zero, suc, ◌<◌, inl, inr, Bool, true, false, List, [], ◌∷◌, length, map, Option, Some, refl, sym, ap, ◌∙◌, subst, true≢false}
 use Rattle.std.proofs.lemmas.Bool.{lt-ltb}
 use Rattle.std.proofs.lemmas.List.{length-map, get_or_past}
@@ -25,19 +25,19 @@ use Rattle.ic_world.proofs.Apart.{seen_at, are_apart}
 use Rattle.ic_world.proofs.Linked.{side, in_linked}
 use Rattle.ic_world.proofs.Readings.{field_at, linked_at}
 
--- the last member before a gap is one of all
+-- the last member before a gap is a member of the whole sequence
 last_member : (gap : Cut) (s : List Place) (p : Place) → join gap ≡ s → Some p ≡ last gap.front → IsMember p s
 last_member gap s p cut e out =
     (absent_right p (but_last gap.front) (p ∷ []) (subst (IsAbsent p) (split_last gap.front (sym e)) (absent_left p gap.front gap.back (subst (IsAbsent p) (sym cut) out)))).0 refl
 
--- a cursor that stands in s is on a member
+-- a cursor whose position is in s, and is not null, is on a member of s
 stands_on : {V : Type 0} (m : AnyCollection V) (s : List Place) → IsCursorIn s m → (p : Place) → cursor_in m ≡ Some p → IsMember p s
 stands_on (Singly l at) s h p e = last_member h.0 s p h.1 (sym e ∙ h.2)
 stands_on (Doubly l at) s h p e = last_member h.0 s p h.1 (sym e ∙ h.2)
 stands_on (Xor l at) s h p e = last_member h.0 s p h.1 (sym e ∙ h.2)
 stands_on (Tree l at) s h p e = last_member h.0 s p h.1 (sym e ∙ h.2)
 
--- in the table of every field only covered places are linked, and in none where there is no field
+-- only covered places are linked in the table of every field. No place is linked in a field that does not exist
 lawful_at : {M : Type 0} (fields : List (WorldField M)) (f : ℕ) → IsLawful (table (map table_of fields) f)
 lawful_at [] f = λ q h. absurd (true≢false (sym h))
 lawful_at (x ∷ fields) zero = lawful x.links

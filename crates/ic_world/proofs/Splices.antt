@@ -1,4 +1,4 @@
--- A splice is two edits: the given collection is emptied, and then its members are put into the other.
+-- A splice is two edits: the given collection is emptied, and then its members are inserted into the first collection.
 use Rattle.std.proofs.Common.{◌≡◌, ◌≢◌, ℕ, inl, inr, List, [], ◌∷◌, ◌++◌, set, Option, Some, None, refl, sym, ap, ◌∙◌, subst}
 use Rattle.std.proofs.lemmas.List.{get_or-set_other, set-get_or}
 use Rattle.ic_link_ops.specs.Prelude.{Place, Objects, Cut, join, splice, IsDisjoint, Table}
@@ -17,7 +17,7 @@ use Rattle.ic_world.proofs.Linked.{linked_same}
 use Rattle.ic_world.proofs.Edits.{Edit, after, lawful, edited_lawful, edited_whole, unlinked_family, at_after}
 use Rattle.ic_world.proofs.Opened.{disjoint_none}
 
--- a collection as it is seen, of the same kind and with its cursor elsewhere
+-- a collection with other members t and another cursor is the old collection of the family with t and this cursor, if its kind is the same
 pub seen_after : {V : Type 0} (m : AnyCollection V) (k : Collection V) (s t : List Place) {cursor : Option Place} → Alike k.members m → cursor_in m ≡ cursor
     → seen_as (after k m) t ≡ with_members (seen_as k s) t cursor
 seen_after m k s t alike cursor_is = λ i. record { field = k.field; kind = alike i; members = t; cursor = cursor_is i }
@@ -49,7 +49,7 @@ module _ {V : Type 0} {objects : Objects V} {room : ℕ} {ts : List (Table Entry
       ap (λ us. family_of adapter objects us (set cs c (Some (after k m)))) (sym same_tables) ∙ unlinked_family whole emptied_edit refl
       ∙ ap (λ (x : Sequence). with_collection (family_of adapter objects ts cs) c (Some x)) (seen_after m k (sequence ts k) [] e.alike e.null)
 
--- THE SPLICE of collection d into c
+-- THE SPLICE of the collection d into the collection c
 module _ {V : Type 0} {objects : Objects V} {room : ℕ} {ts : List (Table Entry)} {cs : List (Option (Collection V))} (whole : IsWhole objects room ts cs)
     (c d : ℕ) (k l : Collection V) (is_k : at cs c ≡ Some k) (is_l : at cs d ≡ Some l) (differ : c ≢ d) (fields : k.field ≡ l.field)
     (new : Table Entry) (m emptied : AnyCollection V) (e : Emptied l.members emptied) (gap : Cut) (cut : join gap ≡ sequence ts k)
@@ -63,7 +63,7 @@ module _ {V : Type 0} {objects : Objects V} {room : ℕ} {ts : List (Table Entry
   first_whole : IsWhole objects room ts between
   first_whole = emptied_whole whole d l is_l emptied e
 
-  -- others share no member with what is put together
+  -- no other collection of the field shares a member with the spliced sequence
   others_apart : (x : ℕ) (o : Collection V) → x ≢ c → at between x ≡ Some o → o.field ≡ k.field → IsDisjoint (sequence ts o) (splice gap (sequence ts l))
   others_apart x o n is_o same =
       elim (at_after whole (emptied_edit whole d l is_l emptied e) x o is_o) [

@@ -1,5 +1,5 @@
--- What a call that answers an object or none leaves to the world, from what the collection's own calls give: a member is taken out, or the
--- cursor moves.
+-- What a world guarantees of a call that returns an object or none follows from the contract of the collection's own call. The call removes a member,
+-- or moves the cursor.
 use Rattle.std.proofs.Common.{◌≡◌, ◌∙◌, true, Option, Some, None, Ok, [], refl, ap}
 use Rattle.ic_link_ops.specs.Prelude.{Place, Cut, first, last, IsAfter, IsBefore}
 use Rattle.ic_any_collection.specs.declared.gap.Gap.{Gap}
@@ -11,17 +11,17 @@ use Rattle.ic_any_collection.specs.declared.any_collection.AnyCollection.{AnyCol
 use Rattle.ic_any_collection.specs.AnyCollection.{kind_in, cursor_in, members_in, has_before}
 use Rattle.ic_any_collection.specs.Edits.{AtGap, Moves, TakesIfAny}
 use Rattle.ic_any_collection.proofs.AllKinds.{lawful}
-use Rattle.ic_world.specs.declared.calls.one_call.Call.TheVariants as one
-use Rattle.ic_world.specs.declared.calls.one_call.Direction.{Direction}
-use Rattle.ic_world.specs.declared.calls.one_call.Direction.TheVariants.{Next, Prev}
+use Rattle.ic_world.specs.declared.calls.collection_call.Call.TheVariants as one
+use Rattle.ic_world.specs.declared.calls.collection_call.Neighbor.{Neighbor}
+use Rattle.ic_world.specs.declared.calls.collection_call.Neighbor.TheVariants.{Next, Prev}
 use Rattle.ic_world.specs.Calls.{State, object_or_nothing, taken, moved, without, refusal_of}
 use Rattle.ic_world.specs.Calls as calls
 use Rattle.ic_world.specs.Turns.{Turns, Ran, state_of}
 use Rattle.ic_world.proofs.Tested.{goes_on}
 use Rattle.ic_world.proofs.Turned.{turns_out, turns_still}
 
--- the cursor moves, and the answer is where it is
-abbrev pub MovedTo : {V M : Type 0} → Direction → (links : AnyTable M) (m m' : AnyCollection V) → Option Place → Type 0
+-- the cursor moves, and the call returns the member that the cursor is then on, or none at null
+abbrev pub MovedTo : {V M : Type 0} → Neighbor → (links : AnyTable M) (m m' : AnyCollection V) → Option Place → Type 0
 MovedTo way links m m' r = Turns [] (λ s t. calls.MoveReplies way s (object_or_nothing r) t) (table_in links) (table_in links) m m'
 
 module _ {V M : Type 0} (links : AnyTable M) {m m' : AnyCollection V} (r : Option Place) where
@@ -36,14 +36,14 @@ module _ {V M : Type 0} (links : AnyTable M) {m m' : AnyCollection V} (r : Optio
     unchanged = tt;
   }
 
--- the gap with nothing after it, and the one with p after it
+-- what a removal does at a gap that no member follows, and at a gap that the member p follows
 none_out : (s : State) (gap : Cut) (cursor : Option Place) → None ≡ first gap.back → moved s cursor ≡ without s gap cursor (first gap.back)
 none_out s gap cursor e = ap (without s gap cursor) e
 
 some_out : (s : State) (gap : Cut) (cursor : Option Place) (p : Place) → Some p ≡ first gap.back → taken s gap p cursor ≡ without s gap cursor (first gap.back)
 some_out s gap cursor p e = ap (without s gap cursor) e
 
--- THE MEMBER THAT IS MEANT goes out, if there is one
+-- A REMOVAL takes the member that the gap names, if there is one, and the world's call is accepted
 pub taken_out : {V M : Type 0} (K : Type 0) (links links' : AnyTable M) (at : Gap) {m m' : AnyCollection V} (out : Option Place) → can_remove at (kind_in m) ≡ true
     → AtGap (members_in (table_in links) m) (λ gap. gaps.IsFrontOf at (members_in (table_in links) m) (cursor_in m) gap × (out ≡ first gap.back) × TakesIfAny links links' m m' gap (onward at (cursor_in m) gap) out)
     → Ran [] (refusal_of {K = K} (one.Take at)) (λ out s t. calls.TakeReplies at s (object_or_nothing out) t) links links' m m' (Ok out)

@@ -1,4 +1,4 @@
--- One collection less in a field.
+-- A collection is removed from the list of its field, and its number then names no collection.
 use Rattle.std.proofs.Common.{◌≡◌, ◌≢◌, ℕ, ◌<◌, inl, inr, List, [], ◌∷◌, length, map, set, get_or, Option, Some, None, refl, sym, ap, ◌∙◌, subst, arith}
 use Rattle.std.specs.Prelude.{slice_get}
 use Rattle.std.proofs.lemmas.Bool.{cases_eq}
@@ -14,7 +14,7 @@ use Rattle.ic_world.specs.ByNumber.{items_of, live_in, disposed, lying, in_field
 use Rattle.ic_world.proofs.ByNumber.{Lists, shown, shows, get_written, get_other, get_front, get_last, some_not_none, number_apart, field_within, represented_is, Reads, list_is}
 
 module _ {V : Type 0} where
-  -- ONE LESS in a field, where the last one moves to its index
+  -- ONE COLLECTION IS REMOVED from the list of its field, and the last collection of the list moves to its index
   module _ {ls : Lists V} {ns : List Slot} (are : AreNumbered ls ns) (c : ℕ) (s : Slot) (is : slice_get ns c ≡ Some s) (n : Numbered V) (lies : lying ls s.field s.index ≡ Some n)
       (moved : ℕ) (short : List (Numbered V)) (out : IsTakenOut (live_in ls s.field) s.index moved short) (gone : Slot) (disposed_of : gone.index ≡ disposed) where
     abbrev f : ℕ
@@ -41,7 +41,7 @@ module _ {V : Type 0} where
     short_is : (j : ℕ) → lying fewer f j ≡ slice_get (set out.rest i out.last) j
     short_is j = ap (λ xs. slice_get xs j) (get_or-set_same ls f short [] f_there ∙ out.is)
 
-    -- where the last one was, and which slot it had
+    -- where the last collection of the list was, and which slot it had
     last_was : lying ls f end ≡ Some out.last
     last_was = ap (λ xs. slice_get xs end) out.was ∙ get_last out.rest out.last
 
@@ -56,7 +56,7 @@ module _ {V : Type 0} where
         let low = slice_get_within (live_in ls f) i n lies in
         omega (arith, low, other, ap length out.was, length-append out.rest (out.last ∷ []))
 
-    -- another collection lies where it lay, but for the last one
+    -- each collection is at the same index as before, except the removed one and the last one
     stays : (g j : ℕ) → (g ≡ f → j ≡ i → ⊥) → (g ≡ f → j ≡ end → ⊥) → lying fewer g j ≡ lying ls g j
     stays g j not_i not_end = elim (cases_eq g f) [
       | inl same ↦
@@ -74,7 +74,7 @@ module _ {V : Type 0} where
     nothing_left : i ≡ end → lying fewer f i ≡ None
     nothing_left at_end = short_is i ∙ slice_get_past (set out.rest i out.last) i (let e = length-set out.rest i out.last in omega (arith, e, at_end))
 
-    -- the slots that are written
+    -- which slot each number has after the removal: the slots of two numbers were written, and all others stay
     slot_gone : slice_get after c ≡ Some gone
     slot_gone = get_written (set ns moved s) c gone (rw length-set c_there)
 
@@ -84,7 +84,7 @@ module _ {V : Type 0} where
     slot_stays : (d : ℕ) → d ≢ c → d ≢ moved → slice_get after d ≡ slice_get ns d
     slot_stays d not_c not_moved = get_other (set ns moved s) c d gone not_c ∙ get_other ns moved d s not_moved
 
-    -- the one that moves is another, unless the last one is taken out
+    -- the collection that moves is not the removed one, unless the removed one was the last of the list
     moved_is : moved ≢ c → i ≢ end
     moved_is other at_end = other (number_apart are c moved s _ n is last_slot lies refl (sym at_end))
 
@@ -103,7 +103,7 @@ module _ {V : Type 0} where
         let slots : (let t : Slot = record { field = f; index = end } in t) ≡ record { field = g; index = j } = same_Some _ _ (sym last_slot ∙ ap (slice_get ns) (sym same) ∙ are.found g j x e) in
         differ (sym (ap (λ (t : Slot). t.field) slots)) (sym (ap (λ (t : Slot). t.index) slots))
 
-    -- each that is left was there, and has the slot of its number
+    -- each collection that is left has a slot under its number that leads to it, and its index is below the mark of disposed collections
     found : (g j : ℕ) (x : Numbered V) → lying fewer g j ≡ Some x → (slice_get after x.number ≡ Some (record { field = g; index = j })) × (j < disposed)
     found g j x e = elim (cases_eq g f) [
       | inr other ↦ same (λ at_f _. other at_f) (λ at_f _. other at_f)
@@ -132,7 +132,7 @@ module _ {V : Type 0} where
           | inr other ↦ some_not_none e (ap (λ h. lying fewer h j) at_f ∙ ap (lying fewer f) at_end ∙ nothing_at_end other)
         ]
 
-    -- what another number has
+    -- what the slot of another number leads to after the removal
     at_moved : moved ≢ c → (m : AnyCollection V) × (lying fewer f i ≡ Some (record { number = moved; members = m }))
     at_moved other = (out.last.members, moved_here (moved_is other) ∙ (λ k. Some (record { number = sym out.moved k; members = out.last.members })))
 
@@ -184,7 +184,7 @@ module _ {V : Type 0} where
             stay not_m None e = refl
             stay not_m (Some t) e = ap (in_field t.field) (stays t.field t.index (not_its_slot d t e not_c) (not_last_slot d t e not_m))
 
-  -- a number that was disposed of names nothing already
+  -- if the collection with the number c was disposed of before, disposing of it again changes nothing
   pub gone_already : {ls : Lists V} {ns : List Slot} → AreNumbered ls ns → (c : ℕ) (s : Slot) → slice_get ns c ≡ Some s → s.index ≡ disposed → {cs : List (Option (Collection V))} → by_number ls ns ≡ cs → cs ≡ set cs c None
   gone_already {ls} {ns} are c s is at_end {cs} view = sym (ap (set cs c) (sym none) ∙ set-get_or cs c None)
     where
@@ -195,7 +195,7 @@ module _ {V : Type 0} where
       none : at cs c ≡ None
       none = represented_is ls ns c s view ∙ ap (shown ls) is ∙ ap (in_field s.field) (by (lying ls s.field s.index) refl)
 
--- the same, as a call reads the lists and writes them
+-- if a call reads the list of the field, removes the collection and writes the list back, slots and lists are as after the removal of this collection
 module _ {V M : Type 0} (lists : List (Vec (Numbered V) M)) (ns : List Slot) (c : ℕ) (s : Slot) (are : AreNumbered (map items_of lists) ns) (r : Reads (map items_of lists) ns c s)
     (list : Vec (Numbered V) M) (read : list ≡ get_or lists s.field list) (moved : ℕ) (v : Vec (Numbered V) M) (out : IsTakenOut list.items s.index moved v.items) where
   out_of : IsTakenOut (live_in (map items_of lists) s.field) s.index moved v.items

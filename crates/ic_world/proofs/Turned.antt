@@ -1,4 +1,4 @@
--- What a call of one collection leaves to the world, from what the collection's own call gives, whatever the kind.
+-- What a world guarantees of a call of one collection follows from the contract of the collection's own call, whatever the kind.
 use Rattle.std.proofs.Common.{◌≡◌, ◌≢◌, ◌⊎◌, inl, inr, true, false, Option, None, List, [], ◌∷◌, ◌++◌, refl, sym, ap, ◌∙◌, subst, drop}
 use Rattle.std.proofs.lemmas.Bool.{cases_eq}
 use Rattle.std.specs.Ordering.{nat_cmp}
@@ -22,12 +22,12 @@ absent_drop : (q : Place) (t : List Place) → IsAbsent q t → IsAbsent q (drop
 absent_drop q [] h = tt
 absent_drop q (x ∷ t) h = h.1
 
--- a collection with these members now, on a table in which only covered places are linked
+-- the state of a collection after a call: it has the kind of m, the members s, the cursor `cursor`, and the linked places `linked`
 abbrev after_call : {V : Type 0} → AnyCollection V → List Place → Option Place → set.FinSet nat_cmp → State
 after_call m s cursor linked = record { kind = kind_in m; members = s; cursor = cursor; linked = linked }
 
 module _ {V : Type 0} {old new : Table Entry} {m m' : AnyCollection V} (law : IsLawful old) (law' : IsLawful new) where
-  -- WHAT A CALL LEAVES, by what is newly linked, what it leaves of the collection, and the linked set after it
+  -- WHAT A CALL CHANGES, from the newly linked places `fresh`, the new members and cursor of the collection, and the new linked set
   pub turns_by : {names s : List Place} {cursor : Option Place} {linked : set.FinSet nat_cmp} {Accepts : State → State → Type 0} (fresh : List Place)
       → (fresh ≡ []) ⊎ (fresh ≡ names) → Each (IsUnlinked is_linked old) fresh
       → ((q : Place) → IsAbsent q fresh → is_linked (new.entry q) ≡ true → is_linked (old.entry q) ≡ true)
@@ -46,7 +46,7 @@ module _ {V : Type 0} {old new : Table Entry} {m m' : AnyCollection V} (law : Is
         accepts = accepts (λ i. record { kind = e.alike i; members = shown i; cursor = e.cursor_is i; linked = is i });
       }
 
-  -- p is put into the gap
+  -- the place p is inserted into the gap
   pub turns_put : {cursor : Option Place} {Accepts : State → State → Type 0} (gap : Cut) (p : Place) → join gap ≡ members_in old m → (e : Puts old new m m' gap p cursor)
       → (state_of new m' ≡ put (state_of old m) gap p cursor → Accepts (state_of old m) (state_of new m')) → Turns (p ∷ []) Accepts old new m m'
   turns_put gap p cut e accepts =
@@ -55,7 +55,7 @@ module _ {V : Type 0} {old new : Table Entry} {m m' : AnyCollection V} (law : Is
       turns_by (p ∷ []) (inr refl) (e.links.was, tt) (λ q out h. sym (e.links.others q out.0) ∙ h) e.leaves
       (λ q out. absent q (subst (λ s. IsAbsent q (p ∷ s)) (sym cut) out)) (linked_gains old new law law' p e.links.is e.links.others) accepts
 
-  -- p, the member after the gap, is taken out
+  -- the place p, which is the member after the gap, is removed
   pub turns_out : {cursor : Option Place} {Accepts : State → State → Type 0} (gap : Cut) (p : Place) → join gap ≡ members_in old m → (e : Takes old new m m' gap p cursor)
       → (state_of new m' ≡ taken (state_of old m) gap p cursor → Accepts (state_of old m) (state_of new m')) → Turns [] Accepts old new m m'
   turns_out gap p cut e accepts =
@@ -68,7 +68,7 @@ module _ {V : Type 0} {old new : Table Entry} {m m' : AnyCollection V} (law : Is
       turns_by [] (inl refl) tt (λ q out h. still q h) e.leaves
       (λ q out. absent q (subst (IsAbsent q) (sym cut) out)) (linked_loses old new law law' p e.links.is e.links.others) accepts
 
-  -- p takes the place of `out`, the member after the gap
+  -- the place p replaces `out`, which is the member after the gap
   pub turns_swap : {cursor : Option Place} {Accepts : State → State → Type 0} (gap : Cut) (p out : Place) → IsCovered old p → join gap ≡ members_in old m → (e : Swaps old new m m' gap p out cursor)
       → (state_of new m' ≡ swapped (state_of old m) gap p out cursor → Accepts (state_of old m) (state_of new m')) → Turns (p ∷ []) Accepts old new m m'
   turns_swap gap p out covered cut e accepts =
@@ -83,7 +83,7 @@ module _ {V : Type 0} {old new : Table Entry} {m m' : AnyCollection V} (law : Is
       turns_by (p ∷ []) (inr refl) (gains.was, tt) (λ q far h. only q far.0 h) e.leaves
       (λ q far. absent q (subst (λ s. IsAbsent q (p ∷ s)) (sym cut) far)) (linked_swaps old e.links.0 new law law' p out covered gains loses) accepts
 
-  -- all members are taken out
+  -- all members of the collection are removed
   pub turns_clear : {Accepts : State → State → Type 0} → (e : Empties old new m m')
       → (state_of new m' ≡ cleared (state_of old m) → Accepts (state_of old m) (state_of new m')) → Turns [] Accepts old new m m'
   turns_clear e accepts =
@@ -94,7 +94,7 @@ module _ {V : Type 0} {old new : Table Entry} {m m' : AnyCollection V} (law : Is
         | inr there ↦ absurd (let no = gone q there in let both : true ≡ false = sym h ∙ no in cc)
       ]) e.leaves (λ q out. tt) (linked_unlinks old new law law' (members_in old m) gone same) accepts
 
--- the cursor alone has moved
+-- only the cursor of the collection has moved
 pub turns_still : {V : Type 0} {t : Table Entry} {m m' : AnyCollection V} {cursor : Option Place} {names : List Place} {Accepts : State → State → Type 0} → IsLawful t → (e : Moves t m m' cursor)
     → (state_of t m' ≡ moved (state_of t m) cursor → Accepts (state_of t m) (state_of t m')) → Turns names Accepts t t m m'
 turns_still {t = t'} {m = m'} law e accepts =
@@ -102,17 +102,17 @@ turns_still {t = t'} {m = m'} law e accepts =
     (record { kept = e.kept; alike = e.alike; cursor_is = e.cursor_is; frame = record { extent = refl; others = λ q out. refl } })
     (λ q out. out) refl accepts
 
--- nothing has moved
+-- neither the members nor the cursor have moved, if the collection and the table are as before
 pub unmoved : {V : Type 0} {t : Table Entry} {m : AnyCollection V} → Held t m → Moves t m m (cursor_in m)
 unmoved held = record { kept = held; alike = refl; cursor_is = refl }
 
 module _ {V : Type 0} where
-  -- the collection, with its cursor at null
+  -- the collection m' is m with its cursor at null, and the members are as before
   pub nulled : {t : Table Entry} {m m' : AnyCollection V} → Held t m → ((t : Table Entry) (s : List Place) → Keeps t m s → Keeps t m' s) → Alike m m' → cursor_in m' ≡ None
       → Moves t m m' None
   nulled {t} {m} held kept alike null = record { kept = kept t (members_in t m) held; alike = alike; cursor_is = null }
 
-  -- the table stays, and keeps other members for the collection
+  -- the table stays as it is, and keeps other members s for the collection
   pub turns_kept : {t : Table Entry} {m m' : AnyCollection V} {cursor : Option Place} {Accepts : State → State → Type 0} (law : IsLawful t) (s : List Place) → Keeps t m' s → Alike m m'
       → cursor_in m' ≡ cursor → ((q : Place) → IsAbsent q (members_in t m) → IsAbsent q s) → (state_of t m' ≡ having (state_of t m) s cursor → Accepts (state_of t m) (state_of t m'))
       → Turns [] Accepts t t m m'

@@ -1,4 +1,5 @@
--- The collections of a world by number and by field: each live one is stored in a list of its field, and a slot under its number says where.
+-- The collections of a world by number and by field: each live collection is stored in a list of its field. A slot under its number has the field,
+-- and the index in that list.
 use Rattle.std.specs.Prelude.{◌≡◌, ◌≢◌, ℕ, ◌<◌, List, [], ◌∷◌, ◌++◌, length, map, Option, Some, None, slice_index_or, slice_get, slice_set}
 use Rattle.std.specs.declared.vec.Vec.{Vec}
 use Rattle.ic_link_ops.specs.Prelude.{Place, IsMember, Table}
@@ -13,41 +14,42 @@ use Rattle.ic_world.specs.declared.collections_by_number.Numbered.{Numbered}
 abbrev pub items_of : {V M : Type 0} → Vec (Numbered V) M → List (Numbered V)
 items_of v = v.items
 
--- the live collections of a field
+-- the list of the live collections of the field f
 abbrev pub live_in : {V : Type 0} → List (List (Numbered V)) → ℕ → List (Numbered V)
 live_in ls f = slice_index_or ls f []
 
--- an index past that of all live collections
+-- the index that marks the slot of a disposed collection. The index of each live collection is smaller
 abbrev pub disposed : ℕ
 disposed = 4294967295
 
--- the collection at an index of a field
+-- the collection at the index i in the list of the field f, or none if the list is not so long
 abbrev pub lying : {V : Type 0} → List (List (Numbered V)) → ℕ → ℕ → Option (Numbered V)
 lying ls f i = slice_get (live_in ls f) i
 
--- the same as a collection of that field
+-- a collection from the list of the field f, now with the number of the field in place of its own number
 abbrev pub in_field : {V : Type 0} → ℕ → Option (Numbered V) → Option (Collection V)
 in_field f None = None
 in_field f (Some n) = Some (record { field = f; members = n.members })
 
--- the collection of a slot, or none if it was disposed of
+-- the collection to which a slot leads, or none if the collection was disposed of
 abbrev pub in_slot : {V : Type 0} → List (List (Numbered V)) → Slot → Option (Collection V)
 in_slot ls s = in_field s.field (lying ls s.field s.index)
 
--- the collections by number, as their slots represent them
+-- the collections in the order of their numbers, each found by its slot
 abbrev pub by_number : {V : Type 0} → List (List (Numbered V)) → List Slot → List (Option (Collection V))
 by_number ls ns = map (in_slot ls) ns
 
--- THE INVARIANT of the collections by number: slots and lists agree
+-- THE INVARIANT of the collections by number: each slot leads to the collection of its number, and each live collection has a slot
 pub record AreNumbered {V : Type 0} (ls : List (List (Numbered V))) (ns : List Slot) : Type 0 where
-  -- the slot under the number of each live collection leads to it
+  -- the slot under the number of a live collection leads to that collection
   pub found : (f i : ℕ) (n : Numbered V) → lying ls f i ≡ Some n → slice_get ns n.number ≡ Some (record { field = f; index = i })
-  -- its index is below the index that marks disposed ones
+  -- the index of each live collection is below the index that marks disposed collections
   pub before : (f i : ℕ) (n : Numbered V) → lying ls f i ≡ Some n → i < disposed
   -- each slot, except those of disposed collections, leads to a collection with the number of the slot
   pub kept : (c : ℕ) (s : Slot) → slice_get ns c ≡ Some s → s.index ≢ disposed → (m : AnyCollection V) × (lying ls s.field s.index ≡ Some (record { number = c; members = m }))
 
--- the last collection is now at the index of the one that was removed
+-- A COLLECTION IS REMOVED FROM A LIST: the last collection of the list moves to the index i of the removed one. `number` is the number of the
+-- collection that moved
 pub record IsTakenOut {V : Type 0} (old : List (Numbered V)) (i : ℕ) (number : ℕ) (new : List (Numbered V)) : Type 0 where
   pub rest : List (Numbered V)
   pub last : Numbered V
@@ -59,7 +61,7 @@ pub record IsTakenOut {V : Type 0} (old : List (Numbered V)) (i : ℕ) (number :
 abbrev pub HaveLists : {V : Type 0} → (old new : List (List (Numbered V))) → Type 0
 HaveLists old new = (g : ℕ) → live_in new g ≡ live_in old g
 
--- field f has one more collection, in that slot
+-- the list of the field f has the collection n as one more at its end, and the slot s leads to it. All other lists are as before
 pub record IsEntered {V : Type 0} (old : List (List (Numbered V))) (f : ℕ) (n : Numbered V) (s : Slot) (new : List (List (Numbered V))) : Type 0 where
   pub field : s.field ≡ f
   pub index : s.index ≡ length (live_in old f)
@@ -67,16 +69,17 @@ pub record IsEntered {V : Type 0} (old : List (List (Numbered V))) (f : ℕ) (n 
   pub more : live_in new f ≡ live_in old f ++ n ∷ []
   pub others : (g : ℕ) → g ≢ f → live_in new g ≡ live_in old g
 
--- if a slot is returned, the field has one more collection in it, and otherwise the lists are as before
+-- if a slot is returned, the list of the field f has the collection n as one more, and the slot leads to it. If none is returned, the lists are as
+-- before
 abbrev pub Enters : {V : Type 0} → List (List (Numbered V)) → ℕ → Numbered V → Option Slot → List (List (Numbered V)) → Type 0
 Enters old f n None new = HaveLists old new
 Enters old f n (Some s) new = IsEntered old f n s new
 
--- the table keeps each of these collections
+-- the table t keeps each collection of `list`
 abbrev pub EachHeld : {V : Type 0} → Table Entry → List (Numbered V) → Type 0
 EachHeld {V} t list = (i : ℕ) (n : Numbered V) → slice_get list i ≡ Some n → Held t n.members
 
--- the table represents the place as a member of one of these collections
+-- the place p is a member of one of the collections of `list`, whose table is t
 pub record SomeHas {V : Type 0} (t : Table Entry) (p : Place) (list : List (Numbered V)) : Type 0 where
   pub index : ℕ
   pub one : Numbered V

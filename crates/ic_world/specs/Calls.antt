@@ -17,13 +17,13 @@ use Rattle.ic_any_collection.specs.Keyed.{IsVacantFor}
 use Rattle.ic_world.specs.Looks.{WithinComparisonBound, WithinBound}
 use Rattle.ic_world.specs.declared.call.Refusal.{Refusal}
 use Rattle.ic_world.specs.declared.call.Refusal.TheVariants.{WrongKind, NothingThere, NotAMember, NotANeighbour, AlreadyLinked}
-pub use Rattle.ic_world.specs.declared.calls.one_call.Call.{Call}
-use Rattle.ic_world.specs.declared.calls.one_call.Call.TheVariants as one
-use Rattle.ic_world.specs.declared.calls.one_call.Direction.{Direction}
-use Rattle.ic_world.specs.declared.calls.one_call.Direction.TheVariants.{Next, Prev}
+pub use Rattle.ic_world.specs.declared.calls.collection_call.Call.{Call}
+use Rattle.ic_world.specs.declared.calls.collection_call.Call.TheVariants as one
+use Rattle.ic_world.specs.declared.calls.collection_call.Neighbor.{Neighbor}
+use Rattle.ic_world.specs.declared.calls.collection_call.Neighbor.TheVariants.{Next, Prev}
 use Rattle.ic_world.specs.declared.calls.seek.Seek.{Seek}
 use Rattle.ic_world.specs.declared.calls.seek.Seek.TheVariants.{Null, On, With}
-use Rattle.ic_world.specs.declared.calls.whole.Whole.TheVariants.{Clear, Reverse}
+use Rattle.ic_world.specs.declared.calls.bulk_edit.BulkEdit.TheVariants.{Clear, Reverse}
 use Rattle.ic_world.specs.declared.calls.search.Search.TheVariants.{Find, LowerBound, UpperBound}
 use Rattle.ic_world.specs.declared.calls.insertion.Insertion.TheVariants.{Insert, CursorInsert}
 use Rattle.ic_world.specs.Family.{same_position, is_among, before_or, after_of, next_of}
@@ -35,7 +35,7 @@ pub record State : Type 0 where
   pub cursor : Option Place
   pub linked : set.FinSet nat_cmp
 
--- A REPLY is what a call returns, with several places as a sequence
+-- A REPLY is what a call returns in the model. If it returns several places, the reply has them as a sequence
 pub data Reply : Type 0 where
   done : Reply
   nothing : Reply
@@ -50,22 +50,22 @@ pub data Reply : Type 0 where
   entry : Bool → Place → ℕ → Reply
   refused : Refusal → Reply
 
--- the refusal r if the test fails, or else the result of the remaining tests
+-- a call is refused with r if the test fails. If the test passes, `rest` is the result of the remaining tests
 abbrev pub asks : {R : Type 0} → Bool → R → Option R → Option R
 asks true r rest = rest
 asks false r rest = Some r
 
--- an object, or none
+-- the reply of a call that returns an object, or `nothing` if there is none
 abbrev pub object_or_nothing : Option Place → Reply
 object_or_nothing None = nothing
 object_or_nothing (Some p) = object p
 
--- p is linked in the field of the collection
+-- whether the place p is linked in the field of the collection s
 abbrev pub is_linked_in : State → Place → Bool
 is_linked_in s p = set.contains s.linked (index_of p)
 
--- Five changes: the cursor moves; the members and the cursor change; p is inserted into the gap; p, the member after the gap, is removed; p replaces
--- `out`, the member after the gap
+-- five functions change the state of a collection. `moved` moves the cursor, and `having` sets the members and the cursor. `put` inserts p into the
+-- gap. `taken` removes p, the member after the gap. `swapped` replaces `out`, the member after the gap, by p
 abbrev pub moved : State → Option Place → State
 moved s cursor = record s { cursor = cursor }
 
@@ -82,7 +82,8 @@ abbrev pub swapped : State → Cut → Place → Place → Option Place → Stat
 swapped s gap p out cursor =
     record { kind = s.kind; members = replace gap p; cursor = cursor; linked = set.remove (set.insert s.linked (index_of p)) (index_of out) }
 
--- all members are removed
+-- `unlinked` removes the members of a sequence from a set of linked places. `cleared` removes all members of a collection, and its cursor is then at
+-- null
 abbrev pub unlinked : set.FinSet nat_cmp → List Place → set.FinSet nat_cmp
 unlinked l [] = l
 unlinked l (p ∷ s) = set.remove (unlinked l s) (index_of p)
@@ -90,17 +91,17 @@ unlinked l (p ∷ s) = set.remove (unlinked l s) (index_of p)
 abbrev pub cleared : State → State
 cleared s = record { kind = s.kind; members = []; cursor = None; linked = unlinked s.linked s.members }
 
--- there is a gap at which the members are cut, and the rest of the statement holds of it
+-- the members of the collection s can be cut at a gap of which the statement `Rest` holds
 abbrev pub AtGap : State → (Cut → Type 0) → Type 0
 AtGap s Rest = (gap : Cut) × (join gap ≡ s.members) × Rest gap
 
--- the place of an object that a call may name
+-- a list of the one place that a call names, or the empty list if it names none
 abbrev pub named_if : Option Place → List Place
 named_if None = []
 named_if (Some p) = p ∷ []
 
 module _ {K : Type 0} where
-  -- WHICH KINDS HAVE A CALL
+  -- WHICH KINDS HAVE A CALL: a collection of another kind refuses the call with `WrongKind`
   abbrev pub has_call : Call K → Kind → Bool
   has_call (one.Put at p) k = gaps.can_insert at k
   has_call (one.Take at) k = gaps.can_remove at k
@@ -110,13 +111,13 @@ module _ {K : Type 0} where
   has_call (one.Seek Null) k = true
   has_call (one.Seek (On p)) k = has_pointer k
   has_call (one.Seek _) k = is_xor k
-  has_call (one.Whole Reverse) k = is_xor k
-  has_call (one.Whole _) k = true
+  has_call (one.BulkEdit Reverse) k = is_xor k
+  has_call (one.BulkEdit _) k = true
   has_call (one.Search _) k = is_tree k
   has_call (one.Insertion _) k = is_tree k
   has_call (one.Enter key p) k = is_tree k
 
-  -- the objects that a call names
+  -- the places of the objects that a call has as arguments
   abbrev pub names : Call K → List Place
   names (one.Put at p) = p ∷ []
   names (one.Swap at p) = p ∷ []
@@ -127,19 +128,19 @@ module _ {K : Type 0} where
   names (one.Enter key p) = p ∷ []
   names _ = []
 
--- the gap whose next member a removal means: at the back, the gap before the last member
+-- the gap is directly before the member that a removal takes. For example, a removal at the back takes the last member
 abbrev pub IsFrontOf : Gap → State → Cut → Type 0
 IsFrontOf at s gap = gaps.IsFrontOf at s.members s.cursor gap
 
--- the member that a call means
+-- the member that a removal or a replacement at the gap takes: the first, the last, the one that the cursor is on, or the one after the cursor
 abbrev pub member_at : Gap → State → Option Place
 member_at Front s = first s.members
 member_at Back s = last s.members
 member_at Before s = s.cursor
 member_at After s = next_of s.members s.cursor
 
--- the member beside p
-abbrev pub beside_of : Direction → List Place → Place → Option Place
+-- the member after p or before p, by the direction, or none if p is at that end of the sequence
+abbrev pub beside_of : Neighbor → List Place → Place → Option Place
 beside_of Next s p = after_of s p
 beside_of Prev s p = before_or None s p
 
@@ -154,7 +155,8 @@ refusal_of_seek (On p) s = asks_member s p None
 refusal_of_seek (With way p beside) s = asks_member s p (asks (same_position beside (beside_of way s.members p)) NotANeighbour None)
 refusal_of_seek _ s = None
 
--- THE FIRST REFUSAL of a call, if the collection exists, its kind has the call, and the named objects exist
+-- THE FIRST REFUSAL of a call whose collection and objects exist. `own_refusal` also assumes that the collection's kind has the call, and
+-- `refusal_of` tests this
 module _ {K : Type 0} where
   abbrev pub own_refusal : Call K → State → Option Refusal
   own_refusal (one.Put at p) s = asks_unlinked s p
@@ -167,11 +169,13 @@ module _ {K : Type 0} where
   abbrev pub refusal_of : Call K → State → Option Refusal
   refusal_of call s = asks (has_call call s.kind) WrongKind (own_refusal call s)
 
--- WHAT AN ACCEPTED CALL returns and changes. AN OBJECT IS INSERTED into a gap
+-- AN ACCEPTED INSERTION puts the object p into the gap and replies `done`. The following definitions say what each other accepted call returns and
+-- changes
 abbrev pub PutReplies : Gap → Place → State → Reply → State → Type 0
 PutReplies at p s reply t = (reply ≡ done) × AtGap s (λ gap. IsGapAt at s.cursor gap × (t ≡ put s gap p (rests at s.cursor)))
 
--- A MEMBER IS REMOVED, if there is one. A cursor that was on it goes on to the next
+-- A REMOVAL takes the member after the gap and returns it, or returns `nothing` if there is none. A cursor that was on the member goes on to the next
+-- member
 abbrev pub without : State → Cut → Option Place → Option Place → State
 without s gap cursor None = moved s cursor
 without s gap cursor (Some p) = taken s gap p cursor
@@ -179,23 +183,24 @@ without s gap cursor (Some p) = taken s gap p cursor
 abbrev pub TakeReplies : Gap → State → Reply → State → Type 0
 TakeReplies at s reply t = AtGap s (λ gap. IsFrontOf at s gap × (reply ≡ object_or_nothing (first gap.back)) × (t ≡ without s gap (onward at s.cursor gap) (first gap.back)))
 
--- A MEMBER IS REPLACED by p. A cursor that was on it is then on p
+-- A REPLACEMENT puts p in the position of the member after the gap, and returns that member. A cursor that was on the member is then on p
 abbrev pub SwapReplies : Gap → Place → State → Reply → State → Type 0
 SwapReplies at p s reply t = AtGap s (λ gap. IsFrontOf at s gap × (out : Place) × (first gap.back ≡ Some out) × (reply ≡ object out) × (t ≡ swapped s gap p out (onto at s.cursor p)))
 
--- THE CURSOR MOVES
-abbrev pub MoveReplies : Direction → State → Reply → State → Type 0
+-- A MOVE puts the cursor on the next or the previous member, and returns that member. If there is none, the cursor goes to null
+abbrev pub MoveReplies : Neighbor → State → Reply → State → Type 0
 MoveReplies Next s reply t = AtGap s (λ gap. IsAfter gap s.cursor × (reply ≡ object_or_nothing (first gap.back)) × (t ≡ moved s (first gap.back)))
 MoveReplies Prev s reply t = AtGap s (λ gap. IsBefore gap s.cursor × (reply ≡ object_or_nothing (last gap.front)) × (t ≡ moved s (last gap.front)))
 
--- A SEARCH returns a member or none, with the number of keys that it compared, and puts the cursor there
+-- A SEARCH returns the found member or none, and the number of keys that it compared. It puts the cursor on the member, or to null
 abbrev pub SearchReplies : (Option Place → Type 0) → (ℕ → Type 0) → State → Reply → State → Type 0
 SearchReplies IsFound WithinBoundFor s (found position looks) t = IsFound position × WithinBoundFor looks × (t ≡ moved s position)
 SearchReplies IsFound WithinBoundFor s _ t = ⊥
 
--- `cmp`: the order of the keys. `key_of`: the key of a value. `objects`: the values by place
+-- `cmp` is the order of the keys, `key_of` is the key of a value, and `objects` are the values by place
 module _ {V K : Type 0} (cmp : K → K → Ordering) (key_of : V → K) (objects : Objects V) where
-  -- how a key, the key of a bound, and the key of the object at p compare with the key of the object at each place
+  -- three functions compare a key with the key of the object at each place. `key_at` compares a given key, `bound_at` the key of a bound, and
+  -- `own_at` the key of the object at p
   abbrev pub key_at : K → Place → Ordering
   key_at key = compared (order_of cmp key_of key) objects
 
@@ -205,7 +210,7 @@ module _ {V K : Type 0} (cmp : K → K → Ordering) (key_of : V → K) (objects
   abbrev pub own_at : Place → Place → Ordering
   own_at p = compared (own_order cmp key_of objects p) objects
 
-  -- AN OBJECT IS INSERTED BY ITS KEY: after members with the same key
+  -- AN OBJECT IS INSERTED BY ITS KEY, after members with the same key. The call returns how many keys it compared
   abbrev pub InsertionReplies : Place → Option Place → State → Reply → State → Type 0
   InsertionReplies p cursor s (looked looks) t = AtGap s (λ gap. IsBorder (less_at (own_at p)) gap × (t ≡ put s gap p cursor)) × WithinComparisonBound looks s.members
   InsertionReplies p cursor s _ t = ⊥
@@ -227,8 +232,8 @@ module _ {V K : Type 0} (cmp : K → K → Ordering) (key_of : V → K) (objects
   Replies (one.Seek Null) s reply t = (reply ≡ done) × (t ≡ moved s None)
   Replies (one.Seek (On p)) s reply t = (reply ≡ done) × (t ≡ moved s (Some p))
   Replies (one.Seek (With way p beside)) s reply t = (reply ≡ done) × (t ≡ moved s (Some p))
-  Replies (one.Whole Clear) s reply t = (reply ≡ done) × (t ≡ cleared s)
-  Replies (one.Whole Reverse) s reply t = (reply ≡ done) × (t ≡ having s (reverse s.members) None)
+  Replies (one.BulkEdit Clear) s reply t = (reply ≡ done) × (t ≡ cleared s)
+  Replies (one.BulkEdit Reverse) s reply t = (reply ≡ done) × (t ≡ having s (reverse s.members) None)
   Replies (one.Search (Find key)) s reply t = SearchReplies (Finds (key_at key) s.members) (λ n. WithinComparisonBound n s.members) s reply t
   Replies (one.Search (LowerBound bound)) s reply t = SearchReplies (IsLowerBorder (bound_at bound) s.members) (λ n. WithinBound bound n s.members) s reply t
   Replies (one.Search (UpperBound bound)) s reply t = SearchReplies (IsUpperBorder (bound_at bound) s.members) (λ n. WithinBound bound n s.members) s reply t

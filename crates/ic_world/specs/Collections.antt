@@ -8,30 +8,30 @@ use Rattle.ic_world.specs.declared.collection.Collection.{Collection}
 use Rattle.ic_world.specs.Tables.{at}
 
 module _ {V : Type 0} where
-  -- the field of a collection, if there is a collection of this number
+  -- the number of a collection's field, or none if there is no collection
   abbrev pub its_field : Option (Collection V) → Option ℕ
   its_field None = None
   its_field (Some k) = Some k.field
 
-  -- the members of a collection
+  -- the list or tree of a collection with its cursor, or none if there is no collection
   abbrev pub its_members : Option (Collection V) → Option (AnyCollection V)
   its_members None = None
   its_members (Some k) = Some k.members
 
-  -- the collection has these members now
+  -- the collection with `m` as its list or tree. Its field stays
   abbrev pub having : AnyCollection V → Option (Collection V) → Option (Collection V)
   having m None = None
   having m (Some k) = Some (record { field = k.field; members = m })
 
-  -- collection c has these members now, and all others are as they were
+  -- the list of collections in which the collection with number c has `m` as its list or tree. All others are as in `cs`
   abbrev pub with_members : List (Option (Collection V)) → ℕ → AnyCollection V → List (Option (Collection V))
   with_members cs c m = slice_set cs c (having m (at cs c))
 
-  -- the table of field f keeps each collection of that field
+  -- the table t of the field f keeps each collection of that field
   abbrev pub AreHeld : List (Option (Collection V)) → ℕ → Table Entry → Type 0
   AreHeld cs f t = (c : ℕ) (k : Collection V) → at cs c ≡ Some k → k.field ≡ f → Held t k.members
 
-  -- a collection of field f, whose table is t, has the member p
+  -- the place p is a member of some collection of the field f. The table of the field is t
   pub record HasMember (cs : List (Option (Collection V))) (f : ℕ) (t : Table Entry) (p : Place) : Type 0 where
     pub number : ℕ
     pub one : Collection V

@@ -1,4 +1,4 @@
--- How a family is stored as a plain value.
+-- How a family is encoded as a value of plain data, and decoded again.
 use Rattle.std.specs.Prelude.{◌≡◌, ℕ, List, [], ◌∷◌, Option, refl}
 use Rattle.std.specs.Ordering.{nat_cmp}
 use Rattle.std.specs.FinSet as set
@@ -10,7 +10,7 @@ use Rattle.ic_any_collection.specs.declared.kind.Kind.TheVariants.{Singly, Doubl
 use Rattle.ic_any_collection.specs.Kinds.{number_of, kind_with}
 use Rattle.ic_world.specs.Family.{LinkField, Sequence, Family}
 
--- a kind is stored as its number
+-- a kind that was encoded as its number is decoded to the same kind
 pub kind_again : (k : Kind) → kind_with (number_of k ∷ []) ≡ k
 kind_again Singly = refl
 kind_again Doubly = refl
@@ -28,7 +28,7 @@ sequence_code =
     code_by (ℕ × (Kind × (List Place × Option Place))) (coded× coded_ℕ (coded× kind_code (coded× (coded_list place_code) (coded_option place_code))))
     (λ s. (s.field, (s.kind, (s.members, s.cursor)))) (λ p. record { field = p.0; kind = p.1.0; members = p.1.1.0; cursor = p.1.1.1 }) (λ _. refl)
 
--- a family is stored as the tuple of its fields
+-- a family is encoded as the tuple of its adapter, objects, link fields and collections
 abbrev pub family_code : {A V : Type 0} → Coded A → Coded V → Coded (Family A V)
 family_code {A} {V} adapter value =
     code_by

@@ -1,4 +1,4 @@
--- The linked set of a table.
+-- The set of the linked places of a table.
 use Rattle.std.specs.Prelude.{ℕ, ◌+◌, ◌*◌, Bool, false, cond, List, [], ◌∷◌, Option, Some, None}
 use Rattle.std.proofs.Common.{zero, suc}
 use Rattle.std.specs.Ordering.{nat_cmp}
@@ -7,7 +7,7 @@ use Rattle.ic_link_ops.specs.Prelude.{Place, place_at, Table}
 use Rattle.ic_any_collection.specs.declared.entry.Entry.{Entry}
 use Rattle.ic_any_collection.specs.Entries.{is_linked}
 
--- whether the place with an index is linked
+-- whether a place is linked in the table. The place is given, or computed from an index, and no place is not linked
 abbrev pub linked_there : Table Entry → Option Place → Bool
 linked_there t None = false
 linked_there t (Some p) = is_linked (t.entry p)
@@ -15,7 +15,7 @@ linked_there t (Some p) = is_linked (t.entry p)
 abbrev pub linked_index : Table Entry → ℕ → Bool
 linked_index t i = linked_there t (place_at (8 * (i + 1)))
 
--- the linked places below an index, and those of the whole table
+-- `linked_below` lists the indexes of the linked places below an index. `linked_in` is the set of all linked places of the table
 abbrev pub linked_below : Table Entry → ℕ → List ℕ
 linked_below t zero = []
 linked_below t (suc n) = cond (linked_index t n) (n ∷ linked_below t n) (linked_below t n)

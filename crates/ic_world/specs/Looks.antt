@@ -7,13 +7,14 @@ use Rattle.ic_rbtree.specs.declared.keys.probe.KeyProbe.{KeyProbe}
 use Rattle.ic_rbtree.specs.KeyProbe.{looks_of}
 pub use Rattle.ic_rbtree.specs.Comparing.{WithinComparisonBound}
 
--- AT MOST SO MANY LOOKS (key comparisons) as a search within this bound makes in a tree with the members s: none for `Unbounded`
+-- THE NUMBER OF LOOKS (key comparisons) is at most what a search with this bound may make in a tree with the members s. For `Unbounded` the number of
+-- looks is 0
 abbrev pub WithinBound : {B : Type 0} → Bound B → ℕ → List Place → Type 0
 WithinBound (Included _) looks s = WithinComparisonBound looks s
 WithinBound (Excluded _) looks s = WithinComparisonBound looks s
 WithinBound Unbounded looks s = looks ≡ 0
 
--- how often the probe of a bound has compared: never, if the bound has no key
+-- how many keys the probe of a bound has compared. The number is 0 if the bound has no key
 abbrev pub looks_within : {A V K : Type 0} → Bound (KeyProbe A V K) → ℕ
 looks_within (Included probe) = looks_of probe
 looks_within (Excluded probe) = looks_of probe

@@ -1,4 +1,4 @@
--- A seek: it moves a cursor and writes no table.
+-- What a seek does: it moves the cursor of a collection to a named member, and writes no table.
 use Rattle.std.specs.Prelude.{◌≡◌, Some, Result, OnOk, OnErr}
 use Rattle.ic_link_ops.specs.Prelude.{Place, Table}
 use Rattle.ic_any_collection.specs.declared.entry.Entry.{Entry}
@@ -9,7 +9,7 @@ use Rattle.ic_world.specs.declared.calls.seek.Seek.{Seek}
 use Rattle.ic_world.specs.Calls.{refusal_of_seek}
 use Rattle.ic_world.specs.Turns.{refusal_in, state_of}
 
--- the seek is refused by the result of its tests, and the collection stays as it is; or the cursor is then on the place
+-- the seek is refused if one of its tests fails, and then the collection stays as it is. If all pass, the cursor is then on the place p
 pub record Sought {V : Type 0} (call : Seek) (p : Place) (t : Table Entry) (m : AnyCollection V) (result : Result Unit Refusal) (m' : AnyCollection V) : Type 0 where
   pub tested : refusal_in result ≡ refusal_of_seek call (state_of t m)
   pub moved : OnOk result (Moves t m m' (Some p))

@@ -15,7 +15,7 @@ module _ {A V : Type 0} where
     pub cursor : (p : Place) → s.cursor ≡ Some p → IsMember p s.members
 
   -- A FAMILY IS SOUND: only the first 2 ^ 32 places have objects, each linked place has an object, each collection is sound, and no member is shared.
-  -- So each place that a family names is one of the first 2 ^ 32
+  -- Because of this, each object, linked place and member of a family is at one of the first 2 ^ 32 places
   pub record IsSound (w : Family A V) : Type 0 where
     pub below : (p : Place) → is_placed w p ≡ true → index_of p < 2 ^ 32
     pub placed : (f : ℕ) (p : Place) → set.contains (linked_of w f) (index_of p) ≡ true → is_placed w p ≡ true

@@ -1,4 +1,4 @@
--- Splices after a cursor, and before it.
+-- Splices of one collection into another, after or before the cursor of the second.
 use Rattle.std.specs.Prelude.{◌≡◌, ◌≢◌, ℕ, Bool, true, false, List, [], Option, Some, None, length, ◌<◌, slice_set}
 use Rattle.ic_link_ops.specs.Prelude.{Place, Cut, IsAfter, IsBefore, IsDisjoint, Table}
 use Rattle.ic_any_collection.specs.declared.entry.Entry.{Entry}
@@ -9,28 +9,28 @@ use Rattle.ic_any_collection.specs.Edits.{AtGap, PutsAll}
 use Rattle.ic_world.specs.declared.collection.Collection.{Collection}
 use Rattle.ic_world.specs.Tables.{table, at}
 
--- before the cursor if `before` is true, or else after it
+-- a gap is directly before the cursor if `before` is true, and directly after the cursor if it is false
 abbrev pub IsBesideOf : Bool → Cut → Option Place → Type 0
 IsBesideOf true = IsBefore
 IsBesideOf false = IsAfter
 
--- which kinds have this splice
+-- which kinds of collection can take a splice before the cursor (`true`) or after the cursor (`false`)
 abbrev pub can_splice : Bool → Kind → Bool
 can_splice true = is_two_way_list
 can_splice false = is_list
 
 module _ {V : Type 0} where
-  -- THE COLLECTION IS NOW EMPTY, with its cursor at null. Its former members stay linked
+  -- THE COLLECTION m' IS m WITHOUT MEMBERS, with its cursor at null. The former members stay linked
   pub record Emptied (m m' : AnyCollection V) : Type 0 where
     pub kept : (t : Table Entry) (s : List Place) → Keeps t m s → Keeps t m' []
     pub alike : Alike m m'
     pub null : cursor_in m' ≡ None
 
-  -- the members `r` are inserted into the gap beside the cursor, on the given side
+  -- the members `r` are inserted into the gap directly before the cursor, or directly after it, by the first argument
   abbrev pub PutsBeside : Bool → (t t' : Table Entry) (m m' : AnyCollection V) (r : List Place) → Type 0
   PutsBeside before t t' m m' r = AtGap (members_in t m) (λ gap. IsBesideOf before gap (cursor_in m) × PutsAll t t' m m' gap r)
 
-  -- two collections that can be spliced: both are in one table, are lists of one kind, and share no member
+  -- the collection l can be spliced into the collection k: both are in one table, are lists of one kind, and share no member
   pub record CanJoin (before : Bool) (ts : List (Table Entry)) (k l : Collection V) : Type 0 where
     pub there : k.field < length ts
     pub held : Held (table ts k.field) k.members
@@ -39,7 +39,7 @@ module _ {V : Type 0} where
     pub kinds : kind_in l.members ≡ kind_in k.members
     pub apart : IsDisjoint (members_in (table ts k.field) l.members) (members_in (table ts k.field) k.members)
 
-  -- collections c and d are two that can be spliced
+  -- the collections with the numbers c and d exist and differ, and the collection d can be spliced into the collection c
   pub record CanBeJoined (before : Bool) (ts : List (Table Entry)) (cs : List (Option (Collection V))) (c d : ℕ) : Type 0 where
     pub list : Collection V
     pub given : Collection V
@@ -48,7 +48,7 @@ module _ {V : Type 0} where
     pub differ : c ≢ d
     pub can : CanJoin before ts list given
 
-  -- THE MEMBERS OF l MOVE beside the cursor of k, and only the table of k's field changes
+  -- THE MEMBERS OF l MOVE beside the cursor of k, and l is then empty. Of all tables, only that of the field of k changes
   pub record PutsTogether (before : Bool) (ts us : List (Table Entry)) (k l k' l' : Collection V) : Type 0 where
     pub t : Table Entry
     pub tables : us ≡ slice_set ts k.field t
@@ -57,7 +57,7 @@ module _ {V : Type 0} where
     pub emptied : Emptied l.members l'.members
     pub puts : PutsBeside before (table ts k.field) t k.members k'.members (members_in (table ts k.field) l.members)
 
-  -- the same, for the collections with the numbers c and d
+  -- the members of the collection d move beside the cursor of the collection c. All other collections of `cs` stay
   pub record IsJoined (before : Bool) (ts us : List (Table Entry)) (cs new : List (Option (Collection V))) (c d : ℕ) (k l : Collection V) : Type 0 where
     pub list : Collection V
     pub given : Collection V

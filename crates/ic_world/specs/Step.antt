@@ -1,4 +1,4 @@
--- ONE CALL OF A WORLD, as a step of its family, and a run of calls.
+-- ONE CALL OF A WORLD is a step from one family to another, and a list of calls is a run of steps.
 use Rattle.std.specs.Prelude.{◌≡◌, ◌<◌, ◌^◌, ℕ, not, reverse, List, [], ◌∷◌, ◌++◌, length, Option, Some, None}
 use Rattle.std.specs.List.{list_all}
 use Rattle.std.specs.declared.cmp.Ordering.{Ordering}
@@ -13,8 +13,8 @@ use Rattle.ic_world.specs.declared.call.Refusal.{Refusal}
 use Rattle.ic_world.specs.declared.call.Refusal.TheVariants.{NoSuchField, NoSuchObject, WrongKind, IsMember, StillLinked, TooManyObjects, OutOfMemory}
 use Rattle.ic_world.specs.declared.call.Command.{Command}
 use Rattle.ic_world.specs.declared.call.Command.TheVariants as call
-use Rattle.ic_world.specs.declared.calls.one_call.Call.{Call}
-use Rattle.ic_world.specs.declared.part.Part.TheVariants.{All, After, Before}
+use Rattle.ic_world.specs.declared.calls.collection_call.Call.{Call}
+use Rattle.ic_world.specs.declared.taken_part.TakenPart.TheVariants.{All, After, Before}
 use Rattle.ic_world.specs.Family.{Family, Sequence, collection, linked_of, has_field, is_placed, is_linked_somewhere, is_member_in, objects_of, with_linked, with_collection, with_opened}
 use Rattle.ic_world.specs.Calls.{State, Reply, done, object, field, opened, items, linked, range, refused, object_or_nothing, asks, unlinked, bound_at, names, refusal_of, Replies}
 use Rattle.ic_world.specs.Several.{asks_collection, with_members, state_in, with_state, StepBy, refusal_of_open, refusal_of_part, OpensWith, refusal_of_splice, SplicesAt}
@@ -23,7 +23,7 @@ module _ {A V K : Type 0} where
   abbrev pub refusal_on : Family A V → ℕ → Call K → Option Refusal
   refusal_on w c call = asks_collection (collection w c) (λ s. asks (list_all (is_placed w) (names call)) NoSuchObject (refusal_of call (state_in w s)))
 
-  -- THE FIRST REFUSAL that applies, in the order of their numbers
+  -- THE FIRST REFUSAL that applies to a call, in the order of the refusals' numbers, or none if no refusal applies
   abbrev pub refusal : Family A V → Command V K → Option Refusal
   refusal w (call.On c one) = refusal_on w c one
   refusal w (call.AddField k) = None
@@ -50,7 +50,7 @@ module _ {A V K : Type 0} (cmp : K → K → Ordering) (key_of : A → V → K) 
   AcceptsOn old c call reply new = (s : Sequence) × (t : State) × (collection old c ≡ Some s)
       × Replies cmp (key_of old.adapter) (objects_of old) call (state_in old s) reply t × (new ≡ with_state old c s.field t)
 
-  -- a range returns the members between two bounds in their order, and the number of looks (key comparisons) of the search for each bound
+  -- the reply of `range` has the members between two bounds in their order, and the number of looks (key comparisons) of the search for each bound
   abbrev pub RangeReplies : Family A V → Bound K → Bound K → Sequence → Reply → Type 0
   RangeReplies w min max s (range places first second) =
       IsRange (bound_at cmp (key_of w.adapter) (objects_of w) min) (bound_at cmp (key_of w.adapter) (objects_of w) max)
@@ -95,15 +95,16 @@ module _ {A V K : Type 0} (cmp : K → K → Ordering) (key_of : A → V → K) 
   Accepts old (call.IsLinked f p) reply new = (reply ≡ linked (set.contains (linked_of old f) (index_of p))) × (new ≡ old)
   Accepts old (call.ForceUnlink f p) reply new = (reply ≡ done) × (new ≡ with_linked old f (set.remove (linked_of old f) (index_of p)))
 
-  -- A STEP: the call may return this reply and lead from `old` to `new`
+  -- A STEP: the call `command` may return this reply and lead from the family `old` to the family `new`
   abbrev pub Step : Family A V → Command V K → Reply → Family A V → Type 0
   Step old command reply new = StepBy (refusal old command) (Accepts old command) old reply new
 
-  -- the step of a call of one collection
+  -- a call of the collection c may return this reply and lead from the family `old` to the family `new`
   abbrev pub StepOn : Family A V → ℕ → Call K → Reply → Family A V → Type 0
   StepOn old c call reply new = StepBy (refusal_on old c call) (AcceptsOn old c call) old reply new
 
-  -- A RUN: each call is a step from the family to which the one before it led, and the replies are those of the calls, in order
+  -- A RUN of a list of calls leads from one family to another. Each call is a step from the family to which the call before led, and the replies are
+  -- in the order of the calls
   abbrev pub Runs : Family A V → List (Command V K) → List Reply → Family A V → Type 0
   Runs old [] [] new = new ≡ old
   Runs old (call ∷ calls) (reply ∷ replies) new = (mid : Family A V) × Step old call reply mid × Runs mid calls replies new

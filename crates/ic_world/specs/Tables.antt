@@ -1,4 +1,4 @@
--- The family that tables represent: besides them, only the cursors are stored.
+-- The family that the tables of a world represent. No sequence of members is stored: each is found by a walk through a table.
 use Rattle.std.specs.Prelude.{◌≡◌, ◌≢◌, ℕ, ◌<◌, ◌≤◌, ◌^◌, Bool, true, false, List, [], map, length, Option, Some, None, IsSome, slice_index_or}
 use Rattle.std.specs.FinMap as map_of
 use Rattle.ic_link_ops.specs.Prelude.{Place, index_of, Objects, IsDisjoint, Table}
@@ -12,14 +12,15 @@ use Rattle.ic_world.specs.declared.field.WorldField.{WorldField}
 use Rattle.ic_world.specs.Family.{Family, Sequence, LinkField}
 use Rattle.ic_world.specs.LinkedSets.{linked_in}
 
--- the table of a field of a world, and in which fields members were left linked
+-- `table_of` is the table of a field of a world. `left_in` lists the mark of each field that says whether `fast_clear` may have left members linked
+-- in it
 abbrev pub table_of : {M : Type 0} → WorldField M → Table Entry
 table_of f = table_in f.links
 
 abbrev pub left_in : {M : Type 0} → List (WorldField M) → List Bool
 left_in fields = map (λ f. f.left_linked) fields
 
--- the table if there is no field
+-- the table that a field's number stands for if there is no such field: it covers no place
 abbrev pub no_table : Table Entry
 no_table = record { extent = record { places = 0; identity = [] }; entry = λ p. record { linked = false; word = 0; prev = None; parent = None; color = Red } }
 
@@ -35,11 +36,11 @@ abbrev pub HasObject : {V : Type 0} → Objects V → ℕ → Type 0
 HasObject objects i = IsSome (map_of.get objects.values i)
 
 module _ {V : Type 0} where
-  -- the collection with number c, or none if there is no such one
+  -- the collection with number c, or none if there is no such collection
   abbrev pub at : List (Option (Collection V)) → ℕ → Option (Collection V)
   at cs c = slice_index_or cs c None
 
-  -- the sequence that the tables represent for a collection
+  -- the members of the collection k, found by a walk through the table of its field
   abbrev pub sequence : List (Table Entry) → Collection V → List Place
   sequence ts k = members_in (table ts k.field) k.members
 
@@ -50,7 +51,7 @@ module _ {V : Type 0} where
   represented_as ts None = None
   represented_as ts (Some k) = Some (seen_as k (sequence ts k))
 
-  -- THE FAMILY that these tables represent
+  -- THE FAMILY that the tables `ts` of the fields represent, with these objects and the collections `cs`
   abbrev pub family_of : {A : Type 0} → A → Objects V → List (Table Entry) → List (Option (Collection V)) → Family A V
   family_of adapter objects ts cs = record {
     adapter = adapter;
@@ -59,8 +60,8 @@ module _ {V : Type 0} where
     collections = map (represented_as ts) cs;
   }
 
-  -- the places of objects are below 2 ^ 32 and below `room`, and each table covers the places below `room`; only objects are linked; each collection
-  -- is kept by its table; and the collections of one field share no member
+  -- A WORLD IS WHOLE: the places of objects are below 2 ^ 32 and below `room`, and each table covers the places below `room`. Only places of objects
+  -- are linked, each collection is kept by the table of its field, and the collections of one field share no member
   pub record IsWhole (objects : Objects V) (room : ℕ) (ts : List (Table Entry)) (cs : List (Option (Collection V))) : Type 0 where
     pub within : (i : ℕ) → HasObject objects i → (i < room) × (i < 2 ^ 32)
     pub covered : (f : ℕ) → f < length ts → room ≤ (table ts f).extent.places

@@ -12,22 +12,23 @@ use Rattle.ic_world.specs.declared.call.Refusal.{Refusal}
 use Rattle.ic_world.specs.LinkedSets.{linked_in}
 use Rattle.ic_world.specs.Calls.{State}
 
--- P holds of each place
+-- P holds of each place of a list
 abbrev pub Each : (Place → Type 0) → List Place → Type 0
 Each P [] = Unit {0}
 Each P (p ∷ s) = P p × Each P s
 
--- the refusal in a result, or none if the call was accepted
+-- the refusal that a result contains, or none if the call was accepted
 abbrev pub refusal_in : {A R : Type 0} → Result A R → Option R
 refusal_in (Ok a) = None
 refusal_in (Err r) = Some r
 
 module _ {V : Type 0} where
-  -- the state of a collection, as its table represents it
+  -- the state of the collection m, whose members are those that the table t represents
   abbrev pub state_of : Table Entry → AnyCollection V → State
   state_of t m = record { kind = kind_in m; members = members_in t m; cursor = cursor_in m; linked = linked_in t }
 
-  -- WHAT A CALL OF ONE COLLECTION LEAVES: it makes its step and leaves the rest as it was. It newly links only places that it names
+  -- WHAT A CALL OF ONE COLLECTION CHANGES: the collection's state changes as `Accepts` says. Only entries of its members and of places that the call
+  -- names change, and it newly links only such places
   pub record Turns (names : List Place) (Accepts : State → State → Type 0) (old new : Table Entry) (m m' : AnyCollection V) : Type 0 where
     pub fresh : List Place
     pub named : (fresh ≡ []) ⊎ (fresh ≡ names)
@@ -39,14 +40,16 @@ module _ {V : Type 0} where
     pub alike : Alike m m'
     pub accepts : Accepts (state_of old m) (state_of new m')
 
-  -- A CALL IS DONE: it is refused by the result of its tests, and nothing has changed; or it was accepted and has made its change
+  -- A CALL HAS RUN: its result is the refusal that its tests give, and then nothing has changed. If the tests give none, the call was accepted and
+  -- has made its change
   pub record Ran {M R : Type 0} (names : List Place) (refusal : State → Option Refusal) (accepts : R → State → State → Type 0)
       (links links' : AnyTable M) (m m' : AnyCollection V) (result : Result R Refusal) : Type 0 where
     pub tested : refusal_in result ≡ refusal (state_of (table_in links) m)
     pub turned : IfOk result (λ answer. Turns names (accepts answer) (table_in links) (table_in links') m m')
     pub unchanged : OnErr result (IsUnchanged links links' m m')
 
-  -- WHAT A CALL THAT GIVES A PART AWAY LEAVES: the same places are linked, and only entries of members have changed
+  -- WHAT A CALL THAT GIVES A PART AWAY CHANGES: the part `handed` becomes a collection of its own. The same places are linked as before, and only
+  -- entries of members have changed
   pub record HandsOut (Parts : State → State → State → Type 0) (old new : Table Entry) (m m' handed : AnyCollection V) : Type 0 where
     pub held : Held new m'
     pub hands_out : Held new handed

@@ -7,7 +7,7 @@
 ghost use Rattle.std.specs.Prelude.{◌≡◌, ⊤};
 ghost use Rattle.ic_world.specs.Refusals.{number_of};
 
-use crate::calls::one_call::Call;
+use crate::calls::collection_call::Call;
 use ic_any_collection::Kind;
 use ic_rbtree::Bound;
 use ic_unsafe_ref::Place;
@@ -17,19 +17,19 @@ use thiserror::Error;
 
 /// Why a call was refused. A refused call changes nothing.
 ///
-/// If several refusals apply, the call returns the first of them in the order below.
+/// If several refusals apply, the call returns the refusal with the lowest number.
 #[derive(Clone, Copy, PartialEq, Eq, Error)]
 pub enum Refusal {
-    /// There is no field of that number.
+    /// There is no field with that number.
     #[error("NoSuchField")]
     NoSuchField = 1,
-    /// There is no collection of that number.
+    /// There is no collection with that number.
     #[error("NoSuchCollection")]
     NoSuchCollection = 2,
-    /// There is no object at that place.
+    /// There is no object at the named place.
     #[error("NoSuchObject")]
     NoSuchObject = 3,
-    /// The collection's kind lacks this call, the field cannot have collections of this kind, or two collections are of different kinds.
+    /// The collection's kind lacks the call, the field cannot have collections of the kind, or two collections are of different kinds.
     #[error("WrongKind")]
     WrongKind = 4,
     /// A collection can't be spliced into itself.
@@ -41,13 +41,13 @@ pub enum Refusal {
     /// There is no member to replace.
     #[error("NothingThere")]
     NothingThere = 7,
-    /// The object is not a member of that collection.
+    /// The object is not a member of the collection.
     #[error("NotAMember")]
     NotAMember = 8,
     /// The named neighbor is not the neighbor of the object.
     #[error("NotANeighbour")]
     NotANeighbour = 9,
-    /// The object is already linked in that field.
+    /// The object is already linked in the field of the collection.
     #[error("AlreadyLinked")]
     AlreadyLinked = 10,
     /// The object is a member of a collection, so that it can't be unlinked by force.
@@ -85,41 +85,41 @@ impl fmt::Debug for Refusal {
 pub enum Command<V, K> {
     /// A call of one collection.
     On(usize, Call<K>),
-    /// `place`
+    /// `place`: stores a value as a new object
     Place(V),
-    /// `remove_object`
+    /// `remove_object`: removes an object that is linked in no field
     RemoveObject(Place),
-    /// `set_value`
+    /// `set_value`: replaces the value of an object
     SetValue(Place, V),
-    /// `add_field`
+    /// `add_field`: makes a field with a table of that kind
     AddField(Kind),
-    /// `open`: a collection of that kind in a field
+    /// `open`: makes an empty collection of that kind in a field
     Open(usize, Kind),
-    /// `dispose`
+    /// `dispose`: unlinks all members of a collection and disposes of it
     Dispose(usize),
-    /// `fast_clear`
+    /// `fast_clear`: removes all members of a collection, but leaves them linked
     FastClear(usize),
-    /// `take`
+    /// `take`: moves all members of a collection into a new collection
     Take(usize),
-    /// `show`
+    /// `show`: returns the members of a collection, from the front
     Show(usize),
-    /// `show_back`
+    /// `show_back`: returns the members of a collection, from the back
     ShowBack(usize),
-    /// `current`
+    /// `current`: returns the member that the cursor of a collection is on
     Current(usize),
-    /// `splice_after`: all of the second collection after the cursor of the first
+    /// `splice_after`: moves all members of the second collection after the cursor of the first collection
     SpliceAfter(usize, usize),
-    /// `splice_before`: all of the second collection before the cursor of the first
+    /// `splice_before`: moves all members of the second collection before the cursor of the first collection
     SpliceBefore(usize, usize),
-    /// `split_after`
+    /// `split_after`: moves the members after the cursor into a new list
     SplitAfter(usize),
-    /// `split_before`
+    /// `split_before`: moves the members before the cursor into a new list
     SplitBefore(usize),
-    /// `range`
+    /// `range`: returns the members of a tree between two bounds
     Range(usize, Bound<K>, Bound<K>),
-    /// `is_linked`: in a field
+    /// `is_linked`: returns whether an object is linked in a field
     IsLinked(usize, Place),
-    /// `force_unlink`: in a field
+    /// `force_unlink`: unlinks an object in a field, if it is a member of no collection
     ForceUnlink(usize, Place),
 }
 
@@ -139,21 +139,21 @@ impl<V: Copy, K: Copy> Clone for Command<V, K> {
 pub enum Answer<M: Allocator = Global> {
     /// The call is done and returns nothing else.
     Done,
-    /// There is no such object.
+    /// The call has no object to return.
     Nothing,
     /// The place of an object.
     Object(Place),
-    /// The number of a field.
+    /// The number of the field that the call has made.
     Field(usize),
-    /// The number of a collection.
+    /// The number of the collection that the call has made.
     Collection(usize),
     /// The members of a collection, in order.
     Items(Vec<Place, M>),
-    /// Whether an object is linked.
+    /// Whether the named object is linked in the field.
     Linked(bool),
-    /// The member that a search found, and how many keys it compared.
+    /// The member that a search found, and how many keys the search compared.
     Found(Option<Place>, u64),
-    /// The call is done, and compared this many keys.
+    /// The call is done, and it compared this many keys.
     Looked(u64),
     /// The members between two bounds, in order, and how many keys each of the two searches compared.
     Range(Vec<Place, M>, u64, u64),

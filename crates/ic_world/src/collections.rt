@@ -15,17 +15,17 @@ ghost use Rattle.ic_world.specs.Tables.{table_of, left_in};
 
 use crate::World;
 use crate::call::{Command, Refusal};
+use crate::calls::bulk_edit::BulkEdit;
 use crate::calls::kinds::{has_before, is_list, is_two_way_list, same_kind};
-use crate::calls::whole::Whole;
 use crate::collections_by_number::CollectionsByNumber;
 use crate::field::WorldField;
-use crate::part::Part;
+use crate::taken_part::TakenPart;
 use ic_any_collection::{AnyCollection, AnyTable, Kind};
 use ic_rbtree::KeyAdapter;
 use ic_unsafe_ref::Place;
 use std::alloc::Allocator;
 
-// Moves all members of the given list beside the cursor of another.
+// Moves all members of the list `given` into `list`, before or after its cursor.
 fn put_beside<T, M: Allocator>(
     list: &mut AnyCollection<T>,
     links: &mut AnyTable<M>,
@@ -46,7 +46,8 @@ fn put_beside<T, M: Allocator>(
     }
 }
 
-// Moves all members of the given list beside the cursor of another list of its field. The given list still exists, but is empty.
+// Moves all members of the list with the number `given` beside the cursor of another list of the same field. The given list still exists, but is
+// empty.
 fn join<T, M: Allocator + Copy>(
     collections: &mut CollectionsByNumber<T, M>,
     tables: &mut Vec<WorldField<M>, M>,
@@ -88,7 +89,7 @@ impl<A: KeyAdapter, M: Allocator + Copy> World<A, M> {
         self.collections.push(field, AnyCollection::new(kind))
     }
 
-    // Returns the refusal of a new collection of this kind in a field.
+    // Returns why a new collection of this kind in a field is refused, or `None` if it is not refused.
     fn open_refused(&self, field: usize, kind: Kind) -> Option<Refusal>
         ensures { result ≡ refusal_of_open self.now field kind }
     {
@@ -101,13 +102,13 @@ impl<A: KeyAdapter, M: Allocator + Copy> World<A, M> {
         None
     }
 
-    /// Unlinks all members of a collection, and disposes of it. From then on its number names nothing.
+    /// Unlinks all members of a collection, and disposes of it. After this call its number names no collection.
     ///
     /// Refused: `NoSuchCollection`. O(members). It takes no memory.
     pub fn dispose(&mut self, collection: usize) -> Result<(), Refusal>
         ensures { Step A.Key.cmp A.key_of self.old (Command.Dispose collection) (reply_of (λ _. done) result) self.new }
     {
-        match self.call(collection, &Whole::Clear) {
+        match self.call(collection, &BulkEdit::Clear) {
             Err(refusal) => Err(refusal),
             Ok(()) => {
                 self.collections.dispose(collection);
@@ -116,34 +117,34 @@ impl<A: KeyAdapter, M: Allocator + Copy> World<A, M> {
         }
     }
 
-    /// Moves all members of a collection into a new one of the same field and kind, and returns the number of the new one. Both cursors are then at
-    /// null.
+    /// Moves all members of a collection into a new collection of the same field and kind, and returns the number of the new collection. Both cursors
+    /// are then at null.
     ///
     /// Refused: `NoSuchCollection`, `OutOfMemory`. O(1).
     pub fn take(&mut self, collection: usize) -> Result<usize, Refusal>
         ensures { Step A.Key.cmp A.key_of self.old (Command.Take collection) (reply_of (λ c. opened c) result) self.new }
     {
-        self.hand_out(collection, Part::All)
+        self.hand_out(collection, TakenPart::All)
     }
 
-    /// Moves the members after the cursor of a list, or all members if the cursor is at null, into a new list, and returns the number of the new one.
-    /// The cursor stays.
+    /// Moves the members after the cursor of a list, or all members if the cursor is at null, into a new list, and returns the number of the new
+    /// list. The cursor stays.
     ///
-    /// Refused: `NoSuchCollection`, `WrongKind` of a tree, `OutOfMemory`. O(1).
+    /// Refused: `NoSuchCollection`, `WrongKind` for a tree, `OutOfMemory`. O(1).
     pub fn split_after(&mut self, collection: usize) -> Result<usize, Refusal>
         ensures { Step A.Key.cmp A.key_of self.old (Command.SplitAfter collection) (reply_of (λ c. opened c) result) self.new }
     {
-        self.hand_out(collection, Part::After)
+        self.hand_out(collection, TakenPart::After)
     }
 
     /// Moves the members before the cursor of a list, or all members if the cursor is at null, into a new list, and returns the number of the new
-    /// one. The cursor stays.
+    /// list. The cursor stays.
     ///
-    /// Refused: `NoSuchCollection`, `WrongKind` of a tree or a singly linked list, `OutOfMemory`. O(1).
+    /// Refused: `NoSuchCollection`, `WrongKind` for a tree or a singly linked list, `OutOfMemory`. O(1).
     pub fn split_before(&mut self, collection: usize) -> Result<usize, Refusal>
         ensures { Step A.Key.cmp A.key_of self.old (Command.SplitBefore collection) (reply_of (λ c. opened c) result) self.new }
     {
-        self.hand_out(collection, Part::Before)
+        self.hand_out(collection, TakenPart::Before)
     }
 
     /// Returns the members of a collection, from the front.
@@ -163,7 +164,7 @@ impl<A: KeyAdapter, M: Allocator + Copy> World<A, M> {
 
     /// Returns the members of a collection, from the back.
     ///
-    /// Refused: `NoSuchCollection`, `WrongKind` of a singly linked list, `OutOfMemory`. O(members).
+    /// Refused: `NoSuchCollection`, `WrongKind` for a singly linked list, `OutOfMemory`. O(members).
     pub fn show_back(&self, collection: usize) -> Result<Vec<Place, M>, Refusal>
         ensures { Step A.Key.cmp A.key_of self.now (Command.ShowBack collection) (reply_of (λ places. items places.items) result) self.now }
     {
@@ -182,7 +183,7 @@ impl<A: KeyAdapter, M: Allocator + Copy> World<A, M> {
         }
     }
 
-    // Returns the field of a collection, and its kind.
+    // Returns the number of a collection's field and the kind of the collection, or `None` if there is no such collection.
     fn seen(&self, collection: usize) -> Option<(usize, Kind)>
         ensures { result ≡ field_and_kind (collection_of self.now collection) }
     {
@@ -190,7 +191,8 @@ impl<A: KeyAdapter, M: Allocator + Copy> World<A, M> {
         Some((field, self.collections.members(collection).kind()))
     }
 
-    // Returns the refusal of a splice: one after a cursor needs a list, and one before it a list with calls at its back.
+    // Returns why a splice is refused, or `None`. A splice after a cursor needs two lists, and a splice before a cursor needs two lists with calls at
+    // their backs.
     fn splice_refused(&self, collection: usize, given: usize, before: bool) -> Option<Refusal>
         ensures { result ≡ refusal_of_splice self.now (can_splice before) collection given }
     {
@@ -217,7 +219,8 @@ impl<A: KeyAdapter, M: Allocator + Copy> World<A, M> {
         None
     }
 
-    // Moves all members of the given collection beside the cursor of the first.
+    // Moves all members of the collection `given` into the collection `collection`: before its cursor if `before` is true, and otherwise after its
+    // cursor.
     fn splice(&mut self, collection: usize, given: usize, before: bool) -> Result<(), Refusal>
         ensures { StepSplice (IsBesideOf before) (can_splice before) self.old collection given (reply_of (λ _. done) result) self.new }
     {
@@ -234,10 +237,10 @@ impl<A: KeyAdapter, M: Allocator + Copy> World<A, M> {
         Ok(())
     }
 
-    /// Moves all members of the given collection after the cursor of the first, or to the front if that cursor is at null. The given collection is
-    /// then empty, with its cursor at null, and the first cursor stays.
+    /// Moves all members of the collection `given` after the cursor of the first collection, or to the front if that cursor is at null. The given
+    /// collection is then empty, with its cursor at null, and the first cursor stays.
     ///
-    /// Refused: `NoSuchCollection`, `WrongKind` of trees and if the kinds differ, `SameCollection`, `OtherField`. O(1), or O(given members) for
+    /// Refused: `NoSuchCollection`, `WrongKind` for trees and if the kinds differ, `SameCollection`, `OtherField`. O(1), or O(given members) for
     /// singly linked lists. It takes no memory.
     pub fn splice_after(&mut self, collection: usize, given: usize) -> Result<(), Refusal>
         ensures { Step A.Key.cmp A.key_of self.old (Command.SpliceAfter collection given) (reply_of (λ _. done) result) self.new }
@@ -245,10 +248,10 @@ impl<A: KeyAdapter, M: Allocator + Copy> World<A, M> {
         self.splice(collection, given, false)
     }
 
-    /// Moves all members of the given collection before the cursor of the first, or to the back if that cursor is at null. The given collection is
-    /// then empty, with its cursor at null, and the first cursor stays.
+    /// Moves all members of the collection `given` before the cursor of the first collection, or to the back if that cursor is at null. The given
+    /// collection is then empty, with its cursor at null, and the first cursor stays.
     ///
-    /// Refused: `NoSuchCollection`, `WrongKind` of trees, of singly linked lists and if the kinds differ, `SameCollection`, `OtherField`. O(1). It
+    /// Refused: `NoSuchCollection`, `WrongKind` for trees, for singly linked lists and if the kinds differ, `SameCollection`, `OtherField`. O(1). It
     /// takes no memory.
     pub fn splice_before(&mut self, collection: usize, given: usize) -> Result<(), Refusal>
         ensures { Step A.Key.cmp A.key_of self.old (Command.SpliceBefore collection given) (reply_of (λ _. done) result) self.new }
@@ -257,8 +260,8 @@ impl<A: KeyAdapter, M: Allocator + Copy> World<A, M> {
     }
 
     /// Gives a caller's proof what always holds of a world, and does nothing itself. Each object is at one of the first 2^32 places, and each linked
-    /// place has an object. The field of each collection exists and can have collections of its kind, its members are linked in it, and its cursor is
-    /// null or a member. No member is shared.
+    /// place has an object. The field of each collection exists and can have collections of its kind. The members of a collection are linked in its
+    /// field, and its cursor is at null or on a member. No place is twice in a collection, or in two collections of one field.
     pub fn family_is_sound(&self)
         ensures { IsSound self.now }
     {
@@ -269,7 +272,7 @@ impl<A: KeyAdapter, M: Allocator + Copy> World<A, M> {
     pub fn no_member_is_shared(&self)
         ensures { AreApart self.now }
     {
-        // What this function reads belongs to a world, of which the law holds.
+        // This line reads the collections. Because they belong to a world, the invariant of the world holds of them.
         let _ = &self.collections;
     }
 

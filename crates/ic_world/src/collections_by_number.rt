@@ -1,4 +1,5 @@
-//! The collections of a world by number. Each live one is stored in a list of its field. The number of a disposed one still takes 8 bytes.
+//! The collections of a world by number. Each live collection is stored in a list of its field. The number of a disposed collection still takes 8
+//! bytes.
 //!
 //! ```text
 //! let number = collections.push(field, AnyCollection::new(kind))?;
@@ -27,7 +28,7 @@ struct Slot {
     index: u32,
 }
 
-// The index that marks a disposed collection. All live ones have a lower index.
+// The index that marks a disposed collection. Each live collection has a lower index.
 const DISPOSED: u32 = u32::MAX;
 
 // A live collection of a field, with its number.
@@ -37,7 +38,7 @@ struct Numbered<T> {
     members: AnyCollection<T>,
 }
 
-/// Collections by number, each of a field. A contract sees them as a list, with `None` for each that was disposed of.
+/// The collections of all fields, by number. A contract sees them as a list, with `None` for each collection that was disposed of.
 #[derive(Drop)]
 pub struct CollectionsByNumber<T, M: Allocator + Copy = Global> {
     alloc: M,
@@ -59,7 +60,8 @@ impl<T, M: Allocator + Copy> Model for CollectionsByNumber<T, M> {
     ghost invariant = { λ c. AreNumbered (map items_of c.live.items) c.numbers.items };
 }
 
-// Removes a live collection from the list of its field. The last one of the list moves to its index, and the function returns the number of that one.
+// Removes a live collection from the list of its field. The last collection of the list moves to the index of the removed collection, and the
+// function returns the number of the moved one.
 fn take_out<T, M: Allocator>(list: &mut Vec<Numbered<T>, M>, index: usize) -> usize
     requires { index < vec_len list.old }
     ensures { IsTakenOut list.old.items index result list.new.items }
@@ -74,7 +76,7 @@ fn take_out<T, M: Allocator>(list: &mut Vec<Numbered<T>, M>, index: usize) -> us
     number
 }
 
-// Adds empty lists until the field has one, or memory runs out.
+// Adds empty lists until the field has a list, or until memory runs out.
 fn cover_field<T, M: Allocator + Copy>(
     live: &mut Vec<Vec<Numbered<T>, M>, M>,
     alloc: M,
@@ -120,7 +122,7 @@ fn enter<T, M: Allocator + Copy>(
     })
 }
 
-// Returns whether one of the collections has the object as a member. It asks one after the other.
+// Returns whether one of the collections has the object as a member. It tests one collection after the other.
 fn contains_in<T, M: Allocator>(list: &[Numbered<T>], links: &AnyTable<M>, object: Place) -> bool
     requires held { EachHeld (table_in links.now) list.now }
     requires covered { IsCovered (table_in links.now) object }
@@ -149,7 +151,7 @@ impl<T, M: Allocator + Copy> CollectionsByNumber<T, M> {
         }
     }
 
-    /// Returns the field of a collection, or `None` if there is no collection of this number. O(1).
+    /// Returns the field of a collection, or `None` if there is no collection with this number. O(1).
     #[inline]
     pub(crate) fn field_of(&self, number: usize) -> Option<usize>
         ensures { result ≡ its_field (at self.now number) }
@@ -205,7 +207,7 @@ impl<T, M: Allocator + Copy> CollectionsByNumber<T, M> {
         Ok(number)
     }
 
-    /// Disposes of a collection. From then on its number names nothing. O(1).
+    /// Disposes of a collection. After this call its number names no collection. O(1).
     pub(crate) fn dispose(&mut self, number: usize)
         ensures { self.new ≡ slice_set self.old number None }
     {
@@ -221,7 +223,8 @@ impl<T, M: Allocator + Copy> CollectionsByNumber<T, M> {
         self.numbers[number].index = DISPOSED;
     }
 
-    /// Returns whether a live collection of the field has the object as a member. It asks only the collections of this field, until one has it.
+    /// Returns whether a live collection of the field has the object as a member. It tests the collections of this field only, until one of them has
+    /// the object.
     pub(crate) fn any_contains(&self, field: usize, links: &AnyTable<M>, object: Place) -> bool
         requires held { AreHeld self.now field (table_in links.now) }
         requires covered { IsCovered (table_in links.now) object }

@@ -7,7 +7,8 @@
 use ic_any_collection::AnyTable;
 use std::alloc::Allocator;
 
-/// The table of a field's links, and whether `fast_clear` ever left members linked in it. If it did not, every linked object is a member.
+/// The table of a field's links, and whether `fast_clear` ever left members linked in it. If `fast_clear` never did this, every object that is linked
+/// in the field is a member of a collection.
 #[derive(Drop)]
 pub struct WorldField<M: Allocator> {
     pub links: AnyTable<M>,

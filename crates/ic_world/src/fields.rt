@@ -18,7 +18,7 @@ use ic_rbtree::KeyAdapter;
 use ic_unsafe_ref::Place;
 use std::alloc::Allocator;
 
-// Makes a table that covers this many places, if there is enough memory.
+// Makes a table of this kind that covers at least `room` places, or returns `None` if there is not enough memory.
 fn covering<M: Allocator>(alloc: M, kind: Kind, room: usize) -> Option<AnyTable<M>>
     ensures { IfSome result (λ links. IsFresh kind room (table_in links)) }
 {
@@ -35,7 +35,7 @@ impl<A: KeyAdapter, M: Allocator + Copy> World<A, M> {
     ghost use Rattle.ic_world.specs.Replies.{reply_of};
     ghost use Rattle.ic_world.specs.Calls.{field, done, linked};
 
-    /// Makes a field with no collection, which covers all existing objects, and returns its number.
+    /// Makes a field with no collection, and returns its number. The table of the field covers the places of all existing objects.
     ///
     /// Refused: `OutOfMemory`.
     pub fn add_field(&mut self, kind: Kind) -> Result<usize, Refusal>
@@ -66,8 +66,9 @@ impl<A: KeyAdapter, M: Allocator + Copy> World<A, M> {
         Ok(self.fields[field].links.is_linked(object))
     }
 
-    // Returns whether an existing object is a member of a collection of the field. It walks nothing if the object is unlinked, since it then is no
-    // member, or if `fast_clear` left nothing linked, since a linked object then is a member.
+    // Returns whether an existing object is a member of a collection of the field. It walks no collection if the object is unlinked, because an
+    // unlinked object is no member. It also walks none if `fast_clear` never left a member linked in the field, because each linked object is then a
+    // member.
     fn is_member(&self, field: usize, object: Place) -> bool
         requires placed { is_placed self.now object ≡ true }
         requires there { has_field self.now field ≡ true }
@@ -83,7 +84,7 @@ impl<A: KeyAdapter, M: Allocator + Copy> World<A, M> {
     /// Unlinks an object that `fast_clear` has left linked in a field, so that it is a member of no collection. An unlinked object stays unlinked.
     ///
     /// Refused: `NoSuchField`, `NoSuchObject`, `IsMember`. It costs O(1) if the object is not linked, or if no [`World::fast_clear`] was made in the
-    /// field. Otherwise it asks each live collection of the field, and walks those that are lists. It takes no memory.
+    /// field. Otherwise it tests each live collection of the field, and walks each collection that is a list. It takes no memory.
     pub fn force_unlink(&mut self, field: usize, object: Place) -> Result<(), Refusal>
         ensures { Step A.Key.cmp A.key_of self.old (Command.ForceUnlink field object) (reply_of (λ _. done) result) self.new }
     {

@@ -76,7 +76,7 @@ fn swap_value<V, M: Allocator>(
     }
 }
 
-// Returns whether an object that each table covers is linked in one of them.
+// Returns whether an object is linked in one of the tables. Each table has to cover the place of the object.
 fn is_linked_in_any<M: Allocator>(tables: &[WorldField<M>], object: Place) -> bool
     requires covered { (f : ℕ) → f < length tables.now → IsCovered (table (map_list table_of tables.now) f) object }
     ensures { result ≡ list_any (λ (x : LinkField). set.contains x.linked (index_of object)) (map_list field_in (map_list table_of tables.now)) }
@@ -96,7 +96,7 @@ impl<A: KeyAdapter, M: Allocator + Copy> World<A, M> {
 
     /// Stores a value as a new object, after making room for it in each field, and returns its place.
     ///
-    /// Refused: `TooManyObjects`, `OutOfMemory`. Then the caller gets the value back.
+    /// Refused: `TooManyObjects`, `OutOfMemory`. If it is refused, the caller gets the value back.
     pub fn place(&mut self, value: A::Value) -> Result<Place, (Refusal, A::Value)>
         ensures step { Step A.Key.cmp A.key_of self.old (Command.Place value) (reply_of_value (λ p. object p) result) self.new }
         ensures handed_back { IfErr result (λ refused. refused.1 ≡ value) }
@@ -111,8 +111,8 @@ impl<A: KeyAdapter, M: Allocator + Copy> World<A, M> {
 
     /// Removes an object that is linked in no field, and returns its value.
     ///
-    /// Refused: `NoSuchObject`, `StillLinked`. It asks the table of each field, one after the other, until the object is linked in one: O(fields),
-    /// even for an object that was never linked. It takes no memory.
+    /// Refused: `NoSuchObject`, `StillLinked`. It reads the entry of the object in the table of each field, one after the other, until the object is
+    /// linked in one. This costs O(fields), even for an object that was never linked. It takes no memory.
     pub fn remove_object(&mut self, object: Place) -> Result<A::Value, Refusal>
         ensures step { Step A.Key.cmp A.key_of self.old (Command.RemoveObject object) (reply_of (λ _. done) result) self.new }
         ensures value { IfOk result (λ value. map.get self.old.objects (index_of object) ≡ Some value) }
@@ -128,8 +128,8 @@ impl<A: KeyAdapter, M: Allocator + Copy> World<A, M> {
 
     /// Replaces the value of an object by another, and returns the old value. The object stays linked where it was.
     ///
-    /// Refused: `NoSuchObject`, and then the caller gets the new value back. It takes no memory. If the key of the object changes, trees of which it
-    /// is a member may no longer be sorted.
+    /// Refused: `NoSuchObject`. If it is refused, the caller gets the new value back. It takes no memory. If the key of the object changes, trees of
+    /// which it is a member may no longer be sorted.
     pub fn set_value(
         &mut self,
         object: Place,

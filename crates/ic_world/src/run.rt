@@ -12,9 +12,9 @@ ghost use Rattle.ic_world.specs.Replies.{reply_of};
 
 use crate::World;
 use crate::call::{Answer, Command, Refusal};
+use crate::calls::collection_call::Call;
 use crate::calls::gaps::{Put, Swap, Take};
 use crate::calls::insertion::EntryAt;
-use crate::calls::one_call::Call;
 use crate::calls::seek::Move;
 use ic_rbtree::KeyAdapter;
 use ic_unsafe_ref::Place;
@@ -80,7 +80,7 @@ where
         match call {
             Call::Put(at, object) => done(self.call(c, &Put(at, object))),
             Call::Seek(seek) => done(self.call(c, &seek)),
-            Call::Whole(whole) => done(self.call(c, &whole)),
+            Call::BulkEdit(whole) => done(self.call(c, &whole)),
             Call::Take(at) => object(self.call(c, &Take(at))),
             Call::Move(way) => object(self.call(c, &Move(way))),
             Call::Swap(at, object) => match self.call(c, &Swap(at, object)) {
@@ -148,9 +148,9 @@ where
         }
     }
 
-    /// Makes the calls in order, and appends an answer for each.
+    /// Makes the calls in order, and appends an answer for each call.
     ///
-    /// It first reserves memory for the answers. If that is refused, neither the world nor the answers have changed.
+    /// It first reserves memory for the answers. If there is not enough memory, neither the world nor the answers have changed.
     pub fn run(
         &mut self,
         commands: &[Command<A::Value, A::Key>],

@@ -1,4 +1,4 @@
-//! The world, and how a call goes to one of its collections.
+//! A world, and how it makes a call of one of its collections.
 
 ghost use Rattle.std.specs.Prelude.{◌≡◌, [], Some, None, IfSome, IfNone};
 ghost use Rattle.ic_any_collection.specs.AnyTables.{table_in};
@@ -8,10 +8,10 @@ ghost use Rattle.ic_world.specs.Replies.{reply_of};
 ghost use Rattle.ic_world.specs.Pieces.{Appends};
 
 use crate::call::Refusal;
-use crate::calls::one_call::OneCall;
+use crate::calls::collection_call::CollectionCall;
 use crate::collections_by_number::CollectionsByNumber;
 use crate::field::WorldField;
-use crate::part::Part;
+use crate::taken_part::TakenPart;
 use ic_any_collection::{AnyCollection, AnyTable};
 use ic_rbtree::KeyAdapter;
 use ic_unsafe_ref::Objects;
@@ -20,10 +20,10 @@ use std::marker::Model;
 
 /// Objects by place, and link fields and collections by number.
 ///
-/// A field is a table of links, and a collection is the head of a list or tree in one, with a cursor. No sequence is stored separately: the family
-/// that a contract sees is what the tables represent. A field also has a mark that says whether `fast_clear` ever left members linked in it. Fields
-/// are numbered 0, 1, 2 in the order of `add_field`, and collections over all fields in the order in which `open`, `take` and the splits make them. A
-/// number is never used again.
+/// A field is a table of links, and a collection is the head of a list or tree in such a table, with a cursor. No sequence is stored separately: the
+/// family that a contract sees is what the tables represent. A field also has a mark that says whether `fast_clear` ever left members linked in it.
+/// Fields are numbered 0, 1, 2 in the order of `add_field`. The collections of all fields are numbered together, in the order in which `open`, `take`
+/// and the splits make them. The number of a disposed collection is never used again.
 #[derive(Drop)]
 pub struct World<A: KeyAdapter, M: Allocator + Copy = Global> {
     pub(crate) adapter: A,
@@ -35,7 +35,7 @@ pub struct World<A: KeyAdapter, M: Allocator + Copy = Global> {
     pub(crate) collections: CollectionsByNumber<A::Value, M>,
 }
 
-// Appends an item, and returns its number.
+// Appends an item to the list, and returns the number of the item.
 pub(crate) fn append<T: Drop, M: Allocator>(list: &mut Vec<T, M>, item: T) -> Result<usize, Refusal>
     ensures { Appends list.old.items item result list.new.items }
 {
@@ -96,7 +96,7 @@ impl<A: KeyAdapter, M: Allocator + Copy> World<A, M> {
 
     // Makes a call of one collection. If the call is a literal, the compiler removes the match over it.
     #[inline(always)]
-    pub(crate) fn call<C: OneCall<A>>(
+    pub(crate) fn call<C: CollectionCall<A>>(
         &mut self,
         collection: usize,
         call: &C,
@@ -114,8 +114,8 @@ impl<A: KeyAdapter, M: Allocator + Copy> World<A, M> {
         call.run(members, links, &self.objects, self.adapter)
     }
 
-    // Moves a part of a collection into a new one of the same field and kind, and returns the number of the new one.
-    pub(crate) fn hand_out(&mut self, collection: usize, part: Part) -> Result<usize, Refusal>
+    // Moves a part of a collection into a new collection of the same field and kind, and returns the number of the new collection.
+    pub(crate) fn hand_out(&mut self, collection: usize, part: TakenPart) -> Result<usize, Refusal>
         ensures { StepOut self.old collection part (reply_of (λ c. opened c) result) self.new }
     {
         let Some(field) = self.collections.field_of(collection) else {

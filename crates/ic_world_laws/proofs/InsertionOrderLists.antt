@@ -1,4 +1,4 @@
--- Lists in the order of insertion: one more inserted in order, one taken out.
+-- Sorted lists whose members with equal keys are in the order of insertion stay so when a member is inserted in order, or removed.
 use Rattle.std.proofs.Common.{◌≡◌, ◌≢◌, ◌↔◌, inl, inr, Bool, true, false, not, cond, List, [], ◌∷◌, ◌++◌, map, Option, Some, None, IsSome, refl, sym, ap, ◌∙◌, subst, append-nil, true≢false, eq-eqb, ne_eqb}
 use Rattle.std.proofs.lemmas.List.{map-append}
 use Rattle.std.proofs.lemmas.List.Elements.{filter-append, filter_map-append}
@@ -17,7 +17,7 @@ use Rattle.ic_rbtree.proofs.KeyLaws.{cuts_less, one_border, sorted_for, keys_mor
 use Rattle.ic_world.specs.Family.{same_place}
 use Rattle.ic_world_laws.specs.InsertionOrder.{without}
 
--- ---- lists without a place
+-- ---- lists from which a place is removed
 same_itself : (p : Place) → same_place p p ≡ true
 same_itself p = eq-eqb (index_of p) (index_of p) refl
 
@@ -35,7 +35,7 @@ without_middle (x ∷ front) back p out =
     ap (λ b. cond (not b) (x ∷ without p (front ++ p ∷ back)) (without p (front ++ p ∷ back))) (other_place x p (λ e. out.0 (sym e)))
     ∙ ap (λ (t : List Place). x ∷ t) (without_middle front back p out.1)
 
--- p is out, and of the others who was out
+-- p is absent from `without p s`. Each other place is absent from `without p s` exactly if it is absent from s
 out_of_without : (p : Place) (s : List Place) → IsAbsent p (without p s)
 out_of_without p [] = tt
 out_of_without p (x ∷ s) = by (same_place x p) refl (out_of_without p s) where
@@ -57,7 +57,7 @@ was_out p q (x ∷ s) n out = by (same_place x p) refl out (was_out p q s n) whe
   by true e out rest = ((λ same. true≢false (sym e ∙ ap (λ z. same_place z p) (sym same) ∙ other_place q p n)), rest out)
   by false e out rest = (out.0, rest out.1)
 
--- two filters, one after the other
+-- two filters give the same list in either order
 filter_turned : {X : Type 0} (f g : X → Bool) (s : List X) → filter f (filter g s) ≡ filter g (filter f s)
 filter_turned f g [] = refl
 filter_turned {X} f g (x ∷ s) = by (f x) (g x) refl refl (filter_turned f g s) where
@@ -71,13 +71,13 @@ filter_none : {X : Type 0} (f : X → Bool) (s : List X) → AllByRecursion (λ 
 filter_none f [] h = refl
 filter_none f (x ∷ s) h = ap (λ b. cond b (x ∷ filter f s) (filter f s)) h.0 ∙ filter_none f s h.1
 
--- tests that agree at each member
+-- two tests that agree at each member of s filter the same members
 pub filter_alike : (f g : Place → Bool) (s : List Place) → ((q : Place) → IsMember q s → f q ≡ g q) → filter f s ≡ filter g s
 filter_alike f g [] same = refl
 filter_alike f g (x ∷ s) same =
     ap (λ b. cond b (x ∷ filter f s) (filter f s)) (same x (λ out. out.0 refl)) ∙ ap (λ (t : List Place). cond (g x) (x ∷ t) t) (filter_alike f g s (λ q there. same q (λ out. there out.1)))
 
--- ---- sorted, with one less
+-- ---- a sorted list of keys stays sorted if one key is removed
 module _ {K : Type 0} {cmp : K → K → Ordering} (total : IsTotalOrder cmp) where
   not_gt : (o : Ordering) → o ≢ Greater → is_gt o ≡ false
   not_gt Less h = refl
@@ -94,7 +94,7 @@ module _ {K : Type 0} {cmp : K → K → Ordering} (total : IsTotalOrder cmp) wh
   sorted_without (a ∷ []) k (b ∷ ys) h = (is_not_gt (cmp a b) (upto total a k b (not_gt (cmp a k) h.0) (not_gt (cmp k b) h.1.0)), h.1.1)
   sorted_without (a ∷ b ∷ xs) k ys h = (h.0, sorted_without (b ∷ xs) k ys h.1)
 
--- ---- in the order of insertion
+-- ---- lists that are sorted by keys, with equal keys in the order of insertion
 module _ {V K : Type 0} {cmp : K → K → Ordering} (total : IsTotalOrder cmp) (key_of : V → K) (objects : Objects V) where
   abbrev pub has : K → Place → Bool
   has key = equal_at (compared (order_of cmp key_of key) objects)
@@ -108,7 +108,7 @@ module _ {V K : Type 0} {cmp : K → K → Ordering} (total : IsTotalOrder cmp) 
   pub nothing_in_order : InOrder [] []
   nothing_in_order = (tt, (λ p. ((λ h. h), (λ h. h))), (λ key. refl))
 
-  -- what is greater than one of the key hasn't that key
+  -- an object whose key is greater than `own` does not have a key equal to `key`, if `key` is equal to `own`
   greater_not : (key own : K) → is_eq (cmp key own) ≡ true → (o : Option V) → is_lt (answer_at (order_of cmp key_of own) o) ≡ true → is_eq (answer_at (order_of cmp key_of key) o) ≡ false
   greater_not key own same None less = refl
   greater_not key own same (Some v) less = ap is_eq (total.congr key own (key_of v) (level (cmp key own) same)) ∙ apart (cmp own (key_of v)) less where
@@ -122,7 +122,7 @@ module _ {V K : Type 0} {cmp : K → K → Ordering} (total : IsTotalOrder cmp) 
     apart Equal h = absurd (true≢false (sym h))
     apart Greater h = absurd (true≢false (sym h))
 
-  -- ONE MORE, put in order
+  -- ONE MEMBER IS INSERTED IN ORDER: the list stays sorted, and members with equal keys stay in the order of insertion
   module _ (p : Place) {v : V} (is : object_at objects p ≡ Some v) (gap : Cut) (e : List Place) (placed : ArePlaced objects (join gap))
       (border : IsBorder (less_at (compared (order_of cmp key_of (key_of v)) objects)) gap) (ordered : InOrder e (join gap)) where
     abbrev at : Place → Ordering
@@ -167,7 +167,7 @@ module _ {V K : Type 0} {cmp : K → K → Ordering} (total : IsTotalOrder cmp) 
       (λ key. put_alike key (has key p) refl),
     )
 
-  -- ONE LESS
+  -- ONE MEMBER IS REMOVED: the list stays sorted, and members with equal keys stay in the order of insertion
   pub taken_in_order : (front : List Place) (p : Place) (back : List Place) (e : List Place) → ArePlaced objects (front ++ p ∷ back) → IsDistinct (front ++ p ∷ back) → InOrder e (front ++ p ∷ back)
       → InOrder (without p e) (front ++ back)
   taken_in_order front p back e placed distinct ordered = (
@@ -202,19 +202,19 @@ module _ {V K : Type 0} {cmp : K → K → Ordering} (total : IsTotalOrder cmp) 
       sorted = subst (IsSorted cmp) (sym (split front back)) (sorted_without total (map key_of (values_at objects front)) (key_of there.0) (map key_of (values_at objects back))
           (subst (IsSorted cmp) (split front (p ∷ back) ∙ ap (λ t. map key_of (values_at objects front) ++ t) (keys_more total key_of objects p back there.1)) ordered.0))
 
--- two values with equal keys, or none
+-- two values have equal keys, or there is no value at either place
 abbrev pub HaveEqualKeys : {V K : Type 0} → (K → K → Ordering) → (V → K) → Option V → Option V → Type 0
 HaveEqualKeys cmp key_of None None = Unit {0}
 HaveEqualKeys cmp key_of (Some v) (Some w) = cmp (key_of v) (key_of w) ≡ Equal
 HaveEqualKeys cmp key_of _ _ = ⊥
 
--- two lists of keys, which are equal one by one
+-- two lists of keys are equally long, and their keys are equal one by one
 abbrev AreEqual : {K : Type 0} → (K → K → Ordering) → List K → List K → Type 0
 AreEqual cmp [] [] = Unit {0}
 AreEqual cmp (k ∷ ks) (l ∷ ls) = (cmp k l ≡ Equal) × AreEqual cmp ks ls
 AreEqual cmp _ _ = ⊥
 
--- OTHER OBJECTS, of which the members have equal keys
+-- OTHER OBJECTS, in which each member has a key equal to its old key, leave a list in order
 module _ {V K : Type 0} {cmp : K → K → Ordering} (total : IsTotalOrder cmp) (key_of : V → K) where
   pub equal_keys_itself : (o : Option V) → HaveEqualKeys cmp key_of o o
   equal_keys_itself None = tt
@@ -254,6 +254,6 @@ module _ {V K : Type 0} {cmp : K → K → Ordering} (total : IsTotalOrder cmp) 
         ∙ sym (filter_alike (has total key_of new key) (has total key_of old key) e (λ q there. test q (same q (λ out. there ((ordered.1 q).0 out)))))),
   )
 
-  -- and of which the members are as they were
+  -- other objects, in which each member has its old value, leave a list in order
   pub same_in_order : (old new : Objects V) (e s : List Place) → ((q : Place) → IsMember q s → object_at new q ≡ object_at old q) → InOrder total key_of old e s → InOrder total key_of new e s
   same_in_order old new e s same = equal_in_order old new e s (λ q there. subst (λ o. HaveEqualKeys cmp key_of o (object_at old q)) (sym (same q there)) (equal_keys_itself (object_at old q)))

@@ -25,19 +25,19 @@ use Rattle.ic_world.specs.declared.call.Refusal.{Refusal}
 use Rattle.ic_world.specs.declared.call.Refusal.TheVariants.{AlreadyLinked, NoSuchObject, StillLinked, TooManyObjects, OutOfMemory}
 use Rattle.ic_world.specs.declared.call.Command.{Command}
 use Rattle.ic_world.specs.declared.call.Command.TheVariants as call
-use Rattle.ic_world.specs.declared.calls.one_call.Call.{Call}
-use Rattle.ic_world.specs.declared.calls.one_call.Call.TheVariants as one
+use Rattle.ic_world.specs.declared.calls.collection_call.Call.{Call}
+use Rattle.ic_world.specs.declared.calls.collection_call.Call.TheVariants as one
 use Rattle.ic_any_collection.specs.declared.gap.Gap.{Gap}
-use Rattle.ic_world.specs.declared.calls.one_call.Direction.{Direction}
-use Rattle.ic_world.specs.declared.calls.one_call.Direction.TheVariants.{Next, Prev}
+use Rattle.ic_world.specs.declared.calls.collection_call.Neighbor.{Neighbor}
+use Rattle.ic_world.specs.declared.calls.collection_call.Neighbor.TheVariants.{Next, Prev}
 use Rattle.ic_world.specs.declared.calls.seek.Seek.{Seek}
 use Rattle.ic_world.specs.declared.calls.seek.Seek.TheVariants.{Null, On, With}
-use Rattle.ic_world.specs.declared.calls.whole.Whole.TheVariants.{Clear, Reverse}
+use Rattle.ic_world.specs.declared.calls.bulk_edit.BulkEdit.TheVariants.{Clear, Reverse}
 use Rattle.ic_world.specs.declared.calls.search.Search.{Search}
 use Rattle.ic_world.specs.declared.calls.search.Search.TheVariants.{Find, LowerBound, UpperBound}
 use Rattle.ic_world.specs.declared.calls.insertion.Insertion.TheVariants.{Insert, CursorInsert}
-use Rattle.ic_world.specs.declared.part.Part.{Part}
-use Rattle.ic_world.specs.declared.part.Part.TheVariants.{All, After, Before}
+use Rattle.ic_world.specs.declared.taken_part.TakenPart.{TakenPart}
+use Rattle.ic_world.specs.declared.taken_part.TakenPart.TheVariants.{All, After, Before}
 use Rattle.ic_world.specs.Family.{Family, LinkField, Sequence, collection, is_placed, is_linked_somewhere, objects_of, with_collection, with_opened}
 use Rattle.ic_world.specs.Apart.{AreAllPlaced}
 use Rattle.ic_world.specs.Calls.{State, Reply, done, object, field, opened, items, found, looked, entry, refused, object_or_nothing, asks, names, refusal_of, onward, InsertionReplies, TakeReplies, Replies, without as without_member}
@@ -53,7 +53,7 @@ use Rattle.ic_world_laws.specs.Sorted.{has_key}
 use Rattle.ic_world_laws.specs.InsertionOrder.{IsInOrderOf, KeepsInsertionOrder, without, put_last, emptied, insertion_order_after, IsOrderly, KeepsOrder, StartsInOrder}
 use Rattle.ic_world_laws.proofs.InsertionOrderLists.{HaveEqualKeys, equal_keys_itself, nothing_in_order, put_in_order, taken_in_order, equal_in_order, same_in_order}
 
--- in a sound family every member is placed
+-- in a sound family there is an object at each member of each collection
 pub sound_placed : {A V : Type 0} (w : Family A V) → IsSound w → AreAllPlaced w
 sound_placed w sound c s is = all_members s.members (λ p there. sound.placed s.field p ((sound.collections c s is).linked p there))
 
@@ -66,7 +66,7 @@ equal_of Less h = absurd (true≢false (sym h))
 equal_of Equal h = refl
 equal_of Greater h = absurd (true≢false (sym h))
 
--- two keys that are equal are less than the same
+-- of two equal keys, one is less than the key of a member exactly if the other is
 agrees : {V K : Type 0} {cmp : K → K → Ordering} (total : IsTotalOrder cmp) (key_of : V → K) (objects : Objects V) (key own : K) → cmp key own ≡ Equal → (q : Place)
     → less_at (compared (order_of cmp key_of key) objects) q ≡ less_at (compared (order_of cmp key_of own) objects) q
 agrees {V} {cmp = cmp} total key_of objects key own same q = by (object_at objects q) where
@@ -74,7 +74,7 @@ agrees {V} {cmp = cmp} total key_of objects key own same q = by (object_at objec
   by None = refl
   by (Some v) = ap is_lt (total.congr key own (key_of v) same)
 
--- a reply that tells of a vacant entry
+-- whether a reply says that an entry was vacant and its object was inserted
 abbrev is_vacant : Reply → Bool
 is_vacant (entry false q n) = true
 is_vacant _ = false
@@ -106,17 +106,17 @@ module _ {A V K : Type 0} {cmp : K → K → Ordering} (total : IsTotalOrder cmp
   left : {w new : Family A V} (e : List Place) → new ≡ w → IsValidCursor w e → IsValidCursor new e
   left e is h = subst (λ w. IsValidCursor w e) (sym is) h
 
-  -- nothing changed
+  -- if a call changes nothing, the collection keeps its insertion order
   same_order : {new : Family A V} (e : List Place) → new ≡ old → e ≡ insertion_order → IsValidCursor new e
   same_order e is same = left e is (s, there, subst (λ x. Ordered x s.members) (sym same) order)
 
-  -- by the first refusal, and what is accepted
+  -- a step keeps the insertion order if it is refused, or if what an accepted call does keeps it
   by_step : (o : Option Refusal) (Accepted : Reply → Family A V → Type 0) (reply : Reply) (new : Family A V) (e : List Place) → StepBy o Accepted old reply new → ((r : Refusal) → reply ≡ refused r → e ≡ insertion_order)
       → (o ≡ None → Accepted reply new → IsValidCursor new e) → IsValidCursor new e
   by_step (Some r) Accepted reply new e h refused_same accepted = same_order e h.1 (refused_same r h.0)
   by_step None Accepted reply new e h refused_same accepted = accepted refl h
 
-  -- a call of one collection
+  -- a call of one collection keeps the insertion order of c, if an accepted call of c keeps it
   on_order : (d : ℕ) (call : Call K) (reply : Reply) (new : Family A V) (e : List Place) → StepOn cmp key_of old d call reply new → ((r : Refusal) → reply ≡ refused r → e ≡ insertion_order) → (d ≢ c → e ≡ insertion_order)
       → (d ≡ c → list_all (is_placed old) (names call) ≡ true → (t : State) → Replies cmp (key_of old.adapter) (objects_of old) call (state_in old s) reply t → Ordered e t.members) → IsValidCursor new e
   on_order d call reply new e step refused_same elsewhere here = by (refusal_on old d call) refl step where
@@ -140,7 +140,7 @@ module _ {A V K : Type 0} {cmp : K → K → Ordering} (total : IsTotalOrder cmp
       )
     ]
 
-  -- one that leaves the members, and one of another collection
+  -- a call that leaves the members of its collection as they are, or that is a call of another collection, keeps the insertion order of c
   still_order : (d : ℕ) (call : Call K) (reply : Reply) (new : Family A V) → StepOn cmp key_of old d call reply new
       → ((t : State) → Replies cmp (key_of old.adapter) (objects_of old) call (state_in old s) reply t → t.members ≡ s.members) → IsValidCursor new insertion_order
   still_order d call reply new step still = on_order d call reply new insertion_order step (λ r e. refl) (λ differ. refl) (λ same names_placed t h. subst (Ordered insertion_order) (sym (still t h)) order)
@@ -148,7 +148,7 @@ module _ {A V K : Type 0} {cmp : K → K → Ordering} (total : IsTotalOrder cmp
   other_order : (d : ℕ) (call : Call K) (reply : Reply) (new : Family A V) → d ≢ c → StepOn cmp key_of old d call reply new → IsValidCursor new insertion_order
   other_order d call reply new differ step = on_order d call reply new insertion_order step (λ r e. refl) (λ _. refl) (λ same names_placed t h. absurd (differ same))
 
-  move_still : (way : Direction) (reply : Reply) (t : State) → Replies cmp (key_of old.adapter) (objects_of old) (one.Move way) (state_in old s) reply t → t.members ≡ s.members
+  move_still : (way : Neighbor) (reply : Reply) (t : State) → Replies cmp (key_of old.adapter) (objects_of old) (one.Move way) (state_in old s) reply t → t.members ≡ s.members
   move_still Next reply t h = ap (λ (x : State). x.members) h.2.2
   move_still Prev reply t h = ap (λ (x : State). x.members) h.2.2
 
@@ -165,7 +165,7 @@ module _ {A V K : Type 0} {cmp : K → K → Ordering} (total : IsTotalOrder cmp
   search_still (LowerBound bound) _ t h = absurd h
   search_still (UpperBound bound) _ t h = absurd h
 
-  -- AN INSERT IN ORDER
+  -- AN INSERT IN ORDER puts the object last in the insertion order
   put_here : (p : Place) (cursor : Option Place) (n : ℕ) (t : State) → is_placed old p ≡ true → InsertionReplies cmp (key_of old.adapter) (objects_of old) p cursor (state_in old s) (looked n) t
       → Ordered (insertion_order ++ p ∷ []) t.members
   put_here p cursor n t has h =
@@ -183,7 +183,8 @@ module _ {A V K : Type 0} {cmp : K → K → Ordering} (total : IsTotalOrder cmp
       (λ same names_placed t h. subst (λ e. Ordered e t.members) (sym (ap (λ b. cond b (insertion_order ++ p ∷ []) insertion_order) (eq-eqb d c same)))
       (put_here p (cursor (state_in old s)) n t (and_parts (is_placed old p) true (subst (λ ps. list_all (is_placed old) ps ≡ true) named names_placed)).0 (puts t h)))
 
-  -- AN ENTRY by the object's own key
+  -- AN ENTRY with a key equal to the object's own key puts the object last in the insertion order, if the entry is vacant. Otherwise the members stay
+  -- as they are
   enter_still : (key : K) (p : Place) (reply : Reply) (t : State) → is_vacant reply ≡ false → Replies cmp (key_of old.adapter) (objects_of old) (one.Enter key p) (state_in old s) reply t → t.members ≡ s.members
   enter_still key p (entry true q n) t same h = ap (λ (x : State). x.members) h.2
   enter_still key p (entry false q n) t same h = absurd (true≢false same)
@@ -212,7 +213,7 @@ module _ {A V K : Type 0} {cmp : K → K → Ordering} (total : IsTotalOrder cmp
       (λ same names_placed t h. subst (λ e. Ordered e t.members) (sym (ap (λ b. cond b (insertion_order ++ p ∷ []) insertion_order) (eq-eqb d c same)))
       (vacant_here key p q n t (own same) (and_parts (is_placed old p) true names_placed).0 h))
 
-  -- A MEMBER IS TAKEN OUT
+  -- A MEMBER IS REMOVED from the collection, and it is then no longer in the insertion order
   abbrev taken_by : Reply → List Place
   taken_by (object p) = without p insertion_order
   taken_by _ = insertion_order
@@ -237,17 +238,17 @@ module _ {A V K : Type 0} {cmp : K → K → Ordering} (total : IsTotalOrder cmp
   take_none : (d : ℕ) (where_at : Gap) (reply : Reply) (new : Family A V) → taken_by reply ≡ insertion_order → StepOn cmp key_of old d (one.Take where_at) reply new → IsValidCursor new insertion_order
   take_none d where_at reply new same step = subst (IsValidCursor new) (ap (λ e. cond (nat_eq d c) e insertion_order) same ∙ cond_same (nat_eq d c) insertion_order) (take_order d where_at reply new step)
 
-  -- ALL ARE TAKEN OUT
-  clear_order : (d : ℕ) (new : Family A V) → StepOn cmp key_of old d (one.Whole Clear) done new → IsValidCursor new (emptied c d insertion_order)
+  -- ALL MEMBERS ARE REMOVED by `clear`, and the insertion order is then empty
+  clear_order : (d : ℕ) (new : Family A V) → StepOn cmp key_of old d (one.BulkEdit Clear) done new → IsValidCursor new (emptied c d insertion_order)
   clear_order d new step =
-      on_order d (one.Whole Clear) done new (emptied c d insertion_order) step (λ r e. absurd cc) (λ differ. ap (λ b. cond b [] insertion_order) (ne_eqb d c differ))
+      on_order d (one.BulkEdit Clear) done new (emptied c d insertion_order) step (λ r e. absurd cc) (λ differ. ap (λ b. cond b [] insertion_order) (ne_eqb d c differ))
       (λ same names_placed t h. subst (λ e. Ordered e t.members) (sym (ap (λ b. cond b [] insertion_order) (eq-eqb d c same)))
       (subst (Ordered []) (sym (ap (λ (x : State). x.members) h.1)) (nothing_in_order total (key_of old.adapter) (objects_of old))))
 
-  clear_none : (d : ℕ) (reply : Reply) (new : Family A V) → (reply ≡ done → ⊥) → StepOn cmp key_of old d (one.Whole Clear) reply new → IsValidCursor new insertion_order
-  clear_none d reply new other step = on_order d (one.Whole Clear) reply new insertion_order step (λ r e. refl) (λ differ. refl) (λ same names_placed t h. absurd (other h.0))
+  clear_none : (d : ℕ) (reply : Reply) (new : Family A V) → (reply ≡ done → ⊥) → StepOn cmp key_of old d (one.BulkEdit Clear) reply new → IsValidCursor new insertion_order
+  clear_none d reply new other step = on_order d (one.BulkEdit Clear) reply new insertion_order step (λ r e. refl) (λ differ. refl) (λ same names_placed t h. absurd (other h.0))
 
-  -- a collection whose members went
+  -- a collection without members has an empty insertion order
   gone : (w : Family A V) (d : ℕ) (x : Sequence) → x.members ≡ [] → d ≡ c → collection w c ≡ Some x → IsValidCursor w (emptied c d insertion_order)
   gone w d x none same is =
       subst (IsValidCursor w) (sym (ap (λ b. cond b [] insertion_order) (eq-eqb d c same)))
@@ -264,8 +265,8 @@ module _ {A V K : Type 0} {cmp : K → K → Ordering} (total : IsTotalOrder cmp
         (left insertion_order h.3 (s, get_or-set_other old.collections d c _ None (λ x. differ (sym x)) ∙ there, order))
   ]
 
-  -- a part of another is handed out, or all of one
-  part_order : (d : ℕ) (part : Part) (reply : Reply) (new : Family A V) → d ≢ c → StepBy (refusal_of_part old d part) (OpensWith old d part) old reply new → IsValidCursor new insertion_order
+  -- a call that gives a part of another collection away keeps the insertion order of c. If all of c is given away, its order is then empty
+  part_order : (d : ℕ) (part : TakenPart) (reply : Reply) (new : Family A V) → d ≢ c → StepBy (refusal_of_part old d part) (OpensWith old d part) old reply new → IsValidCursor new insertion_order
   part_order d part reply new differ step = by (refusal_of_part old d part) reply step where
     by : (o : Option Refusal) (reply : Reply) → StepBy o (OpensWith old d part) old reply new → IsValidCursor new insertion_order
     by (Some r) reply h = same_order insertion_order h.1 refl
@@ -296,7 +297,7 @@ module _ {A V K : Type 0} {cmp : K → K → Ordering} (total : IsTotalOrder cmp
   splice_order Beside is d e reply new differ_d differ_e step = by_step (refusal_of_splice old is d e) (SplicesAt Beside old d e) reply new insertion_order step (λ r e. refl) (λ none h.
       left insertion_order h.8 (s, get_or-set_other (set old.collections e _) d c _ None (λ x. differ_d (sym x)) ∙ get_or-set_other old.collections e c _ None (λ x. differ_e (sym x)) ∙ there, order))
 
-  -- OTHER OBJECTS, and those of the members as they were
+  -- OTHER OBJECTS, with the old value at each member, keep the insertion order
   objects_order : (p : Place) (m : map_of.FinMap nat_cmp V) → IsAbsent p s.members → ((q : Place) → q ≢ p → map_of.get m (index_of q) ≡ map_of.get old.objects (index_of q)) → IsValidCursor (record old { objects = m }) insertion_order
   objects_order p m out same = (
     s,
@@ -310,7 +311,7 @@ module _ {A V K : Type 0} {cmp : K → K → Ordering} (total : IsTotalOrder cmp
       get-insert nat_cmp_total old.objects (index_of p) v (index_of q)
       ∙ ap (λ b. cond b (Some v) (map_of.get old.objects (index_of q))) (unsigned_tied (index_of q) (index_of p) ∙ ne_eqb (index_of q) (index_of p) (λ e. n (same_index q p e)))
 
-  -- a value for which the key of the old one stands, or one of an object that is no member
+  -- a new value keeps the insertion order if its key is equal to the key of the old value, or if the object is no member
   set_order : (p : Place) (v : V) → IsAbsent p insertion_order ⊎ (has_key cmp key_of old (key_of old.adapter v) p ≡ true) → IsValidCursor (record old { objects = map_of.insert old.objects (index_of p) v }) insertion_order
   set_order p v (inl out) = objects_order p (map_of.insert old.objects (index_of p) v) ((order.1 p).1 out) (inserted_at p v)
   set_order p v (inr equal) = (
@@ -342,7 +343,7 @@ module _ {A V K : Type 0} {cmp : K → K → Ordering} (total : IsTotalOrder cmp
       get-remove nat_cmp_total old.objects (index_of p) (index_of q)
       ∙ ap (λ b. cond b None (map_of.get old.objects (index_of q))) (unsigned_tied (index_of q) (index_of p) ∙ ne_eqb (index_of q) (index_of p) (λ e. n (same_index q p e)))
 
-  -- an object that is linked nowhere is no member
+  -- an object that is linked in no field is no member of the collection
   free_absent : (p : Place) → is_linked_somewhere old p ≡ false → IsAbsent p s.members
   free_absent p free = elim (absent_or s.members p) [
     | inl out ↦ out
@@ -382,7 +383,7 @@ module _ {A V K : Type 0} {cmp : K → K → Ordering} (total : IsTotalOrder cmp
   take_refused d OutOfMemory new h = same_order insertion_order h refl
   take_refused d _ new h = absurd h
 
-  -- what every accepted call of a kind leaves
+  -- a call keeps the insertion order, if each accepted call of this sort keeps it
   plain : (command : Command V K) (reply : Reply) (new : Family A V) → Step cmp key_of old command reply new → (refusal old command ≡ None → Accepts cmp key_of old command reply new → IsValidCursor new insertion_order) → IsValidCursor new insertion_order
   plain command reply new step accepted = by_step (refusal old command) (Accepts cmp key_of old command) reply new insertion_order step (λ r e. refl) accepted
 
@@ -395,11 +396,11 @@ module _ {A V K : Type 0} {cmp : K → K → Ordering} (total : IsTotalOrder cmp
   keeps (call.On d (one.Swap where_at p)) reply new step orderly = other_order d (one.Swap where_at p) reply new orderly step
   keeps (call.On d (one.Enter key p)) (entry false q n) new step orderly = vacant_order d key p q n new orderly step
   keeps (call.On d (one.Enter key p)) reply new step orderly = still_order d (one.Enter key p) reply new step (λ t h. enter_still key p reply t refl h)
-  keeps (call.On d (one.Whole Reverse)) reply new step orderly = other_order d (one.Whole Reverse) reply new orderly step
+  keeps (call.On d (one.BulkEdit Reverse)) reply new step orderly = other_order d (one.BulkEdit Reverse) reply new orderly step
   keeps (call.On d (one.Take where_at)) (object p) new step orderly = take_order d where_at (object p) new step
   keeps (call.On d (one.Take where_at)) reply new step orderly = take_none d where_at reply new refl step
-  keeps (call.On d (one.Whole Clear)) done new step orderly = clear_order d new step
-  keeps (call.On d (one.Whole Clear)) reply new step orderly = clear_none d reply new (λ e. cc) step
+  keeps (call.On d (one.BulkEdit Clear)) done new step orderly = clear_order d new step
+  keeps (call.On d (one.BulkEdit Clear)) reply new step orderly = clear_none d reply new (λ e. cc) step
   keeps (call.FastClear d) done new step orderly = by_step (refusal {K = K} old (call.FastClear d)) (Accepts cmp key_of old (call.FastClear d)) done new (emptied c d insertion_order) step (λ r e. absurd cc) (λ none h. fast_order d done new h)
   keeps (call.FastClear d) reply new step orderly = plain (call.FastClear d) reply new step (λ none h. absurd (let no = h.2 in cc))
   keeps (call.Take d) (opened e) new step orderly = take_all d e new step
@@ -431,7 +432,7 @@ pub keeps_order : {A V K : Type 0} {cmp : K → K → Ordering} (total : IsTotal
     → Step cmp key_of old command reply new → KeepsOrder cmp key_of old command reply new
 keeps_order total key_of old sound command reply new step = λ c insertion_order stands orderly. keeps total key_of old sound c insertion_order stands command reply new step orderly
 
--- A COLLECTION MORE
+-- A NEW COLLECTION starts in order: it has the insertion order that `StartsInOrder` says
 module _ {A V K : Type 0} {cmp : K → K → Ordering} (total : IsTotalOrder cmp) (key_of : A → V → K) (old : Family A V) where
   opened_at : (w : Family A V) (x : Sequence) (d : ℕ) → d ≡ length w.collections → collection (with_opened w x) d ≡ Some x
   opened_at w x d is = get_or_push w.collections (Some x) None d (sym is)

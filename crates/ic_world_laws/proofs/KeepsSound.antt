@@ -1,4 +1,4 @@
--- EACH STEP KEEPS A FAMILY SOUND.
+-- EACH STEP KEEPS A FAMILY SOUND: a call leads from a sound family to a sound family.
 use Rattle.std.proofs.Common.{◌≡◌, ◌≢◌, inl, inr, ℕ, Bool, true, false, not, ◌&&◌, List, [], ◌++◌, Option, Some, None, refl, sym, ap, ◌∙◌, subst, true≢false, eq-eqb}
 use Rattle.std.proofs.lemmas.List.{get_or-set_same, get_or-set_other, set-get_or}
 use Rattle.std.proofs.lemmas.List.Folds.{list_any_at}
@@ -15,9 +15,9 @@ use Rattle.ic_world.specs.declared.call.Refusal.{Refusal}
 use Rattle.ic_world.specs.declared.call.Refusal.TheVariants.{NoSuchField, NoSuchObject, WrongKind, IsMember as IsMemberRefusal, StillLinked, TooManyObjects, OutOfMemory}
 use Rattle.ic_world.specs.declared.call.Command.{Command}
 use Rattle.ic_world.specs.declared.call.Command.TheVariants as call
-use Rattle.ic_world.specs.declared.calls.one_call.Call.{Call}
-use Rattle.ic_world.specs.declared.part.Part.{Part}
-use Rattle.ic_world.specs.declared.part.Part.TheVariants.{All, After, Before}
+use Rattle.ic_world.specs.declared.calls.collection_call.Call.{Call}
+use Rattle.ic_world.specs.declared.taken_part.TakenPart.{TakenPart}
+use Rattle.ic_world.specs.declared.taken_part.TakenPart.TheVariants.{All, After, Before}
 use Rattle.ic_world.specs.Family.{Family, LinkField, Sequence, is_among, has_member_in, collection, field_of, linked_of, has_field, is_placed, is_linked_somewhere, is_member_in, objects_of, with_linked, with_collection, with_opened}
 use Rattle.ic_world.specs.Calls.{State, Reply, object, field, opened, items, refused, asks, names, refusal_of, unlinked}
 use Rattle.ic_world.specs.Several.{StepBy, PartsOf, OpensWith, SplicesAt, asks_collection, with_members, state_in, with_state, sequence_of, refusal_of_part, refusal_of_splice}
@@ -33,7 +33,7 @@ use Rattle.ic_world_laws.proofs.SoundFamilies.{which_at, linked_there, outside, 
 abbrev no_field : LinkField
 no_field = record { kind = Singly; linked = set_of.empty }
 
--- A PART THAT IS HANDED OUT, and what stays
+-- A PART IS GIVEN AWAY: the members of `handed` are distinct, they were members of s, and none of them stays in t
 record HandsRight (has : Place → Bool) (s t handed : State) : Type 0 where
   kept : KeepsRight has s t
   kind : handed.kind ≡ s.kind
@@ -72,7 +72,7 @@ module _ (has : Place → Bool) (s : State) (right : IsRight has s) where
         null = refl;
       }))
 
-  hands_right : (part : Part) (t handed : State) → PartsOf part s t handed → HandsRight has s t handed
+  hands_right : (part : TakenPart) (t handed : State) → PartsOf part s t handed → HandsRight has s t handed
   hands_right All t handed h = hands_cut [] s.members refl t handed None (λ p e. absurd (none_not p e)) h.0 h.1
   hands_right After t handed h = hands_cut h.0.front h.0.back h.1 t handed s.cursor (λ p e. last_member h.0.front (sym e ∙ h.2.0)) h.2.1 h.2.2
   hands_right Before t handed h = hands_back h.0.front h.0.back h.1 t handed s.cursor (λ p e. first_member h.0.back (sym e ∙ h.2.0)) h.2.1 h.2.2
@@ -83,7 +83,7 @@ module _ {A V : Type 0} (old : Family A V) (sound : IsSound old) where
       let k = sound.collections c s is in
       record { distinct = sound.apart.0 c s is; linked = k.linked; cursor = k.cursor; placed = sound.placed s.field }
 
-  -- one collection in another state
+  -- if one collection gets another state that is right, the family stays sound
   restated : (c : ℕ) (s : Sequence) → collection old c ≡ Some s → (t : State) → KeepsRight (is_placed old) (state_in old s) t → IsSound (with_state old c s.field t)
   restated c s is t k =
       changed_sound old sound c s is (Some (sequence_of s.field t)) t.linked
@@ -97,7 +97,7 @@ module _ {A V : Type 0} (old : Family A V) (sound : IsSound old) where
       }))
       (record { others = λ q h out. (k.others q h out).0; placed = k.right.placed })
 
-  -- one collection with other members of the same linked places
+  -- if one collection gets other members and the linked places stay, the family stays sound
   regathered : (c : ℕ) (s x : Sequence) → collection old c ≡ Some s → Fits old c s (linked_of old s.field) x → IsSound (with_collection old c (Some x))
   regathered c s x is fits =
       let same : with_linked (with_collection old c (Some x)) s.field (linked_of old s.field) ≡ with_collection old c (Some x) = λ i. record (with_collection old c (Some x)) { fields = set-get_or old.fields s.field no_field i } in
@@ -114,14 +114,14 @@ module _ {A V : Type 0} (old : Family A V) (sound : IsSound old) where
     beside = λ d r n is_r same. all_out r.members [] (λ p member. tt);
   })
 
-  -- a collection is given up, and its members are linked no more
+  -- if a collection is disposed of and its members are unlinked, the family stays sound
   disposed : (c : ℕ) (s : Sequence) → collection old c ≡ Some s → IsSound (with_linked (with_collection old c None) s.field (unlinked (linked_of old s.field) s.members))
   disposed c s is = changed_sound old sound c s is None (unlinked (linked_of old s.field) s.members) (λ x e. absurd (none_not x e)) (record {
     others = λ q h out. in_rest (linked_of old s.field) s.members q out h;
     placed = λ q h. sound.placed s.field q (still_unlinked (linked_of old s.field) s.members q h).1;
   })
 
-  -- a part of one is handed out
+  -- if a part of a collection becomes a new collection, the family stays sound
   handed_out : (c : ℕ) (s : Sequence) → collection old c ≡ Some s → (t handed : State) → HandsRight (is_placed old) (state_in old s) t handed → IsSound (with_opened (with_state old c s.field t) (sequence_of s.field handed))
   handed_out c s is t handed h =
       opened_sound (with_state old c s.field t) whole (sequence_of s.field handed)
@@ -148,7 +148,7 @@ module _ {A V : Type 0} (old : Family A V) (sound : IsSound old) where
       here : IsSoundIn (with_state old c s.field t) (sequence_of s.field t)
       here = whole.collections c (sequence_of s.field t) (get_or-set_same old.collections c (Some (sequence_of s.field t)) None (some_within old.collections c is))
 
-  -- all of one is put into another
+  -- if all members of the collection d are inserted into the collection c, the family stays sound
   module _ (c d : ℕ) (s t : Sequence) (gap : Cut) (is_s : collection old c ≡ Some s) (is_t : collection old d ≡ Some t) (differ : c ≢ d) (same : s.field ≡ t.field) (cut : join gap ≡ s.members) where
     abbrev given : Sequence
     given = with_members t [] None
@@ -205,7 +205,7 @@ module _ {A V : Type 0} (old : Family A V) (sound : IsSound old) where
             subst IsSound same (changed_sound mid mid_sound c s still_s (Some to) (linked_of mid s.field) (λ y e. subst (Fits mid c s (linked_of mid s.field)) (some_same e) fits)
             (record { others = λ q h out. h; placed = λ q h. mid_sound.placed s.field q h }))
 
-  -- a place that no collection of the field has as a member
+  -- a place that is a member of no collection of the field is absent from each collection of the field
   absent_in : (f : ℕ) (p : Place) → is_member_in old f p ≡ false → (c : ℕ) (s : Sequence) → collection old c ≡ Some s → s.field ≡ f → IsAbsent p s.members
   absent_in f p none c s is same = elim (absent_or s.members p) [
     | inl out ↦ out
@@ -222,7 +222,7 @@ module _ {A V : Type 0} (old : Family A V) (sound : IsSound old) where
     left : {w : Family A V} → new ≡ w → IsSound w → IsSound new
     left e h = subst IsSound (sym e) h
 
-    out_keeps : (c : ℕ) (part : Part) (reply : Reply) → StepBy (refusal_of_part old c part) (OpensWith old c part) old reply new → IsSound new
+    out_keeps : (c : ℕ) (part : TakenPart) (reply : Reply) → StepBy (refusal_of_part old c part) (OpensWith old c part) old reply new → IsSound new
     out_keeps c part reply step = by (refusal_of_part old c part) reply step where
       by : (o : Option Refusal) (reply : Reply) → StepBy o (OpensWith old c part) old reply new → IsSound new
       by (Some r) reply h = left h.1 sound
@@ -236,7 +236,7 @@ module _ {A V : Type 0} (old : Family A V) (sound : IsSound old) where
       by (Some r) e h = left h.1 sound
       by None e h = let can = can_splice_of old has c d h.1 h.5 h.3 h.6 e in left h.8 (spliced c d h.1 h.5 h.2 h.3 h.6 can.2 can.3 h.4)
 
-    -- `cmp`, `key_of`: the order of the keys, and the key of a value
+    -- `cmp` is the order of the keys, and `key_of` computes the key of a value
     module _ {K : Type 0} (cmp : K → K → Ordering) (key_of : A → V → K) where
       on_keeps : (c : ℕ) (call : Call K) (reply : Reply) → StepOn cmp key_of old c call reply new → IsSound new
       on_keeps c call reply step = by (refusal_on old c call) refl step where
@@ -247,7 +247,7 @@ module _ {A V : Type 0} (old : Family A V) (sound : IsSound old) where
             (sym (ap (λ o. asks_collection o (λ s. asks (list_all (is_placed old) (names call)) NoSuchObject (refusal_of call (state_in old s)))) h.2) ∙ e) in
             left h.4 (restated c h.0 h.2 h.1 (keeps_right (is_placed old) (state_in old h.0) (right_of c h.0 h.2) cmp (key_of old.adapter) (objects_of old) h.1 call reply tests.1 tests.0 h.3))
 
-      -- what is refused changes nothing, and what is accepted is sound
+      -- a step leads to a sound family, because a refused call changes nothing, and an accepted call leads to a sound family
       accepted : (o : Option Refusal) (Accepted : Reply → Family A V → Type 0) (reply : Reply) → StepBy o Accepted old reply new → (o ≡ None → Accepted reply new → IsSound new) → IsSound new
       accepted (Some r) Accepted reply h keeps = left h.1 sound
       accepted None Accepted reply h keeps = keeps refl h
@@ -282,7 +282,7 @@ module _ {A V : Type 0} (old : Family A V) (sound : IsSound old) where
       show_back_keeps c (refused OutOfMemory) h = left h sound
       show_back_keeps c _ h = absurd h
 
-      -- A STEP from a sound family leads to a sound one
+      -- A STEP from a sound family leads to a sound family
       pub keeps_sound : (command : Command V K) (reply : Reply) → Step cmp key_of old command reply new → IsSound new
       keeps_sound (call.AddField k) reply step = add_keeps k reply step
       keeps_sound (call.Open f k) reply step = accepted (refusal {K = K} old (call.Open f k)) (Accepts cmp key_of old (call.Open f k)) reply step (open_keeps f k reply)

@@ -1,4 +1,4 @@
--- From the steps of a run to what holds of each call, and of all.
+-- From the steps of a run it follows that each call is lawful, and that the whole run keeps the order of insertion.
 use Rattle.std.proofs.Common.{List, [], ◌∷◌, ◌++◌, Result, Ok, Err, OnOk, OnErr, refl, sym, subst, ◌∙◌}
 use Rattle.std.specs.Cmp.{IsTotalOrder}
 use Rattle.std.specs.declared.cmp.Ordering.{Ordering}
@@ -16,7 +16,7 @@ use Rattle.ic_world_laws.proofs.SortedLaws.{finds_first, finds_end, is_within_bo
 use Rattle.ic_world_laws.proofs.KeepsSound.{keeps_sound}
 use Rattle.ic_world_laws.proofs.KeepsOrder.{sound_placed, keeps_order, starts_in_order}
 
--- TWO LISTS OF CALLS JOIN
+-- TWO LISTS OF LAWFUL CALLS, of which the second begins where the first ends, are one list of lawful calls
 module _ {A V K : Type 0} (cmp : K → K → Ordering) (key_of : A → V → K) where
   pub join_lawful : (old : Family A V) (cs : List (Command V K)) (rs : List Reply) (mid : Family A V) (ds : List (Command V K)) (ss : List Reply) (new : Family A V)
       → AreLawful cmp key_of old cs rs mid → AreLawful cmp key_of mid ds ss new → AreLawful cmp key_of old (cs ++ ds) (rs ++ ss) new
@@ -26,7 +26,7 @@ module _ {A V K : Type 0} (cmp : K → K → Ordering) (key_of : A → V → K) 
   join_lawful old (c ∷ cs) [] mid ds ss new a b = absurd a
 
 module _ {A V K : Type 0} {cmp : K → K → Ordering} (total : IsTotalOrder cmp) (key_of : A → V → K) where
-  -- a sorted collection stands for its own members
+  -- a sorted collection stays sorted by an orderly call, because its own members are an insertion order of it
   pub stays_sorted : (old : Family A V) → IsSound old → (command : Command V K) (reply : Reply) (new : Family A V) → Step cmp key_of old command reply new → StaysSorted cmp key_of old command new
   stays_sorted old sound command reply new step c s is sorted orderly t is_t =
       let after = keeps_order total key_of old sound command reply new step c s.members (s, is, (sorted, (λ p. ((λ h. h), (λ h. h))), (λ key. refl))) orderly in
@@ -48,7 +48,7 @@ module _ {A V K : Type 0} {cmp : K → K → Ordering} (total : IsTotalOrder cmp
     starts_in_order = starts_in_order total key_of old command reply new step;
   }
 
-  -- ALL CALLS OF A RUN
+  -- ALL CALLS OF A RUN from a sound family are lawful
   pub are_lawful : (old : Family A V) → IsSound old → (commands : List (Command V K)) (replies : List Reply) (new : Family A V) → Runs cmp key_of old commands replies new
       → AreLawful cmp key_of old commands replies new
   are_lawful old sound [] [] new run = run
@@ -58,7 +58,7 @@ module _ {A V K : Type 0} {cmp : K → K → Ordering} (total : IsTotalOrder cmp
   are_lawful old sound [] (reply ∷ replies) new run = absurd run
   are_lawful old sound (command ∷ commands) [] new run = absurd run
 
-  -- and the order of insertion over them
+  -- a list of lawful calls keeps the order of insertion in each collection for which the calls are orderly
   pub keep_order : (old : Family A V) (commands : List (Command V K)) (replies : List Reply) (new : Family A V) → AreLawful cmp key_of old commands replies new → RunKeepsInsertionOrder cmp key_of old commands replies new
   keep_order old [] [] new run = λ c insertion_order stands orderly. subst (λ w. KeepsInsertionOrder cmp key_of w c insertion_order) (sym run) stands
   keep_order old (command ∷ commands) (reply ∷ replies) new run = λ c insertion_order stands orderly.
@@ -66,14 +66,14 @@ module _ {A V K : Type 0} {cmp : K → K → Ordering} (total : IsTotalOrder cmp
   keep_order old [] (reply ∷ replies) new run = absurd run
   keep_order old (command ∷ commands) [] new run = absurd run
 
-  -- the last family is sound
+  -- the family after a list of lawful calls is sound, if the first family is sound
   pub last_sound : (old : Family A V) → IsSound old → (commands : List (Command V K)) (replies : List Reply) (new : Family A V) → AreLawful cmp key_of old commands replies new → IsSound new
   last_sound old sound [] [] new run = subst IsSound (sym run) sound
   last_sound old sound (command ∷ commands) (reply ∷ replies) new run = last_sound run.0 run.1.sound commands replies new run.2
   last_sound old sound [] (reply ∷ replies) new run = absurd run
   last_sound old sound (command ∷ commands) [] new run = absurd run
 
--- of a result that has one of two facts
+-- R follows from a result r, if R follows from what a success ensures and from what an error ensures
 pub of_result : {X E P Q R : Type 0} (r : Result X E) → (P → R) → (Q → R) → OnOk r P → OnErr r Q → R
 of_result (Ok x) f g p q = f p
 of_result (Err e) f g p q = g q

@@ -1,4 +1,4 @@
--- While a tree is sorted, the answers of its keyed calls are filters of its members.
+-- If a tree is sorted, each keyed call returns the first, the last or all of the members that a filter by keys gives.
 use Rattle.std.proofs.Common.{◌≡◌, ℕ, true, false, ◌&&◌, List, [], ◌∷◌, length, get_or, set, Option, Some, None, inl, inr, refl, sym, ap, ◌∙◌, subst}
 use Rattle.std.proofs.lemmas.Bool.{cases_lt, and_parts}
 use Rattle.std.proofs.lemmas.List.{get_or-set_same, get_or_past}
@@ -15,7 +15,7 @@ use Rattle.ic_world.specs.declared.call.Command.TheVariants as call
 use Rattle.ic_world.specs.declared.calls.insertion.Insertion.{Insertion}
 use Rattle.ic_world.specs.declared.calls.insertion.Insertion.TheVariants as insertions
 use Rattle.ic_world.specs.declared.calls.search.Search.TheVariants as searches
-use Rattle.ic_world.specs.declared.calls.one_call.Call.TheVariants.{Search as search, Insertion as insertion, Enter as enter}
+use Rattle.ic_world.specs.declared.calls.collection_call.Call.TheVariants.{Search as search, Insertion as insertion, Enter as enter}
 use Rattle.ic_world.specs.Apart.{AreApart, AreAllPlaced}
 use Rattle.ic_world.specs.Family.{Family, Sequence, collection, objects_of, is_placed}
 use Rattle.ic_world.specs.Calls.{Reply, found, looked, range, entry, State, key_at, own_at, names, InsertionReplies, Replies}
@@ -24,14 +24,14 @@ use Rattle.ic_world.specs.Several.{state_in, with_state, sequence_of}
 use Rattle.ic_world_laws.specs.Sorted.{IsSortedIn, has_key, has_greater, is_greater, is_from, is_until, FindsFirst, FindsEnd, IsWithinBoth, PutsAfter, GoesAfter}
 use Rattle.ic_world_laws.proofs.StepLaws.{of_reply, of_range}
 
--- a collection that was there is what it was set to
+-- if there was an item at the index i, a read at i after the item was set to y gives y
 set_there : {X : Type 0} (xs : List (Option X)) (i : ℕ) {x : X} (y : X) → get_or xs i None ≡ Some x → get_or (set xs i (Some y)) i None ≡ Some y
 set_there xs i y is = elim (cases_lt i (length xs)) [
   | inl inside ↦ get_or-set_same xs i (Some y) None inside
   | inr past ↦ let none = sym (get_or_past xs i None past) ∙ is in absurd cc
 ]
 
--- what holds of what a reply tells, if it is one of these
+-- a statement P about what a reply contains. The statement P is made only of replies of one sort, for example of the replies of a search
 abbrev IfFound : (Option Place → Type 0) → Reply → Type 0
 IfFound P (found p n) = P p
 IfFound P _ = Unit
@@ -49,7 +49,7 @@ IfRange P (range places n m) = P places
 IfRange P _ = Unit
 
 module _ {A V K : Type 0} {cmp : K → K → Ordering} (total : IsTotalOrder cmp) (key_of : A → V → K) (old : Family A V) (placed : AreAllPlaced old) where
-  -- THE FIRST MEMBER OF A KEY is found
+  -- THE FIRST MEMBER WITH A KEY is found by `find` and by `entry`, if the tree is sorted
   pub finds_first : (command : Command V K) (new : Family A V) (reply : Reply) → Step cmp key_of old command reply new → FindsFirst cmp key_of old command reply
   finds_first (call.On c (search (searches.Find key))) new (found p n) step = λ s is sorted.
       of_reply cmp key_of c (search (searches.Find key)) (IfFound (λ p. p ≡ first (filter (has_key cmp key_of old key) s.members))) old new (found p n) step s is (λ r. tt)
@@ -63,7 +63,7 @@ module _ {A V K : Type 0} {cmp : K → K → Ordering} (total : IsTotalOrder cmp
       found_first total key_of old.adapter (objects_of old) (placed c s is) sorted key (vacant_finds at.0 at.1 at.2.0.0 at.2.0.1))
   finds_first _ new _ step = tt
 
-  -- THE FIRST MEMBER within a lower bound is found, and the last one within an upper one
+  -- THE FIRST MEMBER within a lower bound is found, and the last member within an upper bound, if the tree is sorted
   pub finds_end : (command : Command V K) (new : Family A V) (reply : Reply) → Step cmp key_of old command reply new → FindsEnd cmp key_of old command reply
   finds_end (call.On c (search (searches.LowerBound bound))) new (found p n) step = λ s is sorted.
       of_reply cmp key_of c (search (searches.LowerBound bound)) (IfFound (λ p. p ≡ first (filter (is_from cmp key_of old bound) s.members))) old new (found p n) step s is (λ r. tt)
@@ -73,14 +73,14 @@ module _ {A V K : Type 0} {cmp : K → K → Ordering} (total : IsTotalOrder cmp
       (λ there t replies left. upper_last total key_of old.adapter (objects_of old) (placed c s is) sorted bound replies.0)
   finds_end _ new _ step = tt
 
-  -- A RANGE is all members within both bounds
+  -- A RANGE has all members within both bounds, if the tree is sorted
   pub is_within_both : AreApart old → (command : Command V K) (new : Family A V) (reply : Reply) → Step cmp key_of old command reply new → IsWithinBoth cmp key_of old command reply
   is_within_both apart (call.Range c min max) new (range places n m) step = λ s is sorted.
       of_range cmp key_of c min max (IfRange (λ places. places ≡ filter (λ q. is_from cmp key_of old min q && is_until cmp key_of old max q) s.members)) old new (range places n m) step s is (λ r. tt)
       (λ replies. range_filter total key_of old.adapter (objects_of old) (placed c s is) sorted min max (apart.0 c s is) replies.0)
   is_within_both apart _ new _ step = tt
 
-  -- an object that is put into such a gap stands after all that are not greater than what was searched
+  -- an object that is inserted at the border of the searched key comes after all members whose keys are not greater than it
   there_is : (c : ℕ) (s : Sequence) → collection old c ≡ Some s → (new : Family A V) (t : State) → new ≡ with_state old c s.field t → collection new c ≡ Some (sequence_of s.field t)
   there_is c s is new t left = subst (λ w. collection w c ≡ Some (sequence_of s.field t)) (sym left) (set_there old.collections c (sequence_of s.field t) is)
 
@@ -88,7 +88,7 @@ module _ {A V K : Type 0} {cmp : K → K → Ordering} (total : IsTotalOrder cmp
       → (at : Place → Ordering) → IsSortedFor at s.members → (gap : Cut) → join gap ≡ s.members → IsBorder (less_at at) gap → t.members ≡ insert gap p → PutsAfter cmp key_of old (less_at at) c p new s.members
   after c p s is new t left at sorted gap cut border members = (sequence_of s.field t, there_is c s is new t left, members ∙ put_after sorted gap cut border p)
 
-  -- AN OBJECT THAT IS PUT IN ORDER goes after all that are not greater
+  -- AN OBJECT THAT IS INSERTED IN ORDER comes after all members whose keys are not greater than its own
   module _ (c : ℕ) (p : Place) (s : Sequence) (is : collection old c ≡ Some s) (sorted : IsSortedIn cmp key_of old s.members) (there : is_placed old p ≡ true)
       (new : Family A V) (t : State) (cursor : Option Place) (left : new ≡ with_state old c s.field t)
       (n : ℕ) (puts : InsertionReplies cmp (key_of old.adapter) (objects_of old) p cursor (state_in old s) (looked n) t) where
@@ -109,7 +109,7 @@ module _ {A V K : Type 0} {cmp : K → K → Ordering} (total : IsTotalOrder cmp
   IsInOrder c p new s (looked n) = PutsAfter cmp key_of old (is_greater cmp key_of old p) c p new s.members
   IsInOrder c p new s _ = Unit
 
-  -- a call that inserts in order, wherever it leaves the cursor
+  -- `insert` and `cursor_insert` both insert the object in order. They differ only in where they leave the cursor
   inserts : (c : ℕ) (p : Place) (call : Insertion) (cursor : State → Option Place) → names {K = K} (insertion call) ≡ p ∷ []
       → ((s t : State) (n : ℕ) → Replies cmp (key_of old.adapter) (objects_of old) (insertion call) s (looked n) t → InsertionReplies cmp (key_of old.adapter) (objects_of old) p (cursor s) s (looked n) t)
       → (new : Family A V) (n : ℕ) → StepOn cmp key_of old c (insertion call) (looked n) new → (s : Sequence) → collection old c ≡ Some s → IsSortedIn cmp key_of old s.members → IsInOrder c p new s (looked n)

@@ -1,4 +1,4 @@
--- What a call of one collection leaves is as sound as it was: members are distinct and linked, and the cursor is null or one of them.
+-- A call of one collection leaves the collection sound: its members are distinct and linked, and its cursor is at null or on a member.
 use Rattle.std.proofs.Common.{◌≡◌, ◌≢◌, ◌⊎◌, inl, inr, Bool, true, false, cond, not, ◌||◌, ◌&&◌, nat_eq, eq-eqb, ne_eqb, List, [], ◌∷◌, ◌++◌, drop, reverse, Option, Some, None, is_some, refl, sym, ap, ◌∙◌, subst, true≢false}
 use Rattle.std.proofs.lemmas.Bool.{and_parts, cases_eq}
 use Rattle.std.specs.Cmp.{nat_cmp_total, unsigned_tied}
@@ -12,21 +12,21 @@ use Rattle.ic_unsafe_ref.proofs.PlaceLemmas.{same_index, same_or_not}
 use Rattle.ic_link_ops.proofs.SequenceLemmas.{absent_left, absent_right, absent_both, absent_with, absent_reverse, distinct_insert, distinct_middle, distinct_remove, distinct_replace, distinct_reverse, some_same, none_not, first_is, split_last}
 use Rattle.ic_rbtree.specs.Borders.{Finds, equal_at, if_passes}
 use Rattle.ic_world.specs.declared.call.Refusal.TheVariants.{WrongKind, NothingThere, NotAMember, AlreadyLinked}
-use Rattle.ic_world.specs.declared.calls.one_call.Call.TheVariants as one
+use Rattle.ic_world.specs.declared.calls.collection_call.Call.TheVariants as one
 use Rattle.ic_any_collection.specs.declared.gap.Gap.{Gap}
 use Rattle.ic_any_collection.specs.declared.gap.Gap.TheVariants.{Front, Back, Before, After}
-use Rattle.ic_world.specs.declared.calls.one_call.Direction.TheVariants.{Next, Prev}
+use Rattle.ic_world.specs.declared.calls.collection_call.Neighbor.TheVariants.{Next, Prev}
 use Rattle.ic_world.specs.declared.calls.seek.Seek.TheVariants.{Null, On, With}
-use Rattle.ic_world.specs.declared.calls.whole.Whole.TheVariants.{Clear, Reverse}
+use Rattle.ic_world.specs.declared.calls.bulk_edit.BulkEdit.TheVariants.{Clear, Reverse}
 use Rattle.ic_world.specs.declared.calls.search.Search.TheVariants.{Find, LowerBound, UpperBound}
 use Rattle.ic_world.specs.declared.calls.insertion.Insertion.TheVariants.{Insert, CursorInsert}
 use Rattle.ic_world.specs.Family.{is_among}
-use Rattle.ic_world.specs.declared.calls.one_call.Call.{Call}
+use Rattle.ic_world.specs.declared.calls.collection_call.Call.{Call}
 use Rattle.ic_world.specs.Calls.{State, Reply, found, looked, entry, refused, is_linked_in, moved, having, put, without, swapped, unlinked, cleared, has_call, names, IsFrontOf, member_at, rests, onward, onto, asks_unlinked, refusal_of, own_refusal, Replies}
 use Rattle.ic_world.proofs.Linked.{absent_or}
 use Rattle.ic_world.proofs.Steps.{asks_none}
 
--- members of parts
+-- a member of a part of a sequence is a member of the sequence, and so are its first and its last member
 pub member_left : (s t : List Place) (p : Place) → IsMember p s → IsMember p (s ++ t)
 member_left s t p there out = there (absent_left p s t out)
 
@@ -44,7 +44,7 @@ absent_fewer : (q : Place) (s : List Place) → IsAbsent q s → IsAbsent q (dro
 absent_fewer q [] out = tt
 absent_fewer q (x ∷ s) out = out.1
 
--- members of one are none of the other
+-- if two sequences share no member, a member of one is absent from the other
 pub member_out : (s t : List Place) → IsDisjoint s t → (p : Place) → IsMember p s → IsAbsent p t
 member_out [] t d p there = absurd (there tt)
 member_out (x ∷ s) t d p there = elim (same_or_not p x) [
@@ -71,11 +71,11 @@ member_among p (x ∷ s) there =
 pub among_member : (p : Place) (s : List Place) → is_among p s ≡ true → IsMember p s
 among_member p s h out = true≢false (sym h ∙ absent_among p s out)
 
--- a member of all is one of what is left, or the one that went
+-- a member q of a sequence is still a member after x was removed, unless q is x
 member_without : (front : List Place) (x : Place) (back : List Place) (q : Place) → IsMember q (front ++ x ∷ back) → q ≢ x → IsMember q (front ++ back)
 member_without front x back q there n out = there (absent_with front back x q n out)
 
--- the set with a place more, and with one less
+-- a set with the place p added contains p, and a set with p removed does not contain p. All other places are in both as before
 or_right : (b : Bool) → (b || true) ≡ true
 or_right true = refl
 or_right false = refl
@@ -97,7 +97,7 @@ module _ (l : set_of.FinSet nat_cmp) (p : Place) where
       ∙ ap (λ b. not b && set_of.contains l (index_of q)) (unsigned_tied (index_of q) (index_of p) ∙ ne_eqb (index_of q) (index_of p) (λ e. n (same_index q p e)))
       ∙ h
 
-  -- a place that is in a set with q, and is another, was in it; and one that is in it without q
+  -- a place other than p that is in the set l with p added is in l. A place that is in l without p is in l, and is not p
   pub was_in : (q : Place) → q ≢ p → set_of.contains (set_of.insert l (index_of p)) (index_of q) ≡ true → set_of.contains l (index_of q) ≡ true
   was_in q n h =
       sym (contains-insert nat_cmp_total l (index_of p) (index_of q)
@@ -123,23 +123,24 @@ pub in_rest : (l : set_of.FinSet nat_cmp) (s : List Place) (q : Place) → IsAbs
 in_rest l [] q out h = h
 in_rest l (x ∷ s) q out h = in_less (unlinked l s) x q out.0 (in_rest l s q out.1 h)
 
--- `has`: whether an object stands at a place
+-- `has` says whether there is an object at a place
 module _ (has : Place → Bool) where
-  -- THE STATE IS RIGHT: its members are distinct and linked, its cursor is null or a member, and linked places have objects
+  -- THE STATE s IS RIGHT: its members are distinct and linked, its cursor is at null or on a member, and there is an object at each linked place
   pub record IsRight (s : State) : Type 0 where
     pub distinct : IsDistinct s.members
     pub linked : (p : Place) → IsMember p s.members → is_linked_in s p ≡ true
     pub cursor : (p : Place) → s.cursor ≡ Some p → IsMember p s.members
     pub placed : (p : Place) → is_linked_in s p ≡ true → has p ≡ true
 
-  -- A CALL KEEPS IT RIGHT, its kind too, and what other collections have linked stays linked and none of its members
+  -- A CALL KEEPS THE STATE RIGHT and the kind as it was. A linked place that was not a member, because it belongs to another collection, stays linked
+  -- and does not become a member
   pub record KeepsRight (s t : State) : Type 0 where
     pub kind : t.kind ≡ s.kind
     pub right : IsRight t
     pub others : (q : Place) → is_linked_in s q ≡ true → IsAbsent q s.members → (is_linked_in t q ≡ true) × IsAbsent q t.members
 
   module _ (s : State) (right : IsRight s) where
-    -- the cursor elsewhere
+    -- a call that moves the cursor to null or to a member keeps the state right
     keeps_moved : (o : Option Place) → ((p : Place) → o ≡ Some p → IsMember p s.members) → KeepsRight s (moved s o)
     keeps_moved o at = record {
       kind = refl;
@@ -150,7 +151,7 @@ module _ (has : Place → Bool) where
     moved_as : {t : State} (o : Option Place) → t ≡ moved s o → ((p : Place) → o ≡ Some p → IsMember p s.members) → KeepsRight s t
     moved_as o e at = subst (KeepsRight s) (sym e) (keeps_moved o at)
 
-    -- fewer members, or all turned round: all of them were members
+    -- a call that leaves some of the members, or reverses their order, keeps the state right, because each member was a member before
     pub keeps_part : (u : List Place) (o : Option Place) → IsDistinct u → ((q : Place) → IsAbsent q s.members → IsAbsent q u) → ((p : Place) → o ≡ Some p → IsMember p u) → KeepsRight s (having s u o)
     keeps_part u o distinct within at = record {
       kind = refl;
@@ -170,7 +171,7 @@ module _ (has : Place → Bool) where
       others = λ q h out. (in_rest s.linked s.members q out h, tt);
     }
 
-    -- the members are cut at a gap
+    -- the members of the state are cut at `gap`
     module _ (gap : Cut) (cut : join gap ≡ s.members) where
       distinct_cut : IsDistinct (join gap)
       distinct_cut = subst IsDistinct (sym cut) right.distinct
@@ -203,7 +204,7 @@ module _ (has : Place → Bool) where
         );
       }
 
-      -- a member after the gap
+      -- `out` is the member directly after the gap
       module _ (out : Place) (after : first gap.back ≡ Some out) where
         back_is : gap.back ≡ out ∷ drop 1 gap.back
         back_is = first_is gap.back (sym after)
@@ -220,7 +221,7 @@ module _ (has : Place → Bool) where
         out_linked : is_linked_in s out ≡ true
         out_linked = right.linked out out_member
 
-        -- what is left are members, and others than it
+        -- the members that are left without `out` were members, and none of them is `out`
         rest_is : (q : Place) → IsMember q (gap.front ++ drop 1 gap.back) → (q ≢ out) × IsMember q s.members
         rest_is q there = (
           (λ e. there (subst (λ z. IsAbsent z (gap.front ++ drop 1 gap.back)) (sym e) (distinct_middle gap.front (drop 1 gap.back) out distinct_all))),
@@ -275,14 +276,14 @@ module _ (has : Place → Bool) where
                   );
             }
 
-    -- where a cursor rests, it is on a member
+    -- the position of the cursor after an insertion is null, or a member of the state before it
     rests_in : (at : Gap) (q : Place) → rests at s.cursor ≡ Some q → IsMember q s.members
     rests_in Front q e = absurd (none_not q e)
     rests_in Back q e = absurd (none_not q e)
     rests_in Before q e = right.cursor q e
     rests_in After q e = right.cursor q e
 
-    -- and after a member went out, on one that is left
+    -- the position of the cursor after a removal is null, or a member that is left
     onward_in : (at : Gap) (gap : Cut) → IsFrontOf at s gap → (q : Place) → onward at s.cursor gap ≡ Some q → IsMember q (gap.front ++ drop 1 gap.back)
     onward_in Front gap h q e = absurd (none_not q e)
     onward_in Back gap h q e = absurd (none_not q e)
@@ -295,7 +296,7 @@ module _ (has : Place → Bool) where
     onto_in Before gap p h q e = inl (sym (some_same e))
     onto_in After gap p h q e = inr (member_left gap.front (drop 1 gap.back) q (last_member gap.front (sym e ∙ h)))
 
-    -- a member that was searched
+    -- a member that a search found is a member of the searched sequence
     passes_in : (test : Place → Bool) (o : Option Place) (q : Place) → if_passes test o ≡ Some q → o ≡ Some q
     passes_in test None q e = absurd (none_not q e)
     passes_in test (Some p) q e = by (test p) e where
@@ -312,7 +313,7 @@ module _ (has : Place → Bool) where
     not_false true e = absurd (true≢false (sym e))
     not_false false e = refl
 
-    -- A CALL OF ONE COLLECTION that no test refuses, and whose objects are placed
+    -- A CALL OF ONE COLLECTION that no test refuses, and whose objects exist, keeps the state right
     module _ {V K : Type 0} (cmp : K → K → Ordering) (key_of : V → K) (objects : Objects V) (t : State) where
       one_placed : (p : Place) → list_all has (p ∷ []) ≡ true → has p ≡ true
       one_placed p h = (and_parts (has p) true h).0
@@ -347,8 +348,8 @@ module _ (has : Place → Bool) where
           subst (λ z. IsMember z s.members) (some_same e) (among_member p s.members (asks_none (is_among p s.members) NotAMember None (kind_asked (one.Seek (On p)) asked)).0))
       keeps_right (one.Seek (With way p beside)) reply asked placed h = moved_as (Some p) h.1 (λ q e.
           subst (λ z. IsMember z s.members) (some_same e) (among_member p s.members (asks_none (is_among p s.members) NotAMember _ (kind_asked (one.Seek (With way p beside)) asked)).0))
-      keeps_right (one.Whole Clear) reply asked placed h = subst (KeepsRight s) (sym h.1) keeps_cleared
-      keeps_right (one.Whole Reverse) reply asked placed h =
+      keeps_right (one.BulkEdit Clear) reply asked placed h = subst (KeepsRight s) (sym h.1) keeps_cleared
+      keeps_right (one.BulkEdit Reverse) reply asked placed h =
           subst (KeepsRight s) (sym h.1) (keeps_part (reverse s.members) None (distinct_reverse s.members right.distinct) (λ q out. absent_reverse q s.members out) (λ q e. absurd (none_not q e)))
       keeps_right (one.Search (Find key)) (found p n) asked placed h = moved_as p h.2 (found_in h.0)
       keeps_right (one.Search (LowerBound bound)) (found p n) asked placed h = moved_as p h.2 (λ q e.

@@ -1,4 +1,4 @@
--- Families that differ from a sound one in one collection, in one field, or in one object.
+-- Families that differ from a sound family in one collection, in one field, or in one object, and are sound, too.
 use Rattle.std.proofs.Common.{◌≡◌, ◌≢◌, ◌⊎◌, inl, inr, ℕ, ◌<◌, ◌≤◌, ◌^◌, Bool, true, false, cond, nat_lt, List, [], ◌∷◌, ◌++◌, length, get_or, set, Option, Some, None, is_some, refl, sym, ap, ◌∙◌, subst, arith, ltb-true, true≢false, ne_eqb}
 use Rattle.std.proofs.lemmas.Bool.{cases_eq, lt-ltb}
 use Rattle.std.proofs.lemmas.List.{get_or-set_same, get_or-set_other, get_or_past, get_or_append_left, get_or_push, length-append, length-set}
@@ -20,7 +20,7 @@ use Rattle.ic_world.proofs.Linked.{side}
 use Rattle.ic_world.proofs.Readings.{some_within}
 use Rattle.ic_world_laws.proofs.SoundCalls.{member_out, still_in, in_less}
 
--- what stands under a number, where another item, or none, came under one that had an item
+-- the item at the index c was set to o. An item at an index d is then o if d is c, and otherwise the old item at d
 pub which_at : {X : Type 0} (xs : List (Option X)) (c : ℕ) (o : Option X) {x : X} → get_or xs c None ≡ Some x → (d : ℕ) (y : X) → get_or (set xs c o) d None ≡ Some y
     → ((d ≡ c) × (o ≡ Some y)) ⊎ ((d ≢ c) × (get_or xs d None ≡ Some y))
 which_at xs c o is d y e = elim (cases_eq d c) [
@@ -28,7 +28,7 @@ which_at xs c o is d y e = elim (cases_eq d c) [
   | inr n ↦ inr (n, sym (get_or-set_other xs c d o None n) ∙ e)
 ]
 
--- a field with other linked places: it is of the kind that it was, and so are all others
+-- if the linked places of the field f are set to l, f has the linked places l, and all other fields stay. The kinds of all fields stay
 module _ {A V : Type 0} (w : Family A V) (f : ℕ) (l : set_of.FinSet nat_cmp) where
   pub has_still : (g : ℕ) → has_field w g ≡ true → has_field (with_linked w f l) g ≡ true
   has_still g h = ap (λ n. nat_lt g n) (length-set w.fields f _) ∙ h
@@ -48,7 +48,7 @@ module _ {A V : Type 0} (w : Family A V) (f : ℕ) (l : set_of.FinSet nat_cmp) w
     | inr d ↦ ap (λ (x : LinkField). x.kind) (get_or-set_other w.fields f g _ _ d)
   ]
 
--- members of another collection of the field are none of s, and linked
+-- a member of another collection of the field is linked in the field, and is not a member of s
 pub outside : {A V : Type 0} (w : Family A V) → IsSound w → (c : ℕ) (s : Sequence) → collection w c ≡ Some s → (d : ℕ) (r : Sequence) → d ≢ c → collection w d ≡ Some r → r.field ≡ s.field
     → (p : Place) → IsMember p r.members → (set_of.contains (linked_of w s.field) (index_of p) ≡ true) × IsAbsent p s.members
 outside w sound c s is d r n e f p member = (
@@ -57,7 +57,7 @@ outside w sound c s is d r n e f p member = (
 )
 
 module _ {A V : Type 0} (w : Family A V) (c : ℕ) (s : Sequence) (l : set_of.FinSet nat_cmp) where
-  -- WHAT A COLLECTION OWES that comes in the place of s, where its field has the linked places l then
+  -- WHAT IS REQUIRED OF A COLLECTION x that replaces s, if its field then has the linked places l
   pub record Fits (x : Sequence) : Type 0 where
     pub field : x.field ≡ s.field
     pub kind : x.kind ≡ s.kind
@@ -66,12 +66,12 @@ module _ {A V : Type 0} (w : Family A V) (c : ℕ) (s : Sequence) (l : set_of.Fi
     pub cursor : (p : Place) → x.cursor ≡ Some p → IsMember p x.members
     pub beside : (d : ℕ) (r : Sequence) → d ≢ c → collection w d ≡ Some r → r.field ≡ s.field → IsDisjoint r.members x.members
 
-  -- and what l owes
+  -- what is required of the new linked places l: each linked place that is no member of s stays linked, and there is an object at each place of l
   pub record Relinks : Type 0 where
     pub others : (q : Place) → set_of.contains (linked_of w s.field) (index_of q) ≡ true → IsAbsent q s.members → set_of.contains l (index_of q) ≡ true
     pub placed : (q : Place) → set_of.contains l (index_of q) ≡ true → is_placed w q ≡ true
 
--- ONE COLLECTION AND THE LINKED SET OF ITS FIELD are others
+-- ONE COLLECTION IS REPLACED by o, and the linked places of its field by l. The new family is sound
 module _ {A V : Type 0} (w : Family A V) (sound : IsSound w) (c : ℕ) (s : Sequence) (is : collection w c ≡ Some s) (o : Option Sequence) (l : set_of.FinSet nat_cmp)
     (fits : (x : Sequence) → o ≡ Some x → Fits w c s l x) (relinks : Relinks w c s l) where
   abbrev new : Family A V
@@ -144,7 +144,7 @@ module _ {A V : Type 0} (w : Family A V) (sound : IsSound w) (c : ℕ) (s : Sequ
     );
   }
 
--- NO OTHER PLACE IS LINKED but one less, which is no member
+-- ONE PLACE p IS UNLINKED that is a member of no collection of the field. The new family is sound
 module _ {A V : Type 0} (w : Family A V) (sound : IsSound w) (f : ℕ) (p : Place) (there : has_field w f ≡ true)
     (free : (c : ℕ) (s : Sequence) → collection w c ≡ Some s → s.field ≡ f → IsAbsent p s.members) where
   abbrev fewer : set_of.FinSet nat_cmp
@@ -179,7 +179,7 @@ module _ {A V : Type 0} (w : Family A V) (sound : IsSound w) (f : ℕ) (p : Plac
     apart = sound.apart;
   }
 
--- A COLLECTION MORE
+-- A COLLECTION x IS ADDED that shares no member with another collection of its field. The new family is sound
 module _ {A V : Type 0} (w : Family A V) (sound : IsSound w) (x : Sequence) (right : IsSoundIn w x) (distinct : IsDistinct x.members)
     (beside : (d : ℕ) (r : Sequence) → collection w d ≡ Some r → r.field ≡ x.field → IsDisjoint r.members x.members) where
   same_fields : (r : Sequence) → IsSoundIn w r → IsSoundIn (with_opened w x) r
@@ -214,7 +214,7 @@ module _ {A V : Type 0} (w : Family A V) (sound : IsSound w) (x : Sequence) (rig
     );
   }
 
--- A FIELD MORE, in which nothing is linked
+-- A FIELD IS ADDED in which no place is linked. The new family is sound
 module _ {A V : Type 0} (w : Family A V) (sound : IsSound w) (kind : Kind) where
   abbrev added : Family A V
   added = record w { fields = w.fields ++ record { kind = kind; linked = set_of.empty } ∷ [] }
@@ -250,7 +250,7 @@ module _ {A V : Type 0} (w : Family A V) (sound : IsSound w) (kind : Kind) where
     apart = sound.apart;
   }
 
--- OTHER OBJECTS, at the first 2 ^ 32 places alone, where one stands at each linked place
+-- OTHER OBJECTS leave a family sound, if all are at the first 2 ^ 32 places, and if there is an object at each linked place
 pub objects_sound : {A V : Type 0} (w : Family A V) (sound : IsSound w) (m : map_of.FinMap nat_cmp V)
     → ((p : Place) → is_some (map_of.get m (index_of p)) ≡ true → index_of p < 2 ^ 32) → ((f : ℕ) (p : Place) → set_of.contains (linked_of w f) (index_of p) ≡ true → is_some (map_of.get m (index_of p)) ≡ true) → IsSound (record w { objects = m })
 objects_sound w sound m below placed = record {
@@ -269,7 +269,7 @@ module _ {A V : Type 0} (w : Family A V) (sound : IsSound w) (p : Place) where
   still_some true o h = absurd (true≢false (sym h))
   still_some false o h = h
 
-  -- another object, or a new one
+  -- a new object at p, or another value of the object at p, leaves the family sound
   pub set_sound : index_of p < 2 ^ 32 → (v : V) → IsSound (record w { objects = map_of.insert w.objects (index_of p) v })
   set_sound low v = objects_sound w sound _
       (λ q has. elim (cases_eq (index_of q) (index_of p)) [
@@ -283,7 +283,7 @@ module _ {A V : Type 0} (w : Family A V) (sound : IsSound w) (p : Place) where
           get-insert nat_cmp_total w.objects (index_of p) v (index_of q)
           ∙ ap (λ b. cond b (Some v) (map_of.get w.objects (index_of q))) (unsigned_tied (index_of q) (index_of p) ∙ ne_eqb (index_of q) (index_of p) d)
 
-  -- p is linked in no field
+  -- if p is linked in no field, removing the object at p leaves the family sound
   pub removed_sound : is_linked_somewhere w p ≡ false → IsSound (record w { objects = map_of.remove w.objects (index_of p) })
   removed_sound free = objects_sound w sound _
       (λ q has. sound.below q (still_some _ (map_of.get w.objects (index_of q)) (sym (ap is_some (get-remove nat_cmp_total w.objects (index_of p) (index_of q))) ∙ has)))

@@ -1,4 +1,4 @@
--- What users rely on, from the steps of the calls.
+-- What users rely on follows from the steps of the calls.
 use Rattle.std.proofs.Common.{◌≡◌, ◌↔◌, ℕ, Bool, true, false, not, List, [], ◌∷◌, Option, Some, None, is_some, refl, sym, ap, ◌∙◌, subst}
 use Rattle.std.specs.List.{list_all}
 use Rattle.std.specs.declared.cmp.Ordering.{Ordering}
@@ -11,16 +11,16 @@ use Rattle.ic_world.specs.declared.call.Refusal.{Refusal}
 use Rattle.ic_world.specs.declared.call.Refusal.TheVariants.{NoSuchObject, WrongKind, NothingThere, AlreadyLinked, TooManyObjects, OutOfMemory}
 use Rattle.ic_world.specs.declared.call.Command.{Command}
 use Rattle.ic_world.specs.declared.call.Command.TheVariants as call
-use Rattle.ic_world.specs.declared.calls.one_call.Call.{Call}
-use Rattle.ic_world.specs.declared.calls.one_call.Call.TheVariants as one
+use Rattle.ic_world.specs.declared.calls.collection_call.Call.{Call}
+use Rattle.ic_world.specs.declared.calls.collection_call.Call.TheVariants as one
 use Rattle.ic_any_collection.specs.declared.gap.Gap.{Gap}
-use Rattle.ic_world.specs.declared.calls.one_call.Direction.TheVariants.{Next, Prev}
+use Rattle.ic_world.specs.declared.calls.collection_call.Neighbor.TheVariants.{Next, Prev}
 use Rattle.ic_world.specs.declared.calls.seek.Seek.TheVariants.{Null, On, With}
-use Rattle.ic_world.specs.declared.calls.whole.Whole.TheVariants.{Clear, Reverse}
+use Rattle.ic_world.specs.declared.calls.bulk_edit.BulkEdit.TheVariants.{Clear, Reverse}
 use Rattle.ic_world.specs.declared.calls.search.Search.TheVariants.{Find, LowerBound, UpperBound}
 use Rattle.ic_world.specs.declared.calls.insertion.Insertion.TheVariants.{Insert, CursorInsert}
-use Rattle.ic_world.specs.declared.part.Part.{Part}
-use Rattle.ic_world.specs.declared.part.Part.TheVariants.{All, After, Before}
+use Rattle.ic_world.specs.declared.taken_part.TakenPart.{TakenPart}
+use Rattle.ic_world.specs.declared.taken_part.TakenPart.TheVariants.{All, After, Before}
 use Rattle.ic_world.specs.Family.{Family, Sequence, collection, linked_of, is_placed, objects_of}
 use Rattle.ic_world.specs.Calls.{State, Reply, found, looked, range, entry, refused, object_or_nothing, asks, asks_unlinked, has_call, names, member_at, refusal_of, Replies}
 use Rattle.ic_world.specs.Several.{StepBy, OpensWith, asks_collection, state_in, with_state}
@@ -28,13 +28,13 @@ use Rattle.ic_world.specs.Step.{Step, StepOn, Accepts, AcceptsOn, RangeReplies}
 use Rattle.ic_world.proofs.Steps.{state_back}
 use Rattle.ic_world_laws.specs.Laws.{inserts, IsWellNamed, WithinBoundFor, IsRefusedExactlyIfLinked, KeepsComparisonBound}
 
--- a refusal is no object, and not none
+-- the reply of a refusal is neither an object nor `nothing`
 not_object : {r : Refusal} (o : Option Place) → refused r ≡ object_or_nothing o → ⊥
 not_object None e = cc
 not_object (Some p) e = cc
 
 module _ {V K : Type 0} (cmp : K → K → Ordering) (key_of : V → K) (objects : Objects V) where
-  -- the looks of a descent, as each call tells them
+  -- the number of looks that a keyed call replies is at most that of one search
   abbrev Tells : Command V K → Call K → Type 0
   Tells command call = (s : State) (reply : Reply) (t : State) → Replies cmp key_of objects call s reply t → WithinBoundFor s.members command reply
 
@@ -64,7 +64,7 @@ module _ {V K : Type 0} (cmp : K → K → Ordering) (key_of : V → K) (objects
   entry_few c key p s (refused r) t h = tt
   entry_few c key p s _ t h = absurd h
 
-  -- no accepted call is refused, but a vacant entry of a linked object
+  -- a call that no test refused replies a refusal only if an entry is vacant and its object is already linked. Then the state stays
   replies_stay : (call : Call K) (s : State) (r : Refusal) (t : State) → Replies cmp key_of objects call s (refused r) t → t ≡ s
   replies_stay (one.Put at p) s r t h = absurd (let no = h.0 in cc)
   replies_stay (one.Take at) s r t h = absurd (not_object (first h.0.back) h.2.1)
@@ -74,8 +74,8 @@ module _ {V K : Type 0} (cmp : K → K → Ordering) (key_of : V → K) (objects
   replies_stay (one.Seek Null) s r t h = absurd (let no = h.0 in cc)
   replies_stay (one.Seek (On p)) s r t h = absurd (let no = h.0 in cc)
   replies_stay (one.Seek (With way p beside)) s r t h = absurd (let no = h.0 in cc)
-  replies_stay (one.Whole Clear) s r t h = absurd (let no = h.0 in cc)
-  replies_stay (one.Whole Reverse) s r t h = absurd (let no = h.0 in cc)
+  replies_stay (one.BulkEdit Clear) s r t h = absurd (let no = h.0 in cc)
+  replies_stay (one.BulkEdit Reverse) s r t h = absurd (let no = h.0 in cc)
   replies_stay (one.Search (Find key)) s r t h = absurd h
   replies_stay (one.Search (LowerBound bound)) s r t h = absurd h
   replies_stay (one.Search (UpperBound bound)) s r t h = absurd h
@@ -95,7 +95,7 @@ module _ {A V K : Type 0} (cmp : K → K → Ordering) (key_of : A → V → K) 
   on_stays c one old new r h =
       h.4 ∙ ap (with_state old c h.0.field) (replies_stay cmp (key_of old.adapter) (objects_of old) one (state_in old h.0) r h.1 h.3) ∙ state_back old c h.0 h.2
 
-  out_stays : (c : ℕ) (part : Part) (old new : Family A V) (r : Refusal) → OpensWith old c part (refused r) new → new ≡ old
+  out_stays : (c : ℕ) (part : TakenPart) (old new : Family A V) (r : Refusal) → OpensWith old c part (refused r) new → new ≡ old
   out_stays c part old new OutOfMemory h = h
   out_stays c part old new _ h = absurd h
 
@@ -129,7 +129,7 @@ module _ {A V K : Type 0} (cmp : K → K → Ordering) (key_of : A → V → K) 
   pub refused_stays : (command : Command V K) (old new : Family A V) (reply : Reply) (r : Refusal) → Step cmp key_of old command reply new → reply ≡ refused r → new ≡ old
   refused_stays command old new reply r step is = refused_by _ (Accepts cmp key_of old command) old new r (subst (λ x. Step cmp key_of old command x new) is step) (accepted_stays command old new r)
 
-  -- AN INSERT IS REFUSED EXACTLY IF ITS OBJECT IS LINKED, by its tests in order
+  -- AN INSERT IS REFUSED EXACTLY IF ITS OBJECT IS LINKED. This follows from the order of the tests of the call
   by_tests : (o : Option Refusal) (placed kind there linked : Bool) → o ≡ asks placed NoSuchObject (asks kind WrongKind (asks there NothingThere (asks (not linked) AlreadyLinked None)))
       → (Accepted : Reply → Family A V → Type 0) (old new : Family A V) (reply : Reply) → StepBy o Accepted old reply new → (Accepted (refused AlreadyLinked) new → ⊥) → IsWellNamed reply
       → (reply ≡ refused AlreadyLinked) ↔ (linked ≡ true)
@@ -139,7 +139,7 @@ module _ {A V K : Type 0} (cmp : K → K → Ordering) (key_of : A → V → K) 
   by_tests o true true true true e Accepted old new reply step never named = ((λ _. refl), (λ _. (rw e at step).0))
   by_tests o true true true false e Accepted old new reply step never named = ((λ is. absurd (never (subst (λ x. Accepted x new) is (rw e at step)))), (λ is. absurd cc))
 
-  -- a call that names one object, and asks of the kind, of the position and of the object
+  -- a call with one object, which tests the kind of the collection, then the position and then the object, is refused exactly if the object is linked
   insert_on : (c : ℕ) (p : Place) (call : Call K) (there : State → Bool) → names call ≡ p ∷ []
       → ((s : State) → refusal_of call s ≡ asks (has_call call s.kind) WrongKind (asks (there s) NothingThere (asks_unlinked s p)))
       → ((w : Family A V) (s t : State) → Replies cmp (key_of w.adapter) (objects_of w) call s (refused AlreadyLinked) t → ⊥)
@@ -183,7 +183,7 @@ module _ {A V K : Type 0} (cmp : K → K → Ordering) (key_of : A → V → K) 
   insert_refused (call.On c (one.Enter key p)) = entry_on c key p
   insert_refused _ = λ old new reply step. tt
 
-  -- WHAT HOLDS OF EACH REPLY of a call of one collection, if it does of a refusal and of what is accepted
+  -- A STATEMENT P HOLDS OF THE REPLY of a call of one collection, if it holds of each refusal and of each reply of an accepted call
   module _ (c : ℕ) (call : Call K) (P : Reply → Type 0) (old new : Family A V) (reply : Reply) (step : StepOn cmp key_of old c call reply new) (s : Sequence) (is : collection old c ≡ Some s)
       (none : (r : Refusal) → P (refused r)) where
     abbrev placed : Bool
@@ -202,7 +202,7 @@ module _ {A V K : Type 0} (cmp : K → K → Ordering) (key_of : A → V → K) 
             accepted there step.1 (subst (λ x. Replies cmp (key_of old.adapter) (objects_of old) call (state_in old x) reply step.1) same step.3)
             (step.4 ∙ ap (λ (x : Sequence). with_state old c x.field step.1) same)
 
-  -- and of a range
+  -- a statement P holds of the reply of `range`, if it holds of each refusal and of each reply of an accepted call
   pub of_range : (c : ℕ) (min max : Bound K) (P : Reply → Type 0) (old new : Family A V) (reply : Reply) → Step cmp key_of old (call.Range c min max) reply new
       → (s : Sequence) → collection old c ≡ Some s → ((r : Refusal) → P (refused r)) → (RangeReplies cmp key_of old min max s reply → P reply) → P reply
   of_range c min max P old new reply step s is none accepted = by _ step where
@@ -210,7 +210,7 @@ module _ {A V K : Type 0} (cmp : K → K → Ordering) (key_of : A → V → K) 
     by (Some r) step = subst P (sym step.0) (none r)
     by None step = accepted (subst (λ x. RangeReplies cmp key_of old min max x reply) (some_same (sym step.1 ∙ is)) step.2)
 
-  -- LOOKS ARE FEW
+  -- LOOKS ARE FEW: each keyed call makes at most the looks that `WithinBoundFor` allows
   few_on : (command : Command V K) (c : ℕ) (call : Call K) → ((s : List Place) (r : Refusal) → WithinBoundFor s command (refused r))
       → ((objects : Objects V) (adapter : A) → Tells cmp (key_of adapter) objects command call) → (old new : Family A V) (reply : Reply)
       → StepOn cmp key_of old c call reply new → (s : Sequence) → collection old c ≡ Some s → WithinBoundFor s.members command reply

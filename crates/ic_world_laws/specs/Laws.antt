@@ -1,4 +1,4 @@
--- What users rely on, whatever calls were made.
+-- What users can rely on in every call of a world, whatever calls were made before it.
 use Rattle.std.specs.Prelude.{◌≡◌, ◌↔◌, ℕ, true, List, Option, Some, None, IfSome}
 use Rattle.std.specs.FinSet as set
 use Rattle.ic_link_ops.specs.Prelude.{Place, index_of}
@@ -6,14 +6,14 @@ use Rattle.ic_world.specs.Looks.{WithinComparisonBound, WithinBound}
 use Rattle.ic_world.specs.declared.call.Refusal.TheVariants.{AlreadyLinked}
 use Rattle.ic_world.specs.declared.call.Command.{Command}
 use Rattle.ic_world.specs.declared.call.Command.TheVariants as call
-use Rattle.ic_world.specs.declared.calls.one_call.Call.TheVariants as one
+use Rattle.ic_world.specs.declared.calls.collection_call.Call.TheVariants as one
 use Rattle.ic_world.specs.declared.calls.search.Search.TheVariants.{LowerBound, UpperBound}
 use Rattle.ic_world.specs.declared.calls.insertion.Insertion.TheVariants.{Insert, CursorInsert}
 use Rattle.ic_world.specs.Family.{Family, Sequence, collection, linked_of}
 use Rattle.ic_world.specs.Calls.{Reply, found, looked, range, entry, refused}
 
 module _ {V K : Type 0} where
-  -- the collection into which a call inserts an object, and the object
+  -- the number of the collection into which a call inserts an object, and the place of this object. The result is none if the call inserts nothing
   abbrev pub inserts : Command V K → Option (ℕ × Place)
   inserts (call.On c (one.Put at p)) = Some (c, p)
   inserts (call.On c (one.Swap at p)) = Some (c, p)
@@ -22,7 +22,7 @@ module _ {V K : Type 0} where
   inserts (call.On c (one.Enter key p)) = Some (c, p)
   inserts _ = None
 
-  -- the tree that a call searches
+  -- the number of the tree that a call searches by keys, or none if the call searches no tree
   abbrev pub descends : Command V K → Option ℕ
   descends (call.On c (one.Search search)) = Some c
   descends (call.On c (one.Insertion insertion)) = Some c
@@ -30,15 +30,16 @@ module _ {V K : Type 0} where
   descends (call.Range c min max) = Some c
   descends _ = None
 
--- A REPLY IS WELL NAMED if it is not a refusal, or is the refusal `AlreadyLinked`. The reply of an `entry` that found its key does not count as one
+-- A REPLY IS WELL NAMED if it is not a refusal, or if it is the refusal `AlreadyLinked`. The reply of an `entry` that found a member with its key is
+-- not well named
 abbrev pub IsWellNamed : Reply → Type 0
 IsWellNamed (refused AlreadyLinked) = Unit
 IsWellNamed (refused _) = ⊥
 IsWellNamed (entry true p looks) = ⊥
 IsWellNamed _ = Unit
 
--- at most so many looks (key comparisons) as the call makes in a tree with the members s: those of one search, and none for `Unbounded`. A range
--- returns those of its lower bound first
+-- a call makes at most the looks (key comparisons) of one search in a tree with the members s, and none for `Unbounded`. A range makes a search for
+-- each bound, and its reply has the looks for the lower bound first
 module _ {V K : Type 0} (s : List Place) where
   abbrev pub WithinBoundFor : Command V K → Reply → Type 0
   WithinBoundFor (call.On c (one.Search (LowerBound bound))) (found p looks) = WithinBound bound looks s
@@ -50,13 +51,13 @@ module _ {V K : Type 0} (s : List Place) where
   WithinBoundFor _ _ = Unit
 
 module _ {A V : Type 0} where
-  -- AN INSERT THAT IS WELL NAMED IS REFUSED EXACTLY IF its object is linked in the field of the collection
+  -- AN INSERT WHOSE REPLY IS WELL NAMED IS REFUSED EXACTLY IF its object is linked in the field of the collection
   abbrev pub IsRefusedExactlyIfLinked : Family A V → Option (ℕ × Place) → Reply → Type 0
   IsRefusedExactlyIfLinked w None reply = Unit
   IsRefusedExactlyIfLinked w (Some (c, p)) reply = (s : Sequence) → collection w c ≡ Some s → IsWellNamed reply
       → (reply ≡ refused AlreadyLinked) ↔ (set.contains (linked_of w s.field) (index_of p) ≡ true)
 
   -- LOOKS ARE FEW: a search of a tree that had n members before the call makes v looks, with 2^v at most (n + 1)^2. A search for a key makes at least
-  -- one if the tree had a member, and a search for `Unbounded` makes none
+  -- one look if the tree had a member, and a search for `Unbounded` makes no look
   abbrev pub KeepsComparisonBound : {K : Type 0} → Family A V → Command V K → Reply → Type 0
   KeepsComparisonBound w command reply = IfSome (descends command) (λ c. (s : Sequence) → collection w c ≡ Some s → WithinBoundFor s.members command reply)

@@ -1,4 +1,4 @@
-//! What holds of every call of a world, and of any list of calls: each law is a field of `IsLawful`.
+//! What holds of every call of a world, and of any list of calls. Each law is a field of the record `IsLawful`.
 //!
 //! ```text
 //! ic_world_laws::answer(&mut world, command) // refused, it can be made again in the same world
@@ -18,19 +18,19 @@ use std::alloc::{AllocError, Allocator};
 
 /// Makes a call as [`World::answer`] does. Its contract states what users rely on, whatever the call is.
 ///
-/// - If it is refused, nothing has changed.
-/// - If it inserts an object into a collection, and collection, object and kind are right, it is refused exactly if the object is
-///   already linked in the field. For an entry this holds if it is vacant.
-/// - If it searches a tree of n members, it makes v looks (key comparisons), where `2^v <= (n + 1)^2`, and at least one if there
-///   is a member. A range returns the looks of both its searches. A search for `Unbounded` makes none.
-/// - While the tree is sorted, `find` and an occupied `entry` return the first member with the key, and no member has the key of
+/// - If the call is refused, nothing has changed.
+/// - If the call inserts an object into a collection, and collection, object and kind are right, it is refused exactly if the object
+///   is already linked in the field. For the call `entry` this holds if no member has the key.
+/// - If the call searches a tree of n members, it makes v looks (key comparisons), where `2^v <= (n + 1)^2`. It makes at least one
+///   look if there is a member. A range returns the looks of both its searches. A search for `Unbounded` makes no look.
+/// - If the tree is sorted, `find` and an occupied `entry` return the first member with the key, and no member has the key of
 ///   a vacant entry. `lower_bound` and `upper_bound` return the first and the last member within the bound, and `range` returns
-///   all members within both.
-/// - An insert by key adds the object after all members whose keys are not greater. A vacant entry adds it after all members
-///   whose keys are not greater than the key of the entry.
+///   all members within both bounds.
+/// - An insert by key adds the object after all members whose keys are not greater than the key of the object. A vacant entry adds
+///   the object after all members whose keys are not greater than the key of the entry.
 /// - A sorted collection stays sorted, with members of equal keys in the order of their insertion. The exceptions are calls that
-///   insert an object into it by position or by another key, that reverse, splice, split or dispose of it, or that give a member
-///   another key.
+///   insert an object into the collection by position or by a key that is not the object's own. Calls that reverse, splice, split
+///   or dispose of the collection, or that give a member another key, are exceptions, too.
 /// - All members are linked, all linked places have objects, all objects are at places below 2^32, no member is shared, and each
 ///   cursor is null or on a member.
 #[inline]
@@ -47,14 +47,14 @@ where
     world.answer(command)
 }
 
-/// Makes the calls in order as [`World::run`] does. Its contract states for each call, with the world before and after it, what that of [`answer`]
-/// states for one.
+/// Makes the calls in order as [`World::run`] does. For each call, with the world before and after it, its contract states what the contract of
+/// [`answer`] states for one call.
 ///
-/// It appends the answers. So after any list of calls, every answer, and the sequences, cursors and linked places of each field, are those that the
-/// model defines by cuts and joins of sequences without common members. An insert is refused exactly if its object is already linked. A tree that
-/// only inserts by key and removals have changed has its members with equal keys in the order of their insertion.
+/// It appends the answers to `answers`. After any list of calls, every answer, sequence, cursor and linked place is the one that the model defines.
+/// The model cuts and joins sequences without common members. An insert is refused exactly if its object is already linked. A tree that only inserts
+/// by key and removals have changed has its members with equal keys in the order of their insertion.
 ///
-/// If it is refused for memory, neither the world nor the answers have changed.
+/// If there is not enough memory for the answers, neither the world nor the answers have changed.
 pub fn run<A: KeyAdapter, M: Allocator + Copy>(
     world: &mut World<A, M>,
     commands: &[Command<A::Value, A::Key>],

@@ -1,7 +1,7 @@
-//! The kind of XOR lists: each entry stores the exclusive or of both neighbors, and a list stores both ends.
+//! The kind of XOR lists. Each entry stores the exclusive or of the words of its two neighbors, and a list stores its first and last members.
 //!
 //! ```text
-//! let list: Chain<XorLinked, Job> = Chain::new();
+//! let list: LinkList<XorLinked, Job> = LinkList::new();
 //! ```
 
 ghost use Rattle.std.specs.Prelude.{true, ⊤};
@@ -14,7 +14,7 @@ use ic_link_ops::xor_linked_list::XorLinkedListOps;
 use ic_link_ops::{LinkOps, PlaceWord};
 use ic_unsafe_ref::Place;
 
-/// Lists whose entries store the exclusive or of both neighbors.
+/// The kind of lists whose entries store the exclusive or of the words of both neighbors.
 pub struct XorLinked;
 
 impl ListKind for XorLinked {

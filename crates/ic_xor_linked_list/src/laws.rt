@@ -1,5 +1,5 @@
-//! What follows from several calls of an XOR list together. Each law is the contract of a function: the laws of every list, that
-//! `reverse` reverses the sequence, and that two reversals restore it.
+//! Laws about several calls of an XOR list. Each law is the contract of a function. Two laws are special to XOR lists: `reverse` reverses the
+//! sequence, and two reversals restore the sequence. The other laws hold for every list.
 //!
 //! ```text
 //! laws::reversed_is_represented(&mut list, &links); // its members in the opposite order
@@ -15,9 +15,9 @@ pub use ic_chain::laws::{
 };
 use ic_link_ops::xor_linked_list::XorLinkedListOps;
 
-/// Reverses a list: a table that represented a sequence for it represents the reversed sequence then.
+/// The law of a reversal: if a table represents a sequence for the list, it represents the reversed sequence for the reversed list.
 ///
-/// No entry states which of its neighbors is before. O(1), and the table is not written.
+/// No entry of an XOR list states which of its neighbors is before it. The call does not write the table. O(1).
 pub fn reversed_is_represented<T, L: XorLinkedListOps>(list: &mut XorLinkedList<T>, links: &L)
     ensures shown { (s : List Place) → Represents L.linked L.HasNeighbors (L.table links.now) list.old s
         → Represents L.linked L.HasNeighbors (L.table links.now) list.new (reverse s) }
@@ -26,9 +26,9 @@ pub fn reversed_is_represented<T, L: XorLinkedListOps>(list: &mut XorLinkedList<
     list.reverse();
 }
 
-/// Reverses a list twice: a table represents the same sequence for it as before.
+/// The law of two reversals: a list that is reversed twice is as it was, so a table represents the same sequence for it.
 ///
-/// It takes no table, so no entry is written. O(1).
+/// The call takes no table, so it writes no entry. O(1).
 pub fn reversed_twice<T>(list: XorLinkedList<T>) -> XorLinkedList<T>
     ensures { result ≡ list }
 {

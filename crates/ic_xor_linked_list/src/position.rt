@@ -1,7 +1,7 @@
-//! What cursors of XOR lists store of a position: the member that they are on, and the place after it.
+//! What a cursor of an XOR list stores about its position: the member that it is on, and the next place.
 //!
-//! To read one neighbor from an entry, a cursor has to know the other. So a position is two words: that of its own place, and the
-//! exclusive or of this word and the next place's.
+//! To read one neighbor from an entry, a cursor must know the other neighbor. Therefore a position is two words. One is the word of its own place.
+//! The other is the exclusive or of this word and the word of the next place.
 
 ghost use Rattle.std.specs.Prelude.{◌≡◌, Option, Some, None, IfSome};
 ghost use Rattle.ic_unsafe_ref.specs.declared.place.Place.{Place};
@@ -13,7 +13,8 @@ use ic_link_ops::{PlaceWord, Word};
 use ic_unsafe_ref::Place;
 use std::marker::Model;
 
-/// A position and the place after it. It stores the word of its own place, and the exclusive or of both words.
+/// A position in an XOR list, and the place after it. The position stores the word of its own place, and the exclusive or of this word and the word
+/// of the next place.
 #[derive(Drop)]
 pub struct PositionWithNext {
     current: PlaceWord,
@@ -32,7 +33,7 @@ impl Model for PositionWithNext {
 }
 
 impl PositionWithNext {
-    // The position on this place, none for null, with that place after it.
+    // The position on the place `current`, or at null if it is none. The place after the position is `next`.
     #[inline]
     fn at(current: Option<Place>, next: Option<Place>) -> PositionWithNext
         ensures { result ≡ position_on current next }
@@ -43,7 +44,7 @@ impl PositionWithNext {
         }
     }
 
-    /// The place after the member that the position is on. At null the result has no meaning. It reads no table. O(1).
+    /// The place after the member that the position is on. If the position is on no member, the result has no meaning. The call reads no table. O(1).
     #[inline]
     pub fn next(&self) -> Option<Place>
         ensures { IfSome self.now (λ at. result ≡ at.next) }

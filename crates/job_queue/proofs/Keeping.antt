@@ -1,4 +1,4 @@
--- What a queue keeps over each of its calls: a list with the values that wait.
+-- Lemmas which show that each call of a queue maintains a list whose members have the waiting jobs.
 use Rattle.std.specs.Prelude.{Result, Ok, Err, IfErr, IsErr, IsErrAnd}
 use Rattle.std.proofs.Common.{◌≡◌, ◌^◌, leb, None, Some, List, [], ◌∷◌, drop, refl, sym, ap, subst, ◌∙◌, arith}
 use Rattle.std.proofs.lemmas.Bool.{false_from_ne_true}
@@ -12,12 +12,12 @@ use Rattle.ic_linked_list.proofs.ListedValues.{has_taken}
 use Rattle.job_queue.specs.declared.queue.Job.{Job}
 use Rattle.job_queue.specs.Kept.{Jobs, jobs_of, queue_of, IsKept}
 
--- a list of these jobs
+-- the members of the list have the given jobs, in order
 abbrev pub Has : {A : Type 0} → Objects Job → DoublyLinkOps A → Ends → List Job → Type 0
 Has objects links list jobs = HasValues neighbors_of is_linked (plain_table links) list objects jobs
 
 module _ {A : Type 0} (links : DoublyLinkOps A) {objects : Objects Job} {list : Ends} {jobs : List Job} where
-  -- THESE ARE THE JOBS THAT WAIT, and the queue keeps them
+  -- THE WAITING JOBS are the given jobs if the members of the list have these jobs
   pub jobs_are : Has objects links list jobs → jobs_of objects links list ≡ jobs
   jobs_are has = ap (values_at objects) (plain_members links has.shown) ∙ has.are
 
@@ -27,7 +27,7 @@ module _ {A : Type 0} (links : DoublyLinkOps A) {objects : Objects Job} {list : 
   pub kept : Has objects links list jobs → IsKept objects links list
   kept has = subst (Has objects links list) (sym (jobs_are has)) has
 
--- NO JOB WAITS where no object is and nothing is linked
+-- NO JOB WAITS if there is no object, the table is empty and the list has no members
 pub has_nothing : {A : Type 0} (objects : Objects Job) (links : DoublyLinkOps A) (list : Ends) → ((p : Place) → object_at objects p ≡ None) → (plain_table links).extent.places ≡ 0
     → list ≡ no_members → Has objects links list []
 has_nothing objects links list vacant none empty = record {
@@ -39,7 +39,7 @@ has_nothing objects links list vacant none empty = record {
 }
 
 module _ {A : Type 0} (links : DoublyLinkOps A) {objects : Objects Job} {list : Ends} (k : IsKept objects links list) where
-  -- THE FIRST JOB IS TAKEN, and the others wait
+  -- THE FIRST JOB IS REMOVED, and all other jobs still wait in their order
   pub takes_next : (after : DoublyLinkOps A) {rest : Ends} {left : Objects Job} {p : Place} {job : Job} → ((s : List Place) → PlainRepresents links list s → Some p ≡ first s)
       → ((s : List Place) → PlainRepresents links list s → PlainRepresents after rest (drop 1 s)) → Unlinks is_linked (plain_table links) (plain_table after) p
       → object_at objects p ≡ Some job → Frees objects left p
@@ -48,7 +48,7 @@ module _ {A : Type 0} (links : DoublyLinkOps A) {objects : Objects Job} {list : 
       let begins = stand_first objects p there (answer k.members k.shown) (record { placed = k.placed; are = k.are }) in
       (begins, (has_taken (λ e. refl) (subst (Has objects links list) begins k) answer removed released refl there frees).1)
 
--- an error that is passed on
+-- a call passes on the error `e` of the result `r`: what holds of `e` holds of the error in `r`
 pub passed_on : {T E : Type 0} (P : E → Type 0) (r : Result T E) {e : E} → IsErr r × IsErrAnd r (λ passed. passed ≡ e) → P e → IfErr r P
 passed_on P (Err passed) is p = subst P (sym is.1) p
 passed_on P (Ok x) is p = absurd is.1

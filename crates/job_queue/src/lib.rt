@@ -1,4 +1,4 @@
-//! A queue of jobs, as a first example: a list of values of a struct of your own, with its proof.
+//! A queue of jobs, which is a first example: a list of values of a struct of your own, with its proof.
 #![tactic(auto)]
 
 mod queue;

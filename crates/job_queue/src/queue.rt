@@ -1,4 +1,4 @@
-//! The queue.
+//! The type `JobQueue` and its calls.
 //!
 //! ```text
 //! let mut queue = JobQueue::new(rt.alloc());
@@ -19,15 +19,15 @@ use std::marker::Model;
 /// A job that waits to be run.
 #[derive(Drop, PartialEq, Eq, Debug)]
 pub struct Job {
-    /// The number by which the owner knows the job.
+    /// The number of the job. The caller chooses it.
     pub number: u64,
-    /// How many seconds the job will run.
+    /// The number of seconds that the job will run.
     pub seconds: u32,
 }
 
-/// Jobs that wait, in the order in which they were added.
+/// A queue of waiting jobs, in the order in which they were added.
 ///
-/// A contract sees them as a list, and whether all places are in use.
+/// A contract sees the waiting jobs as a list, and whether all places are in use.
 #[derive(Drop)]
 pub struct JobQueue<A: Allocator = Global> {
     pool: Pool<Job, LinkOps<A>, A>,
@@ -58,10 +58,10 @@ impl<A: Allocator> JobQueue<A> {
         }
     }
 
-    /// Adds a job at the back. O(1), and it takes memory only if the pool grows.
+    /// Adds a job at the back of the queue. O(1), and it takes memory only if the pool grows.
     ///
-    /// If it is refused, the caller gets the job back, and the queue is as it was. The error is `NoPlaceLeft` exactly if all 4,294,967,296 places are
-    /// in use, and otherwise `OutOfMemory`.
+    /// If the job is refused, the caller gets it back, and the queue has not changed. The error is `NoPlaceLeft` exactly if all 4,294,967,296 places
+    /// are in use, and otherwise `OutOfMemory`.
     pub fn add(&mut self, job: Job) -> Result<(), PlaceError<Job>>
         ensures added { OnOk result (self.new.waiting ≡ self.old.waiting ++ job ∷ []) }
         ensures refused { IfErr result (λ refused. (value_of refused ≡ job) × (self.new ≡ self.old) × (lacks_place refused ≡ self.old.is_full)) }

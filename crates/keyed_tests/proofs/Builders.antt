@@ -1,4 +1,4 @@
--- A builder without members.
+-- A builder with no members represents the empty sequence, whatever the table contains.
 use Rattle.std.proofs.Common.{◌≡◌, [], refl}
 use Rattle.ic_link_ops.specs.Chains.{Ends, no_members}
 use Rattle.ic_link_ops.specs.RedBlackTree.{Node}

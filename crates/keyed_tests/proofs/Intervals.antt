@@ -1,4 +1,4 @@
--- Intervals at the members of a tree, and how many of them have been counted.
+-- Lemmas for a loop that counts the intervals of a tree which pass a test.
 use Rattle.std.proofs.Common.{◌≡◌, ◌+◌, ◌<◌, ℕ, suc, Bool, not, Option, Some, None, List, [], ◌∷◌, ◌++◌, length, refl, sym, ap, ◌∙◌, subst, arith, append_assoc}
 use Rattle.std.proofs.lemmas.List.Filters.{length-filter_both}
 use Rattle.std.specs.List.{filter}
@@ -11,11 +11,11 @@ use Rattle.ic_rbtree.specs.Borders.{IsSorted}
 use Rattle.ic_rbtree.specs.SortedObjects.{keys_at, RepresentsSorted}
 use Rattle.ic_augmented.proofs.AllOverlaps.{FirstFound, first_found, none_passes}
 
--- a start is its own key
+-- the start of an interval is its own key
 abbrev pub own : ℕ → ℕ
 own start = start
 
--- the represented members are placed, and in order
+-- if a tree represents the sequence `s` and is sorted by the starts, then there is an object at each member of `s`, and the keys of `s` are in order
 pub in_order_at : {E : Type 0} {n : E → Node} {t : Table E} {root : Option Place} {starts : Objects ℕ} {s : List Place} → Represents n t root s → RepresentsSorted own (Represents n t root) starts
     → ArePlaced starts s × IsSorted nat_cmp (keys_at own starts s)
 in_order_at {starts = starts} shown q =
@@ -23,7 +23,7 @@ in_order_at {starts = starts} shown q =
     (subst (ArePlaced starts) same q.placed.placed, subst (λ (t : List Place). IsSorted nat_cmp (keys_at own starts t)) same q.sorted)
 
 module _ (test : Place → Bool) (s : List Place) where
-  -- so many of s that pass are counted, and the next one stands there
+  -- `count` members of `s` that pass the test have been counted, and `at` is the next member that passes, or none
   pub record IsCounted (count : ℕ) (at : Option Place) : Type 0 where
     pub front : List Place
     pub back : List Place
@@ -35,7 +35,7 @@ module _ (test : Place → Bool) (s : List Place) where
   none_counted next = record { front = []; back = s; same = refl; next = next; counted = omega arith }
 
   module _ {count : ℕ} {at : Option Place} {p : Place} (k : IsCounted count at) (is : at ≡ Some p) where
-    -- the next one, as a member
+    -- the next member that passes the test splits the rest of the sequence into the members before it and after it
     abbrev pub found : FirstFound test k.back p
     found = first_found test k.back p (sym k.next ∙ is)
 
@@ -57,10 +57,10 @@ module _ (test : Place → Bool) (s : List Place) where
       counted = omega (arith, k.counted, rest_is);
     }
 
-    -- no more are counted than there are places
+    -- the count is below the number of all places, because no place occurs twice in the sequence
     pub few_counted : IsDistinct s → count < 8589934591
     few_counted distinct = omega (arith, k.counted, rest_is, length-filter_both test (λ q. not (test q)) (λ q. refl) s, few_places s distinct)
 
-  -- all are counted
+  -- if there is no next member, then the count is the number of all members that pass the test
   pub all_counted : {count : ℕ} {at : Option Place} (k : IsCounted count at) → at ≡ None → count ≡ length (filter test s)
   all_counted k none = let rest : length (filter test k.back) ≡ 0 = ap length (none_passes test k.back (sym k.next ∙ none)) in omega (arith, k.counted, rest)

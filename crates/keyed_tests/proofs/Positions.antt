@@ -1,10 +1,10 @@
--- Members by their position, and those that pass a test.
+-- Lemmas on the position of a member in a sequence.
 use Rattle.std.proofs.Common.{◌≡◌, ℕ, zero, suc, ◌≤◌, Some, None, List, [], ◌∷◌, ◌++◌, length, length-append, min, refl, sym, ap, arith}
 use Rattle.std.specs.List.{slice_get}
 use Rattle.ic_unsafe_ref.specs.declared.place.Place.{Place}
 use Rattle.ic_link_ops.proofs.SequenceLemmas.{none_not, some_same}
 
--- a member, and as many before it as its position tells
+-- the sequence `s` has the place `p` at position `k`: exactly `k` members are before `p`
 pub record AtPosition (s : List Place) (k : ℕ) (p : Place) : Type 0 where
   pub front : List Place
   pub back : List Place
@@ -22,7 +22,7 @@ past_all [] k e = omega arith
 past_all (x ∷ s) zero e = absurd (none_not x e)
 past_all (x ∷ s) (suc k) e = omega (arith, past_all s k e)
 
--- so the position is below the length, or the length is
+-- the position of a member is the lesser of this position and the length of the sequence
 pub least_here : (s : List Place) (k : ℕ) {p : Place} → AtPosition s k p → k ≡ min k (length s)
 least_here s k {p} a =
     let e : length s ≡ length (a.front ++ p ∷ a.back) = ap length a.same in omega (arith, e, length-append a.front (p ∷ a.back), a.position)

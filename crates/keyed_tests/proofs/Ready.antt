@@ -1,4 +1,4 @@
--- That a tree without members is ready, and that the room for summaries stays.
+-- A tree with no members is ready for reads and edits, and calls do not reduce the room for summaries.
 use Rattle.std.proofs.Common.{◌≡◌, ◌<◌, Option, None, List, [], ◌∷◌, refl, subst, true, sym, ap, ◌∙◌, Bool, false, Result, Ok, Err, OnOk, OnErr, IfErr, arith}
 use Rattle.std.specs.declared.cmp.Ordering.{Ordering}
 use Rattle.std.specs.Result.{is_ok}
@@ -9,15 +9,15 @@ use Rattle.ic_rbtree.specs.Closed.{IsNode}
 use Rattle.ic_rbtree.specs.Ordered.{InsertsInOrder}
 use Rattle.ic_rbtree.specs.Tree.{root_of}
 use Rattle.ic_rbtree.specs.declared.tree.RBTree.{RBTree}
-use Rattle.ic_augmented.specs.Consistent.{RepresentsConsistent, RepresentsSummed}
-use Rattle.ic_augmented.specs.Summed.{links_of, summaries_of}
-use Rattle.ic_augmented.specs.SummedSteps.{TraceSummed}
+use Rattle.ic_augmented.specs.Consistent.{RepresentsConsistent, RepresentsAugmented}
+use Rattle.ic_augmented.specs.Augmented.{links_of, summaries_of}
+use Rattle.ic_augmented.specs.AugmentedSteps.{TraceAugmented}
 use Rattle.ic_augmented.specs.Summaries.{Summaries}
-use Rattle.ic_augmented.specs.declared.summed.Summed.{Summed}
+use Rattle.ic_augmented.specs.declared.augmented.Augmented.{Augmented}
 use Rattle.ic_augmented.proofs.StepLemmas.{inserted_right}
 
--- nothing is represented, summed, of a tree with no root
-pub nothing_summed : {E S : Type 0} {n : E → Node} (z : Summaries S) (t : Table E) {root : Option Place} → root ≡ None → RepresentsSummed n z t root []
+-- a tree with no root represents the empty sequence, all of whose summaries are fresh
+pub nothing_summed : {E S : Type 0} {n : E → Node} (z : Summaries S) (t : Table E) {root : Option Place} → root ≡ None → RepresentsAugmented n z t root []
 nothing_summed {n = n} z t e = rw e (record {
   shows = record {
     tree = leaf;
@@ -28,16 +28,16 @@ nothing_summed {n = n} z t e = rw e (record {
   summed = tt;
 })
 
--- and it is consistent
+-- a tree with no root represents the empty sequence, all of whose fresh summaries are right
 pub nothing_consistent : {E S : Type 0} {n : E → Node} (z : Summaries S) (t : Table E) {root : Option Place} → root ≡ None → RepresentsConsistent n z t root []
 nothing_consistent {n = n} z t e = ((nothing_summed {n = n} z t e).shows, λ q member but x fresh. absurd (omega (arith, member)))
 
--- what holds of `Ok` holds where the answer is one
+-- if a result is `Ok`, then what is known for `Ok` holds
 pub on_ok : {X Y P : Type 0} (r : Result X Y) → is_ok r ≡ true → OnOk r P → P
 on_ok (Ok x) e holds = holds
 on_ok (Err y) e holds = let never : false ≡ true = e in absurd (cc)
 
--- and what follows from it, too
+-- if Q follows from P, and P holds if a result is `Ok`, then Q holds if the result is `Ok`
 pub on_ok_map : {X Y P Q : Type 0} → (P → Q) → (r : Result X Y) → OnOk r P → OnOk r Q
 on_ok_map follows (Ok x) holds = follows holds
 on_ok_map follows (Err y) holds = tt
@@ -46,14 +46,15 @@ pub if_err_map : {X Y : Type 0} {F G : Y → Type 0} → ((y : Y) → F y → G 
 if_err_map follows (Ok x) holds = tt
 if_err_map follows (Err y) holds = follows y holds
 
--- whatever an insert answered
+-- if the goal holds for an insert that is accepted and for an insert that is refused, then it holds for each result of an insert
 pub either_answer : {X Y P Q Goal : Type 0} (F : Y → Type 0) (r : Result X Y) → OnOk r P → OnErr r Q → IfErr r F → (P → Goal) → (Q → (y : Y) → F y → Goal) → Goal
 either_answer F (Ok x) holds refused unchanged accepts refuses = accepts holds
 either_answer F (Err y) holds refused unchanged accepts refuses = refuses refused y unchanged
 
--- AFTER AN INSERT, whatever it answered, each fresh summary is right, and there is as much room
+-- AFTER AN INSERT, whatever its result is, each fresh summary is right, the table covers as many places, and each place still has its room for a
+-- summary
 module _ {N M E S A : Type 0} (Trace : N → N → List LinkStep → Type 0) (n : E → Node) (table : N → Table E) (summaries : M → Summaries S) (Covers : M → Place → Type 0) (Refused : N → N → Place → Type 0)
-    (keeps : (a b : N) (p : Place) → Refused a b p → table b ≡ table a) (old new : Summed N M) (tree after : RBTree A (Option Place)) (p : Place) where
+    (keeps : (a b : N) (p : Place) → Refused a b p → table b ≡ table a) (old new : Augmented N M) (tree after : RBTree A (Option Place)) (p : Place) where
   pub record AfterInsert : Type 0 where
     pub members : List Place
     pub right : RepresentsConsistent n (summaries (summaries_of new)) (table (links_of new)) (root_of after) members
@@ -61,7 +62,7 @@ module _ {N M E S A : Type 0} (Trace : N → N → List LinkStep → Type 0) (n 
     pub extent : (table (links_of new)).extent ≡ (table (links_of old)).extent
 
   pub after_insert : {X Y : Type 0} (F : Y → Type 0) (at : Place → Ordering) (r : Result X Y) (s : List Place) → RepresentsConsistent n (summaries (summaries_of old)) (table (links_of old)) (root_of tree) s
-      → OnOk r (InsertsInOrder (Represents n) at (table (links_of old)) (table (links_of new)) (root_of after) s p) → OnOk r (TraceSummed Trace n table summaries Covers old new (acquires p ∷ []))
+      → OnOk r (InsertsInOrder (Represents n) at (table (links_of old)) (table (links_of new)) (root_of after) s p) → OnOk r (TraceAugmented Trace n table summaries Covers old new (acquires p ∷ []))
       → OnErr r (Refused (links_of old) (links_of new) p × (summaries_of new ≡ summaries_of old)) → IfErr r (λ y. F y × (after ≡ tree)) → AfterInsert
   after_insert F at (Ok x) s h inserted does refused unchanged =
       let i = inserted_right does h.1 inserted in
@@ -75,7 +76,7 @@ module _ {N M E S A : Type 0} (Trace : N → N → List LinkStep → Type 0) (n 
         extent = ap (λ (t : Table E). t.extent) same;
       }
 
--- there is room at each place that is covered now, and at each linked one, where the table covers as many places as before
+-- if a call does not change the extent of a table, then there is room at each place that the table covers afterwards, and at each linked place
 module _ {L E : Type 0} (node : E → Node) (table : L → Table E) (linked : E → Bool) (alike : (e : E) → (node e).linked ≡ linked e)
     (law : (t : L) (q : Place) → IsLinked linked (table t) q → IsCovered (table t) q) (Room : Place → Type 0) (old : L) (room : (q : Place) → IsCovered (table old) q → Room q) where
   pub room_covered : (new : L) → (table new).extent ≡ (table old).extent → (q : Place) → IsCovered (table new) q → Room q

@@ -1,4 +1,4 @@
--- Two trees of one table that share no member: one gets a member more, and what comes out of calls on both is placed.
+-- Lemmas on two trees of one table that share no member.
 use Rattle.std.proofs.Common.{◌≡◌, Bool, true, Option, None, IsSome, [], ◌∷◌, Result, Ok, Err, OnOk, sym, subst}
 use Rattle.std.specs.declared.cmp.Ordering.{Ordering}
 use Rattle.ic_link_ops.specs.Prelude.{Place, Objects, object_at, is_placed, IsDisjoint, join, insert, Table, IsUnlinked, ArePlaced}
@@ -10,7 +10,7 @@ use Rattle.ic_rbtree.specs.Ordered.{InsertsInOrder}
 use Rattle.ic_tree_merges.specs.TwoTrees.{TwoRepresented}
 
 module _ {E V : Type 0} {n : E → Node} {objects : Objects V} where
-  -- two new trees
+  -- two trees with no roots represent two empty sequences, which share no member
   pub two_new : {t : Table E} {a b : Option Place} → a ≡ None → b ≡ None → TwoRepresented (Represents n) objects t a b
   two_new {t} none other_none = record {
     first = [];
@@ -22,7 +22,7 @@ module _ {E V : Type 0} {n : E → Node} {objects : Objects V} where
     other_placed = tt;
   }
 
-  -- the first has a member more, which was not linked
+  -- if an unlinked place is inserted into the first tree, then the two trees still share no member, and there is an object at each member
   pub one_more : {linked : E → Bool} → ((e : E) → (n e).linked ≡ linked e) → {old new : Table E} {a more b : Option Place} {p : Place} {at : Place → Ordering}
       → (q : TwoRepresented (Represents n) objects old a b) → is_placed objects p ≡ true → IsUnlinked linked old p → InsertsInOrder (Represents n) at old new more q.first p
       → TwoRepresented (Represents n) objects new more b
@@ -40,7 +40,7 @@ module _ {E V : Type 0} {n : E → Node} {objects : Objects V} where
         other_placed = q.other_placed;
       }
 
--- two facts of one answer
+-- if P holds and Q holds in case a result is `Ok`, then both hold in that case
 pub both_ways : {A X : Type 0} (P Q : Type 0) (r : Result A X) → OnOk r P → OnOk r Q → OnOk r (P × Q)
 both_ways P Q (Ok a) p q = (p, q)
 both_ways P Q (Err e) p q = tt

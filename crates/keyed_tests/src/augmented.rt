@@ -1,4 +1,4 @@
-//! Trees with summaries: edits and questions in turn, each requirement met by the call before.
+//! Tests of trees with summaries. Edits and reads alternate, and each call leaves what the next call requires.
 
 ghost use Rattle.std.specs.Prelude.{◌≡◌, ◌<◌, ◌≤◌, None, List, filter, length, map, min};
 ghost use Rattle.std.specs.Ordering.{nat_cmp};
@@ -7,12 +7,12 @@ ghost use Rattle.ic_link_ops.specs.ThreeWords.{node_of};
 ghost use Rattle.ic_rbtree.specs.Borders.{IsSorted};
 ghost use Rattle.ic_rbtree.specs.KeyedTrees.{keyed_table};
 ghost use Rattle.ic_rbtree.specs.Tree.{root_of};
-ghost use Rattle.ic_augmented.specs.Consistent.{RepresentsSummed};
+ghost use Rattle.ic_augmented.specs.Consistent.{RepresentsAugmented};
 ghost use Rattle.ic_augmented.specs.Counts.{counts};
 ghost use Rattle.ic_augmented.specs.Greatest.{greatest, number_at, is_greater};
 ghost use Rattle.ic_augmented.specs.Intervals.{start_in, overlaps};
-ghost use Rattle.ic_augmented.specs.Summed.{links_of, summaries_of};
-ghost use Rattle.ic_augmented.specs.SumTables.{joined, room_of};
+ghost use Rattle.ic_augmented.specs.Augmented.{links_of, summaries_of};
+ghost use Rattle.ic_augmented.specs.AugmentedTables.{joined, room_of};
 ghost use Rattle.keyed_tests.specs.Ready.{IsReady};
 
 mod intervals;
@@ -20,7 +20,7 @@ mod intervals;
 use crate::asserts::assert_same;
 use crate::keyed::{OwnKey, keyed_links};
 use ic_augmented::{
-    Counts, Greatest, RecomputeSummaries, SumTable, Summarize, Summed, first_greater,
+    Augmented, AugmentedTable, Counts, Greatest, RecomputeSummaries, Summarize, first_greater,
     first_overlap, index_of, len, nth, propagate, refresh, set_value,
 };
 use ic_link_ops::LinkValues;
@@ -31,28 +31,31 @@ use ic_unsafe_ref::{Place, UnsafeRef};
 use std::alloc::{Allocator, Global};
 use std::process::Abort;
 
-/// An empty tree, with links at the first places, these keys beside them, and room for a summary of each.
+/// Returns an empty tree and a table of links. The table covers as many places as there are keys, each with its key and with room for a summary.
 fn empty_tree<V: Summarize<u64>>(
     rt: &impl Abort,
     alloc: Global,
     keys: &[u64],
-) -> (RBTree<OwnKey>, Summed<LinkOpsWith<u64>, SumTable<V, u64>>)
+) -> (
+    RBTree<OwnKey>,
+    Augmented<LinkOpsWith<u64>, AugmentedTable<V, u64>>,
+)
     requires { length keys.now < 4294967296 }
     ensures covers { (keyed_table (links_of result.1)).extent.places ≡ length keys.now }
     ensures ready { IsReady node_of keyed_table (joined V.join V.initial) (λ summaries q. index_of q < room_of summaries) result.0 result.1 }
     ensures empty { root_of result.0 ≡ None }
 {
-    let mut summaries = SumTable::new(alloc);
+    let mut summaries = AugmentedTable::new(alloc);
     let covered = summaries.cover(keys.len());
     assert!(rt; covered.is_ok());
     let links = keyed_links(rt, alloc, keys);
-    (RBTree::new(OwnKey), Summed { links, summaries })
+    (RBTree::new(OwnKey), Augmented { links, summaries })
 }
 
-// Inserts the object in the order of its key, and renews the summaries.
+// Inserts the object into the tree at the position of its key, and computes the stale summaries again.
 fn put<A: KeyAdapter, L: RBTreeOps + LinkValues<A::Value>, M: RecomputeSummaries>(
     tree: &mut RBTree<A>,
-    summed: &mut Summed<L, M>,
+    summed: &mut Augmented<L, M>,
     object: UnsafeRef<A::Value>,
 )
     requires covered { IsCovered (L.table (links_of summed.old)) object }
@@ -64,11 +67,11 @@ fn put<A: KeyAdapter, L: RBTreeOps + LinkValues<A::Value>, M: RecomputeSummaries
     refresh(tree, summed);
 }
 
-// Does the same, and updates only the summaries above the place.
+// Inserts the object into the tree at the position of its key, and updates only the summaries of the members above the object.
 fn put_and_propagate<A: KeyAdapter, L: RBTreeOps + LinkValues<A::Value>, M: RecomputeSummaries>(
     rt: &impl Abort,
     tree: &mut RBTree<A>,
-    summed: &mut Summed<L, M>,
+    summed: &mut Augmented<L, M>,
     object: UnsafeRef<A::Value>,
 )
     requires covered { IsCovered (L.table (links_of summed.old)) object }
@@ -82,14 +85,15 @@ fn put_and_propagate<A: KeyAdapter, L: RBTreeOps + LinkValues<A::Value>, M: Reco
     propagate(summed, place);
 }
 
-// Returns the position that a search from the member at a position finds, or the length if there is no member at that position.
+// Finds the member at the given position, and returns the position that is computed from this member. Returns the length of the tree if it has no
+// member at the given position.
 fn position_of_nth<T, N: NodeStore, A: Allocator>(
     tree: &RBTree<T>,
-    summed: &Summed<N, Counts<A>>,
+    summed: &Augmented<N, Counts<A>>,
     position: u64,
 ) -> u64
     requires ready { IsReady N.node N.table counts (λ summaries q. index_of q < room_of summaries) tree.now summed.now }
-    ensures least { (s : List Place) → RepresentsSummed N.node (counts (summaries_of summed.now)) (N.table (links_of summed.now)) (root_of tree.now) s
+    ensures least { (s : List Place) → RepresentsAugmented N.node (counts (summaries_of summed.now)) (N.table (links_of summed.now)) (root_of tree.now) s
         → result ≡ min position (length s) }
 {
     match nth(tree, summed, position) {
@@ -98,10 +102,10 @@ fn position_of_nth<T, N: NodeStore, A: Allocator>(
     }
 }
 
-// Removes the member at a position, if there is one, and updates the counts.
+// Removes the member at the given position, if there is one, updates the counts, and returns the place of the member.
 fn take_nth<T: KeyAdapter, L: RBTreeOps, A: Allocator>(
     tree: &mut RBTree<T>,
-    summed: &mut Summed<L, Counts<A>>,
+    summed: &mut Augmented<L, Counts<A>>,
     position: u64,
 ) -> Option<Place>
     requires ready { IsReady L.node L.table counts (λ summaries q. index_of q < room_of summaries) tree.old summed.old }
@@ -115,10 +119,10 @@ fn take_nth<T: KeyAdapter, L: RBTreeOps, A: Allocator>(
     Some(place)
 }
 
-// Gives the place a number, and finds the first member with a number above the bound.
+// Sets the number of the place, and returns the first member whose number is greater than the bound.
 fn first_above<T, L: RBTreeOps, A: Allocator>(
     tree: &RBTree<T>,
-    summed: &mut Summed<L, Greatest<A>>,
+    summed: &mut Augmented<L, Greatest<A>>,
     place: Place,
     number: u64,
     bound: u64,
@@ -127,7 +131,7 @@ fn first_above<T, L: RBTreeOps, A: Allocator>(
     requires ready { IsReady L.node L.table greatest (λ summaries q. index_of q < room_of summaries) tree.now summed.old }
     ensures ready { IsReady L.node L.table greatest (λ summaries q. index_of q < room_of summaries) tree.now summed.new }
     ensures number { number_at (summaries_of summed.new) place ≡ number }
-    ensures found { (s : List Place) → RepresentsSummed L.node (greatest (summaries_of summed.new)) (L.table (links_of summed.new)) (root_of tree.now) s
+    ensures found { (s : List Place) → RepresentsAugmented L.node (greatest (summaries_of summed.new)) (L.table (links_of summed.new)) (root_of tree.now) s
         → result ≡ first (filter (is_greater (number_at (summaries_of summed.new)) bound) s) }
     ensures extent { (L.table (links_of summed.new)).extent ≡ (L.table (links_of summed.old)).extent }
 {
@@ -136,15 +140,15 @@ fn first_above<T, L: RBTreeOps, A: Allocator>(
     first_greater(tree, summed, bound)
 }
 
-// The first interval that overlaps `[from, to)`: each starts at its key, and ends at its number.
+// Returns the first interval that overlaps `[from, to)`. The interval of a member starts at its key and ends at its number.
 fn first_overlapping<L: RBTreeOps + LinkValues<u64>>(
     tree: &RBTree<OwnKey>,
-    summed: &Summed<L, Greatest>,
+    summed: &Augmented<L, Greatest>,
     from: u64,
     to: u64,
 ) -> Option<Place>
     requires ready { IsReady L.node L.table greatest (λ summaries q. index_of q < room_of summaries) tree.now summed.now }
-    ensures found { (s : List Place) → RepresentsSummed L.node (greatest (summaries_of summed.now)) (L.table (links_of summed.now)) (root_of tree.now) s
+    ensures found { (s : List Place) → RepresentsAugmented L.node (greatest (summaries_of summed.now)) (L.table (links_of summed.now)) (root_of tree.now) s
         → IsSorted nat_cmp (map (start_in (L.values (links_of summed.now))) s)
         → result ≡ first (filter (overlaps (start_in (L.values (links_of summed.now))) (number_at (summaries_of summed.now)) from to) s) }
 {
@@ -154,7 +158,7 @@ fn first_overlapping<L: RBTreeOps + LinkValues<u64>>(
 // Inserts the objects at the places 0, 1 and 2.
 fn put_three<L: RBTreeOps + LinkValues<u64>, M: RecomputeSummaries>(
     tree: &mut RBTree<OwnKey>,
-    summed: &mut Summed<L, M>,
+    summed: &mut Augmented<L, M>,
 )
     requires covers { 3 ≤ (L.table (links_of summed.old)).extent.places }
     requires ready { IsReady L.node L.table M.summaries M.Covers tree.old summed.old }
@@ -166,12 +170,12 @@ fn put_three<L: RBTreeOps + LinkValues<u64>, M: RecomputeSummaries>(
     }
 }
 
-// Members by their position, and members that are removed by it. The keys at the places 0 to 3 are 40, 10, 30 and 20, so the places 1, 3, 2 and 0
-// have the positions 0 to 3.
+// Finds members by their position, and removes members by their position. The keys at the places 0 to 3 are 40, 10, 30 and 20, so the places 1, 3, 2
+// and 0 have the positions 0 to 3.
 fn play_positions<L: RBTreeOps + LinkValues<u64>>(
     rt: &impl Abort,
     tree: &mut RBTree<OwnKey>,
-    summed: &mut Summed<L, Counts>,
+    summed: &mut Augmented<L, Counts>,
 )
     requires covers { (L.table (links_of summed.old)).extent.places ≡ 4 }
     requires ready { IsReady L.node L.table counts (λ summaries q. index_of q < room_of summaries) tree.old summed.old }
@@ -186,12 +190,12 @@ fn play_positions<L: RBTreeOps + LinkValues<u64>>(
     assert_same(rt, take_nth(tree, summed, 1), Some(place_at(2)));
 }
 
-// The first member with a number above a bound, before and after one is raised, and the first interval that overlaps another. The keys at the
-// places 0 to 2 are 10, 20 and 30.
+// Finds the first member with a number above a bound, before and after the number of a member is raised. Then it finds the first interval that overlaps
+// a given interval. The keys at the places 0 to 2 are 10, 20 and 30.
 fn play_above<L: RBTreeOps + LinkValues<u64>>(
     rt: &impl Abort,
     tree: &mut RBTree<OwnKey>,
-    summed: &mut Summed<L, Greatest>,
+    summed: &mut Augmented<L, Greatest>,
 )
     requires covers { (L.table (links_of summed.old)).extent.places ≡ 3 }
     requires ready { IsReady L.node L.table greatest (λ summaries q. index_of q < room_of summaries) tree.old summed.old }

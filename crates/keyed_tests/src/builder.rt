@@ -1,4 +1,5 @@
-//! Trees that are built of objects in order, and taken apart again.
+//! Tests of the builder of trees: objects are appended in the order of their keys, a tree is built of them, and the tree is turned into a builder
+//! again.
 
 ghost use Rattle.std.specs.Prelude.{◌≡◌, ◌<◌, List};
 ghost use Rattle.ic_link_ops.specs.Prelude.{Place, first, IsCovered};
@@ -19,7 +20,7 @@ use ic_test_support::objects::{place_at, reference};
 use ic_unsafe_ref::{Place, UnsafeRef};
 use std::process::Abort;
 
-// Inserts the object after the members of the builder, unless it is linked, and returns the last member then.
+// Appends the object to the members of the builder, unless the object is linked, and returns the last member of the builder afterwards.
 fn push<A: KeyAdapter, L: RBTreeOps>(
     builder: &mut RBTreeBuilder<A>,
     links: &mut L,
@@ -34,7 +35,7 @@ fn push<A: KeyAdapter, L: RBTreeOps>(
     builder.last()
 }
 
-// Removes the first member of the builder, if it has members, and returns which one that was.
+// Removes the first member of the builder, if the builder has members, and returns the place of the removed member.
 fn pop<A: KeyAdapter, L: RBTreeOps>(builder: &mut RBTreeBuilder<A>, links: &mut L) -> Option<Place>
     requires shown { RepresentsVineSome L.node (L.table links.old) (ends_of builder.old) }
     ensures first { (s : List Place) → RepresentsVine L.node (L.table links.old) (ends_of builder.old) s → result ≡ first s }
@@ -45,7 +46,7 @@ fn pop<A: KeyAdapter, L: RBTreeOps>(builder: &mut RBTreeBuilder<A>, links: &mut 
     Some(object.place())
 }
 
-// Takes the tree apart, appends the object to its members, and builds it again. It also returns the first member.
+// Turns the tree into a builder, appends the object to its members, and builds a tree again. Returns the built tree and its first member.
 fn built_anew<A: KeyAdapter, L: RBTreeOps>(
     tree: RBTree<A>,
     links: &mut L,
@@ -69,8 +70,8 @@ fn has_keys<L: RBTreeOps + LinkValues<u64>>(tree: &RBTree<OwnKey>, links: &L, ke
     tree.iter(links, links).eq(keys)
 }
 
-// Three objects are pushed, the first is removed, and the others are built, taken apart, and built with a fourth. The keys 10 to 40 are beside the
-// links.
+// Appends three objects to a builder, removes the first one, and builds a tree of the other two. Then the tree is built again with a fourth object. The
+// table of links has the keys 10 to 40 beside the links.
 fn play<L: RBTreeOps + LinkValues<u64>>(rt: &impl Abort, links: &mut L)
     requires covers { (L.table links.old).extent.places ≡ 4 }
 {

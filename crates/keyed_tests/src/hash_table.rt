@@ -1,4 +1,4 @@
-//! Hash tables of numbers that are their own keys and their own hashes, so that the low bits of a number say in which chain it is.
+//! Tests of hash tables of numbers. Each number is its own key and its own hash, so that its low bits determine the chain to which it belongs.
 
 ghost use Rattle.std.specs.Prelude.{◌≡◌, ◌<◌, None, length, true};
 ghost use Rattle.std.specs.List.{AllByRecursion};
@@ -30,7 +30,7 @@ use std::alloc::{AllocError, Global};
 use std::hash::{BuildHasherDefault, FoldHasher};
 use std::process::Abort;
 
-// Says that a number is its own key, and its own hash.
+// The adapter of the hash tables, which says that a number is its own key and its own hash.
 #[derive(Clone, Copy)]
 struct OwnKey;
 
@@ -56,7 +56,7 @@ impl HashAdapter for OwnKey {
     ghost equal_alike = { λ _ k l e. eqb-true k l e };
 }
 
-// Says that a number is its own key, which std hashes.
+// Says that a number is its own key. The hash of the key is computed by std.
 #[derive(Clone, Copy)]
 struct ByNumber;
 
@@ -72,10 +72,10 @@ impl KeyOf for ByNumber {
     }
 }
 
-// The numbers of these tests, of which 10 and 20 occur twice.
+// The numbers that the tests use as objects. 10 and 20 occur twice.
 const NUMBERS: [u64; 8] = [10, 20, 10, 30, 20, 40, 50, 60];
 
-// Makes empty notes, these numbers as objects, a table of links that covers their places, and four empty buckets.
+// Returns empty notes, the numbers `NUMBERS` as objects, a table of links that covers their places, and four empty buckets.
 fn fixture(rt: &impl Abort, alloc: Global) -> (Text, Objects<u64>, LinkOps, Vec<PlaceWord>)
     ensures covers { (table wide no_word result.2).extent.places ≡ 8 }
     ensures placed { (q : Place) → index_of q < 8 → is_placed result.1 q ≡ true }
@@ -87,7 +87,7 @@ fn fixture(rt: &impl Abort, alloc: Global) -> (Text, Objects<u64>, LinkOps, Vec<
     (Text::new(alloc), objects, links, buckets)
 }
 
-// Puts the object in.
+// Inserts the object with this number into the hash table.
 fn put<A: HashAdapter<Value = u64>, L: SinglyLinkedListOps, B: BucketsFor<L>>(
     table: &mut HashTable<A, B>,
     links: &mut L,
@@ -107,7 +107,7 @@ fn put<A: HashAdapter<Value = u64>, L: SinglyLinkedListOps, B: BucketsFor<L>>(
     let _ = table.insert(links, objects, reference(index));
 }
 
-// Puts the object in unless a member has its key, and notes which has it.
+// Inserts the object unless a member has its key, and notes which member has the key.
 fn put_unique<A: HashAdapter<Value = u64>, L: SinglyLinkedListOps, B: BucketsFor<L>>(
     notes: &mut Text,
     table: &mut HashTable<A, B>,
@@ -126,7 +126,8 @@ fn put_unique<A: HashAdapter<Value = u64>, L: SinglyLinkedListOps, B: BucketsFor
     notes.add(object(found.unwrap_or(None)), " ");
 }
 
-// Returns the member with the object's key, if there is one. Otherwise it inserts the object, without a second search.
+// Returns the member with the object's key, if there is one. If no member has the key, the call inserts the object without a second search, and returns
+// `None`.
 fn enter<A: HashAdapter<Value = u64>, L: SinglyLinkedListOps, B: BucketsFor<L>>(
     adapter: A,
     table: &mut HashTable<A, B>,
@@ -151,7 +152,7 @@ fn enter<A: HashAdapter<Value = u64>, L: SinglyLinkedListOps, B: BucketsFor<L>>(
     }
 }
 
-// Returns the member with the object's key, or inserts the object if no member has it, and returns the object.
+// Returns the member with the object's key. If no member has the key, the call inserts the object and returns it.
 fn enter_or_find<A: HashAdapter<Value = u64>, L: SinglyLinkedListOps, B: BucketsFor<L>>(
     adapter: A,
     table: &mut HashTable<A, B>,
@@ -192,7 +193,7 @@ fn leave<A: HashAdapter<Value = u64>, L: SinglyLinkedListOps, B: BucketsFor<L>>(
     }
 }
 
-// Notes the first member with this key, and the next one.
+// Notes the first member with this key, and the next member with the same key.
 fn write_equals<A: HashAdapter<Value = u64>, L: SinglyLinkedListOps, B: BucketsFor<L>>(
     notes: &mut Text,
     table: &HashTable<A, B>,
@@ -209,7 +210,7 @@ fn write_equals<A: HashAdapter<Value = u64>, L: SinglyLinkedListOps, B: BucketsF
     }
 }
 
-// Notes the first member with this key, and how many looks the search took.
+// Notes the first member with this key, and how many members the search looked at.
 fn write_looks<A: HashAdapter<Value = u64>, L: SinglyLinkedListOps, B: BucketsFor<L>>(
     notes: &mut Text,
     adapter: A,
@@ -262,7 +263,7 @@ fn take_by<A: HashAdapter<Value = u64>, L: SinglyLinkedListOps, B: BucketsFor<L>
     notes.add(object(taken), " ");
 }
 
-// Keeps the objects below 40.
+// Removes all objects except the numbers below 40.
 fn keep_small<A: HashAdapter<Value = u64>, L: SinglyLinkedListOps, B: BucketsFor<L>>(
     table: &mut HashTable<A, B>,
     links: &mut L,
@@ -276,7 +277,7 @@ fn keep_small<A: HashAdapter<Value = u64>, L: SinglyLinkedListOps, B: BucketsFor
     table.retain(links, objects, |number| *number < 40);
 }
 
-// Takes one bucket more into use, and notes whether it could.
+// Takes one more bucket into use, and notes whether there was an unused one.
 fn grow<A: HashAdapter<Value = u64>, L: SinglyLinkedListOps, B: BucketsFor<L>>(
     notes: &mut Text,
     table: &mut HashTable<A, B>,
@@ -292,7 +293,7 @@ fn grow<A: HashAdapter<Value = u64>, L: SinglyLinkedListOps, B: BucketsFor<L>>(
     notes.add(Answer::Truth(is_grown), " ");
 }
 
-// Takes the last bucket out of use, and notes whether it could.
+// Takes the last bucket out of use, and notes whether the call did so.
 fn shrink<A: HashAdapter<Value = u64>, L: SinglyLinkedListOps, B: BucketsFor<L>>(
     notes: &mut Text,
     table: &mut HashTable<A, B>,
@@ -308,7 +309,7 @@ fn shrink<A: HashAdapter<Value = u64>, L: SinglyLinkedListOps, B: BucketsFor<L>>
     notes.add(Answer::Truth(is_shrunk), " ");
 }
 
-// Removes all members.
+// Removes all members of the hash table.
 fn empty<A: HashAdapter<Value = u64>, L: SinglyLinkedListOps, B: BucketsFor<L>>(
     table: &mut HashTable<A, B>,
     links: &mut L,
@@ -321,7 +322,7 @@ fn empty<A: HashAdapter<Value = u64>, L: SinglyLinkedListOps, B: BucketsFor<L>>(
     table.clear(links);
 }
 
-// Notes how many members and chains there are, and whether the table is empty.
+// Notes how many members and how many chains the table has, and whether it is empty.
 fn write_counts<A: HashAdapter<Value = u64>, B: BucketRow>(
     notes: &mut Text,
     table: &HashTable<A, B>,
@@ -331,7 +332,7 @@ fn write_counts<A: HashAdapter<Value = u64>, B: BucketRow>(
     notes.add(Answer::Truth(table.is_empty()), " ");
 }
 
-// Notes the objects, chain by chain.
+// Notes all objects of the table, chain by chain.
 fn write_members<A: HashAdapter<Value = u64>, L: SinglyLinkedListOps, B: BucketsFor<L>>(
     notes: &mut Text,
     table: &HashTable<A, B>,
@@ -345,7 +346,7 @@ fn write_members<A: HashAdapter<Value = u64>, L: SinglyLinkedListOps, B: Buckets
     }
 }
 
-// Notes the first member of all, the one after it, and the first of a chain.
+// Notes the first member of the table, the member after the first one, and the first member of the given chain.
 fn write_steps<A: HashAdapter<Value = u64>, L: SinglyLinkedListOps, B: BucketsFor<L>>(
     notes: &mut Text,
     table: &HashTable<A, B>,
@@ -377,7 +378,7 @@ fn write_chain_of<A: HashAdapter<Value = u64>, L: SinglyLinkedListOps, B: Bucket
     write_places(notes, &[table.chain(links, objects, at).first()]);
 }
 
-// Notes the text that the table prints.
+// Returns the text that the table prints.
 fn printed<A: HashAdapter<Value = u64, Key = u64>, L: SinglyLinkedListOps, B: BucketsFor<L>>(
     alloc: Global,
     table: &HashTable<A, B>,
@@ -390,7 +391,7 @@ fn printed<A: HashAdapter<Value = u64, Key = u64>, L: SinglyLinkedListOps, B: Bu
     format!(in alloc; "{listing:?}")
 }
 
-// Notes what a new table is after each edit, with the key of the objects at 0 and 2.
+// Makes each edit in a new table, and notes its contents between the edits. `key` is the key of the objects at the places 0 and 2.
 fn write_edits<A: HashAdapter<Value = u64>, L: SinglyLinkedListOps, B: BucketsFor<L>>(
     notes: &mut Text,
     table: &mut HashTable<A, B>,
@@ -442,7 +443,7 @@ fn a_table_over_an_array(rt: HostRuntime) {
     assert_true(&rt, notes.has_words(EDITS));
 }
 
-// Notes the looks of a search in a new table, and what the table prints.
+// Notes how many members a search in a new table looks at, and returns the text that the table prints.
 fn write_search<
     A: HashAdapter<Value = u64, Key = u64>,
     L: SinglyLinkedListOps,
@@ -519,7 +520,7 @@ fn entries(rt: HostRuntime) {
     assert_true(&rt, notes.has_words("50 30 10  none 6  0  20 50 30"));
 }
 
-// Notes whether a new table with one chain in use can grow and shrink, and what it holds then.
+// Notes whether a new table with one chain in use can grow and shrink, and which members it has after the growth.
 fn write_growth<A: HashAdapter<Value = u64>, L: SinglyLinkedListOps, B: BucketsFor<L> + Drop>(
     notes: &mut Text,
     adapter: A,
@@ -558,7 +559,7 @@ fn a_table_grows_and_shrinks(rt: HostRuntime) {
     );
 }
 
-// The same over buckets that are lent.
+// The edits of a hash table over buckets that are lent must have the results that they have over buckets of its own.
 #[test]
 fn a_table_over_a_slice(rt: HostRuntime) {
     let alloc = rt.alloc();
@@ -571,7 +572,7 @@ fn a_table_over_a_slice(rt: HostRuntime) {
     assert_true(&rt, notes.has_words(EDITS));
 }
 
-// Notes how many looks the searches of two keys that std hashes find.
+// A hash table whose keys are hashed by std must find 10 at place 0, and must not find 10 after its removal.
 #[test]
 fn a_table_by_stds_hash(rt: HostRuntime) {
     let (mut notes, objects, mut links, buckets) = fixture(&rt, rt.alloc());
@@ -583,7 +584,7 @@ fn a_table_by_stds_hash(rt: HostRuntime) {
     assert_true(&rt, notes.has_words("0  2 4 no  none"));
 }
 
-// Notes which member has this key in a new table of two, and whether it has it once it is taken out.
+// Notes which member has this key in a new table of two members, and which member has the key after that member is removed.
 fn write_found<A: HashAdapter<Value = u64>, L: SinglyLinkedListOps, B: BucketsFor<L> + Drop>(
     notes: &mut Text,
     adapter: A,
@@ -677,7 +678,8 @@ fn keys_beside_the_links(rt: HostRuntime) {
     assert_true(&rt, notes.has_words("2 yes no 0  1 4 no"));
 }
 
-// Notes which member has the key of the object at 2, or 1, in a new table with the object at 0: the one at 0, or the object itself.
+// Enters the object at the place `given` into a new table that has the object at place 0. Notes the member that then has the key: the object at 0 if
+// the keys are equal, or else the given object.
 fn write_entered<A: HashAdapter<Value = u64>, L: SinglyLinkedListOps, B: BucketsFor<L> + Drop>(
     notes: &mut Text,
     adapter: A,

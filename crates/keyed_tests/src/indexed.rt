@@ -1,9 +1,12 @@
-//! Objects that are found by a key and have an order, with calls at both of its ends. A container of unique keys inserts at the front alone.
+//! A test of objects that are found by a key and also have an order, in which objects can be inserted at both ends. The container of unique keys
+//! inserts objects only at the front.
 
 use crate::asserts::assert_same;
 use crate::unique_keys::calls::Page;
 use ic_indexed::{Indexed, TreeIndexed};
 
+// The test inserts a page at the front and a page at the back. The first and the last page must be right, and a search by number must find only these
+// pages.
 // Promise: objects at both ends of an order.
 #[test]
 fn pages_at_both_ends(rt: HostRuntime) {

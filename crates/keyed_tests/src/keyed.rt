@@ -1,4 +1,4 @@
-//! What the tests of trees share: numbers that are their own keys, kept beside the links.
+//! What the tests of trees share: each number is its own key, and the keys are stored beside the links.
 
 ghost use Rattle.std.specs.Prelude.{◌≡◌, ◌<◌, length};
 ghost use Rattle.ic_rbtree.specs.KeyedTrees.{keyed_table};
@@ -26,7 +26,7 @@ impl KeyAdapter for OwnKey {
     }
 }
 
-/// Makes a table of links that covers the first places and has these keys there.
+/// Makes a table of links that covers as many places as there are keys, and stores a key at each of these places.
 pub(crate) fn keyed_links(rt: &impl Abort, alloc: Global, keys: &[u64]) -> LinkOpsWith<u64>
     requires { length keys.now < 4294967296 }
     ensures covers { (keyed_table result).extent.places ≡ length keys.now }

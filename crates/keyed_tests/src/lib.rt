@@ -1,5 +1,5 @@
-//! The structures that find by a key or a position: hash tables, trees with summaries, trees that are built in order, merged and parted. Each
-//! call of them is made as a caller makes it, and run by a test.
+//! Tests of the structures that find objects by a key or a position: hash tables, trees with summaries, and trees that are built in order, merged and
+//! parted. A test makes each of their calls as a user's program does.
 #![tactic(auto)]
 
 #[cfg(test)]

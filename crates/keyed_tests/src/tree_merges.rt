@@ -1,4 +1,5 @@
-//! Trees that are merged, and parted by one another: one of 10, 20, 30 and 40, and one of 20, 30, 50 and 60.
+//! Tests of merges, unions, intersections and differences of two trees. The first tree has 10, 20, 30 and 40, and the second tree has 20, 30, 50 and
+//! 60.
 
 ghost use Rattle.std.specs.Prelude.{◌≡◌, ◌<◌, true};
 ghost use Rattle.ic_link_ops.specs.Prelude.{Place, index_of, is_placed, RepresentsPlaced};
@@ -17,7 +18,7 @@ use ic_tree_merges::{ByKeys, difference, intersection, merge, union};
 use ic_unsafe_ref::Objects;
 use std::process::Abort;
 
-// Inserts the object into the tree where its number belongs, beside another tree.
+// Inserts the object into the tree at the position of its number. A second tree in the same table does not change.
 fn put<L: RBTreeOps>(
     tree: &mut RBTree<OwnKey>,
     links: &mut L,
@@ -36,7 +37,7 @@ fn put<L: RBTreeOps>(
     let _ = tree.insert(links, objects, reference(index));
 }
 
-// A tree of the first four objects, and one of the others.
+// Returns a tree of the first four objects and a tree of the last four objects.
 fn two_trees<L: RBTreeOps>(
     links: &mut L,
     objects: &Objects<u64>,
@@ -56,7 +57,7 @@ fn two_trees<L: RBTreeOps>(
     (tree, other)
 }
 
-// Merges the other tree into this one, and returns how often two objects were compared.
+// Merges the tree `other` into the tree `tree`, and returns how often two objects were compared.
 fn merged<L: RBTreeOps>(
     tree: &mut RBTree<OwnKey>,
     links: &mut L,
@@ -71,7 +72,7 @@ fn merged<L: RBTreeOps>(
     order.looks()
 }
 
-// Keeps what the other tree has, too, and returns the rest.
+// Keeps in `tree` the members whose keys `other` also has, and returns a tree of the remaining members.
 fn kept_common<L: RBTreeOps>(
     tree: &mut RBTree<OwnKey>,
     links: &mut L,
@@ -85,7 +86,7 @@ fn kept_common<L: RBTreeOps>(
     intersection(tree, links, objects, &mut ByKeys::new(OwnKey), other)
 }
 
-// Keeps what the other tree does not have, and returns what both have.
+// Keeps in `tree` the members whose keys `other` does not have, and returns a tree of the members whose keys both have.
 fn kept_rest<L: RBTreeOps>(
     tree: &mut RBTree<OwnKey>,
     links: &mut L,
@@ -99,7 +100,7 @@ fn kept_rest<L: RBTreeOps>(
     difference(tree, links, objects, &mut ByKeys::new(OwnKey), other)
 }
 
-// Takes over what the other tree alone has, and returns what both have.
+// Moves to `tree` the members of `other` whose keys `tree` does not have, and returns a tree of the members of `other` whose keys both have.
 fn united<L: RBTreeOps>(
     tree: &mut RBTree<OwnKey>,
     links: &mut L,
@@ -113,7 +114,7 @@ fn united<L: RBTreeOps>(
     union(tree, links, objects, &mut ByKeys::new(OwnKey), other)
 }
 
-// Notes the numbers of the tree, from the first on.
+// Notes the numbers of the tree, from the first member to the last.
 fn write_members<L: RBTreeOps>(
     notes: &mut Text,
     tree: &RBTree<OwnKey>,
@@ -127,7 +128,7 @@ fn write_members<L: RBTreeOps>(
     }
 }
 
-// Notes the members of two trees that are merged. Each comparison but the last takes a member over, so that there are at most eight.
+// Notes the members of two trees that are merged. There must be at most eight comparisons, because each comparison except the last one moves a member.
 fn write_merged<L: RBTreeOps>(
     rt: &impl Abort,
     notes: &mut Text,
@@ -154,7 +155,7 @@ fn write_united<L: RBTreeOps>(notes: &mut Text, links: &mut L, objects: &Objects
     write_members(notes, &doubles, &*links, objects);
 }
 
-// Notes the members that the first tree keeps in an intersection, and the rest.
+// Notes the members that the first tree keeps in an intersection, and the members that it does not keep.
 fn write_common<L: RBTreeOps>(notes: &mut Text, links: &mut L, objects: &Objects<u64>)
     requires covers { (L.table links.old).extent.places ≡ 8 }
     requires placed { (q : Place) → index_of q < 8 → is_placed objects.now q ≡ true }

@@ -1,4 +1,5 @@
-//! The container of unique keys: its worked rows over a tree and over a hash table, with ample memory and with each request refused in turn.
+//! The tests of the container of unique keys. Its rows of calls are made over a tree and over a hash table, with enough memory and with each request
+//! for memory refused in turn.
 
 pub(crate) mod calls;
 mod chains;

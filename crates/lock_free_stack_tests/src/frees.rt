@@ -1,4 +1,4 @@
-//! A thread that gives places out, and threads that free them.
+//! A test with a thread that lends places, and threads that free the lent places.
 
 ghost use Rattle.std.specs.Prelude.{◌≡◌, ◌<◌, ◌≤◌, ◌+◌, All, List, vec_len};
 ghost use Rattle.ic_unsafe_ref.specs.declared.place.Place.{Place};
@@ -13,10 +13,11 @@ use std::process::Abort;
 use std::thread;
 use std::thread::Threads;
 
-// As often as a place is lent, or a worker looks for places.
+// The number of turns in which the owner lends a place, and in which a worker looks for places that are lent to it.
 const TURNS: usize = 20_000;
 
-// A holder in a thread: the owner, number 0, or a worker, to whom places are lent by the stack of its number.
+// A holder that works in a thread. The holder with the number 0 is the owner of the places. Each other holder is a worker, and places are lent to it by
+// the stack with its number.
 #[derive(Drop)]
 struct Party<'c> {
     stacks: &'c Stacks,
@@ -28,7 +29,8 @@ struct Party<'c> {
     ghost fresh: { spent_by holder ≡ 0 },
 }
 
-// Owns all places, lends them in turn, and gives each eighth back to itself. At the end it returns how many it still has.
+// The owner owns all places, lends them to the workers in turn, and gives each eighth place back to itself. At the end the call returns how many places
+// the owner still has.
 fn give_out(stacks: &Stacks, holder: Holder) -> usize
     requires made { IsOf stacks.now holder }
     requires two { 1 < stacks_of stacks.now }
@@ -57,7 +59,7 @@ fn give_out(stacks: &Stacks, holder: Holder) -> usize
     left
 }
 
-// Frees the first place of a chain by itself, and then all others at once.
+// Frees the first place of a chain by one call, and then all other places of the chain at once by a second call.
 fn free_both_ways(stacks: &Stacks, holder: &mut Holder, lent: Chain)
     requires some { 0 < stacks_of stacks.now }
     requires made { IsOf stacks.now holder.old }
@@ -74,7 +76,7 @@ fn free_both_ways(stacks: &Stacks, holder: &mut Holder, lent: Chain)
     free_all(stacks, holder, 0, rest);
 }
 
-// Frees the places that are lent to it, as they come.
+// Frees the places that are lent to the worker with this number, as they come.
 fn free_lent(stacks: &Stacks, mut holder: Holder, number: usize)
     requires made { IsOf stacks.now holder }
     requires two { 1 < stacks_of stacks.now }
@@ -87,7 +89,7 @@ fn free_lent(stacks: &Stacks, mut holder: Holder, number: usize)
     }
 }
 
-// Returns how many places this party still has at the end: a worker has none.
+// Lets the party work, and returns how many places it still has at the end. A worker then has none.
 fn work(party: Party) -> usize {
     let Party {
         stacks,
@@ -101,7 +103,7 @@ fn work(party: Party) -> usize {
     0
 }
 
-// A party for each holder, as many as there are stacks.
+// Returns a party for each holder. There are at most as many holders as stacks.
 fn parties<'c>(
     alloc: Global,
     stacks: &'c Stacks,
@@ -122,7 +124,7 @@ fn parties<'c>(
     Ok(parties)
 }
 
-/// Returns whether each place that an owner lends to this many workers is afterwards in some stack, or still its owner's.
+/// Lets an owner lend places to this many workers. Returns whether each place is at the end in some stack, or still with the owner.
 pub(crate) fn come_back<R: Abort + Threads + Sync>(
     rt: &R,
     alloc: Global,

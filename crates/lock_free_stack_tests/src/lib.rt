@@ -1,4 +1,4 @@
-//! Tests of stacks that threads share, and of their uses: what was pushed is taken, each once, and in which order.
+//! Tests of stacks that threads share, and of their uses. Each place that is pushed must be taken exactly once, and in the right order.
 #![tactic(auto)]
 
 #[cfg(test)]

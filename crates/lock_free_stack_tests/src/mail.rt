@@ -1,4 +1,4 @@
-//! Threads that send places to a mailbox, and one that receives them.
+//! A test with threads that send places to a mailbox, and a thread that receives the places.
 
 ghost use Rattle.std.specs.Prelude.{◌≡◌, ◌<◌, ◌≤◌, All, List, vec_len};
 ghost use Rattle.ic_unsafe_ref.specs.declared.place.Place.{Place};
@@ -16,10 +16,10 @@ use std::thread::Threads;
 // The number of places that each sender sends, in the order of their indexes.
 const SENT: usize = 2000;
 
-// As often as the receiver looks.
+// The number of turns in which the receiver looks into the mailbox.
 const TURNS: usize = 100_000;
 
-// A holder in a thread: the receiver, or the sender of that number.
+// A holder that works in a thread. The holder is the receiver if `receives` is true, or else the sender with this number.
 #[derive(Drop)]
 struct Party<'c> {
     stacks: &'c Stacks,
@@ -32,7 +32,7 @@ struct Party<'c> {
     ghost new: { IsNew holder },
 }
 
-// Sends the places of one sender.
+// Sends all places of the sender with this number to the mailbox.
 fn send_all(stacks: &Stacks, mut holder: Holder, number: usize)
     requires made { IsOf stacks.now holder }
     requires some { 0 < stacks_of stacks.now }
@@ -47,7 +47,7 @@ fn send_all(stacks: &Stacks, mut holder: Holder, number: usize)
     }
 }
 
-// The indexes of what was received in so many turns, in order.
+// Receives places in this many turns, and returns their indexes, in the order in which they came.
 fn receive_some(
     alloc: Global,
     stacks: &Stacks,
@@ -69,7 +69,7 @@ fn receive_some(
     Ok(indexes)
 }
 
-// Lets the party work, and returns the indices of the places that it received: none for a sender.
+// Lets the party work, and returns the indices of the places that it received. A sender receives none.
 fn work(party: Party) -> Vec<usize> {
     let Party {
         stacks,
@@ -85,7 +85,7 @@ fn work(party: Party) -> Vec<usize> {
     Vec::new(alloc)
 }
 
-// A party for each holder: the first one receives.
+// Returns a party for each holder. The first holder is the receiver, and all others are senders.
 fn parties<'c>(
     alloc: Global,
     stacks: &'c Stacks,
@@ -108,7 +108,7 @@ fn parties<'c>(
     Ok(parties)
 }
 
-// Returns whether all places of each sender came, in the order in which it sent them.
+// Returns whether all places of each sender came, in the order in which the sender sent them.
 fn are_in_order(rt: &impl Abort, alloc: Global, indexes: &[usize], senders: usize) -> bool {
     let mut wanted = Vec::new(alloc);
     for number in 0..senders {
@@ -126,7 +126,8 @@ fn are_in_order(rt: &impl Abort, alloc: Global, indexes: &[usize], senders: usiz
     indexes.len() == senders.wrapping_mul(SENT)
 }
 
-/// Returns whether one thread and then a second one receive all places from this many senders, and those of each sender in order.
+/// Lets this many senders send their places, and lets one receiver and then a second one receive them. Returns whether all places came, and the places
+/// of each sender in their order.
 pub(crate) fn deliver<R: Abort + Threads + Sync>(rt: &R, alloc: Global, senders: usize) -> bool
     requires { senders < 1000 }
 {

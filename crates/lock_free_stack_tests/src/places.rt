@@ -14,7 +14,7 @@ use ic_unsafe_ref::Place;
 use stack_uses::mailbox::mail_comes_in_order;
 use std::alloc::AllocError;
 
-/// Claims the place with this index and pushes it, and returns whether it did.
+/// Claims the place with this index and pushes it to the stack. Returns whether the place could be claimed.
 pub fn put(stacks: &Stacks, holder: &mut Holder, stack: usize, index: usize) -> bool
     requires stack { stack < stacks_of stacks.now }
     requires made { IsOf stacks.now holder.old }
@@ -35,7 +35,7 @@ pub fn put(stacks: &Stacks, holder: &mut Holder, stack: usize, index: usize) -> 
     }
 }
 
-/// Claims two places and pushes both at once, one before the other, and returns whether it did.
+/// Claims two places and pushes both at once, with `front` before `back`. Returns whether both places could be claimed.
 pub fn put_pair(
     stacks: &Stacks,
     holder: &mut Holder,
@@ -66,7 +66,7 @@ pub fn put_pair(
     both
 }
 
-/// Takes all members of a stack, gives each up, and appends their indexes, the first pushed first.
+/// Takes all members of a stack, gives up each place, and appends their indexes to `indexes`. The index of the place that was pushed first comes first.
 pub fn take_in_order(
     stacks: &Stacks,
     holder: &mut Holder,
@@ -84,7 +84,7 @@ pub fn take_in_order(
     give_up(stacks, holder, turned, indexes)
 }
 
-/// Takes all members of a stack, gives each up, and appends their indexes, the last pushed first.
+/// Takes all members of a stack, gives up each place, and appends their indexes to `indexes`. The index of the place that was pushed last comes first.
 pub fn take(
     stacks: &Stacks,
     holder: &mut Holder,
@@ -101,7 +101,8 @@ pub fn take(
     give_up(stacks, holder, taken, indexes)
 }
 
-/// Takes all that a stack still has, between two audits of all holders: by the laws, what was pushed to it was taken then.
+/// Takes all members that a stack still has, between two audits of all holders. By the laws of stacks, each place that was pushed to the stack has then
+/// been taken.
 pub fn empty_out(stacks: &Stacks, holders: &mut Vec<Holder>, stack: usize) -> Result<(), AllocError>
     requires stack { stack < stacks_of stacks.now }
     requires made { All (λ h. IsOf stacks.now h × (spent_by h < 1000000000)) holders.old.items }
@@ -123,7 +124,7 @@ pub fn empty_out(stacks: &Stacks, holders: &mut Vec<Holder>, stack: usize) -> Re
     Ok(())
 }
 
-// Gives up the places of a chain, and appends their indexes in order.
+// Gives up each place of a chain, and appends their indexes to `indexes`, in the order of the chain.
 fn give_up(
     stacks: &Stacks,
     holder: &mut Holder,

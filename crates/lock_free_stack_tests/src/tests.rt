@@ -6,6 +6,7 @@ use ic_lock_free_stack::Stacks;
 use ic_unsafe_ref::Place;
 use std::test::Fail;
 
+// One holder pushes places and another one takes them. The place that was pushed last must come first, or last if the chain is reversed.
 // Promise: the last pushed comes first.
 #[test]
 fn last_pushed_first(rt: HostRuntime) -> Result<(), Fail> {
@@ -32,6 +33,7 @@ fn last_pushed_first(rt: HostRuntime) -> Result<(), Fail> {
     Ok(())
 }
 
+// A holder pushes two places at once, and takes all members. The pushed places must come in their order, and before the place that was pushed earlier.
 // Promise: a chain is pushed at once.
 #[test]
 fn a_chain_is_pushed_at_once(rt: HostRuntime) -> Result<(), Fail> {
@@ -53,7 +55,7 @@ fn a_chain_is_pushed_at_once(rt: HostRuntime) -> Result<(), Fail> {
     Ok(())
 }
 
-// Threads push places of eight, or of one, while others take them: all pushed places are taken, except those that are left.
+// Threads push places while other threads take them. Each pushed place must be taken, except the places that are in the stack at the end.
 // Promise: threads push and take.
 #[test]
 fn threads_push_and_take(rt: HostRuntime) {
@@ -63,6 +65,7 @@ fn threads_push_and_take(rt: HostRuntime) {
     assert!(rt; share(&rt, alloc, 1000, 4, 4));
 }
 
+// Threads send places to a mailbox, and all places must be received. The places of each sender must come in the order in which they were sent.
 // Promise: a mailbox of several senders.
 #[test]
 fn mail_comes_in_order(rt: HostRuntime) {
@@ -71,6 +74,7 @@ fn mail_comes_in_order(rt: HostRuntime) {
     assert!(rt; deliver(&rt, alloc, 3));
 }
 
+// An owner lends places to threads, which free them. At the end each place must be in a stack or with its owner.
 // Promise: places freed by other threads.
 #[test]
 fn places_come_back(rt: HostRuntime) {

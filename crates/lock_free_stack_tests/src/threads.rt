@@ -1,4 +1,4 @@
-//! Threads that push and take.
+//! A test with threads that push places and threads that take places.
 
 ghost use Rattle.std.specs.Prelude.{◌≡◌, ◌<◌, ◌+◌, All};
 ghost use Rattle.ic_lock_free_stack.specs.Holders.{stacks_of, spent_by, IsOf, IsNew};
@@ -10,10 +10,10 @@ use std::process::Abort;
 use std::thread;
 use std::thread::Threads;
 
-// How often a thread pushes a place, or takes all.
+// The number of turns in which a thread tries to push a place, or takes all places.
 const TURNS: usize = 50_000;
 
-// A holder of stacks in a thread, which pushes or takes.
+// A holder of stacks that works in a thread. The holder pushes places if `pushes` is true, or else takes places.
 #[derive(Drop)]
 struct HolderWithStacks<'c> {
     stacks: &'c Stacks,
@@ -25,7 +25,7 @@ struct HolderWithStacks<'c> {
     ghost fresh: { spent_by holder ≡ 0 },
 }
 
-// Pushes places, one after the other, and returns how many it could claim.
+// Tries to claim and push places, one after the other, and returns how many places it pushed.
 fn push_some(stacks: &Stacks, mut holder: Holder) -> usize
     requires made { IsOf stacks.now holder }
     requires some { 0 < stacks_of stacks.now }
@@ -41,7 +41,7 @@ fn push_some(stacks: &Stacks, mut holder: Holder) -> usize
     pushed
 }
 
-// Takes all places that there are, and returns how many these were.
+// Takes all places of the stack in each turn, and returns how many places it took.
 fn take_some(alloc: Global, stacks: &Stacks, mut holder: Holder) -> Result<usize, AllocError>
     requires made { IsOf stacks.now holder }
     requires some { 0 < stacks_of stacks.now }
@@ -57,7 +57,7 @@ fn take_some(alloc: Global, stacks: &Stacks, mut holder: Holder) -> Result<usize
     Ok(taken)
 }
 
-// Returns how many places this thread pushed, and how many it took.
+// Lets the holder push or take places, and returns how many places it pushed, and how many it took.
 fn work(hand: HolderWithStacks) -> (usize, usize) {
     let HolderWithStacks {
         stacks,
@@ -72,8 +72,8 @@ fn work(hand: HolderWithStacks) -> (usize, usize) {
     }
 }
 
-// A hand for each holder: the last ones push.
-fn hands<'c>(
+// Returns each holder together with the stacks. The first `takers` holders take places, and the others push places.
+fn equipped<'c>(
     alloc: Global,
     stacks: &'c Stacks,
     mut holders: Vec<Holder>,
@@ -82,20 +82,20 @@ fn hands<'c>(
     requires some { 0 < stacks_of stacks.now }
     requires made { All (λ h. IsOf stacks.now h × IsNew h) holders.items }
 {
-    let mut hands = Vec::new(alloc);
+    let mut equipped = Vec::new(alloc);
     while let Some(holder) = holders.pop() {
         let pushes = holders.len() >= takers;
-        hands.push(HolderWithStacks {
+        equipped.push(HolderWithStacks {
             stacks,
             holder,
             pushes,
             alloc,
         })?;
     }
-    Ok(hands)
+    Ok(equipped)
 }
 
-/// Returns whether these numbers of threads that push and threads that take leave in the stack exactly the places that were pushed and not taken.
+/// Lets `pushers` threads push and `takers` threads take. Returns whether the places in the stack at the end are as many as were pushed and not taken.
 pub(crate) fn share<R: Abort + Threads + Sync>(
     rt: &R,
     alloc: Global,
@@ -109,8 +109,8 @@ pub(crate) fn share<R: Abort + Threads + Sync>(
         rt, "stacks",
     );
     let last = holders.pop().expect(rt, "a holder");
-    let hands = hands(alloc, &stacks, holders, takers).expect(rt, "room");
-    let done = thread::map_vec(rt, hands, &work).expect(rt, "room");
+    let equipped = equipped(alloc, &stacks, holders, takers).expect(rt, "room");
+    let done = thread::map_vec(rt, equipped, &work).expect(rt, "room");
     let mut pushed: usize = 0;
     let mut taken: usize = 0;
     for (one_pushed, one_took) in &done {

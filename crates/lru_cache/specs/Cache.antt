@@ -1,19 +1,19 @@
--- Caches: entries from the one that was touched last to the oldest, and the capacity.
+-- What contracts see of a cache: its entries, from the one that was touched last to the oldest, and its capacity.
 use Rattle.std.specs.Prelude.{ℕ, ◌≤◌, Option, List, ◌∷◌, length, take, slice_get}
 use Rattle.std.specs.Option.{option_map, option_or}
 use Rattle.ic_keyed.specs.Keyed as keyed
 use Rattle.ic_keyed.specs.Keyed.{KeyedValues}
 use Rattle.lru_cache.specs.declared.entry.Entry.{Entry}
 
--- the entries, from the one touched last to the oldest, the capacity, and into how many parts the index divides them: a search compares only entries
--- of one part
+-- A cache has its entries, from the one touched last to the oldest, and its capacity. `parts` is the number of parts into which the index divides the
+-- entries: a search compares only entries of one part
 pub record Cache (V : Type 0) : Type 0 where
   pub entries : List (Entry V)
   pub capacity : ℕ
   pub parts : ℕ
 
 module _ {V : Type 0} where
-  -- the key and the value of an entry, and the entry with a key and a value
+  -- `key_of` is the key of an entry, `pair_of` is its key with its value, and `entry_of` is the entry with a key and a value
   abbrev pub key_of : Entry V → ℕ
   key_of entry = entry.key
 
@@ -23,33 +23,33 @@ module _ {V : Type 0} where
   abbrev pub entry_of : ℕ → V → Entry V
   entry_of key value = record { key = key; value = value }
 
-  -- the entry with the key, if there is one, and its value
+  -- `entry_with` is the entry with the key, if there is one, and `value_with` is the value of this entry
   abbrev pub entry_with : ℕ → List (Entry V) → Option (Entry V)
   entry_with key entries = keyed.value_with key_of key entries
 
   abbrev pub value_with : ℕ → List (Entry V) → Option V
   value_with key entries = option_map (λ (entry : Entry V). entry.value) (entry_with key entries)
 
-  -- the entries without the one that has the key, and the entries with an entry added at the front
+  -- `without` lists the entries without the one that has the key. `touched` lists the entries after the one that has the key has moved to the front
   abbrev pub without : ℕ → List (Entry V) → List (Entry V)
   without key entries = keyed.without key_of key entries
 
   abbrev pub touched : ℕ → List (Entry V) → List (Entry V)
   touched key entries = keyed.touched key_of key entries
 
-  -- INSERTED: the entry is first and replaces the one with its key; entries beyond the capacity are removed from the end
+  -- THE ENTRY IS INSERTED at the front and replaces the entry with its key. If there are then more entries than the capacity, the last ones are removed
   abbrev pub inserted : Entry V → Cache V → List (Entry V)
   inserted entry cache = take cache.capacity (entry ∷ without entry.key cache.entries)
 
-  -- the entry that leaves when another is inserted: the one with the same key, or else the one beyond the capacity
+  -- the entry that leaves the cache when `entry` is inserted: the one with the same key, or else the one that is beyond the capacity then
   abbrev pub leaves : Entry V → Cache V → Option (Entry V)
   leaves entry cache = option_or (entry_with entry.key cache.entries) (slice_get (entry ∷ cache.entries) cache.capacity)
 
-  -- the same cache with other entries
+  -- the cache with the given entries instead of its own, and with its capacity and its number of parts
   abbrev pub with_entries : Cache V → List (Entry V) → Cache V
   with_entries cache entries = record { entries = entries; capacity = cache.capacity; parts = cache.parts }
 
-  -- the cache that keeps these entries
+  -- the cache with the given capacity, whose entries are the values of `kept`
   abbrev pub cache_of : ℕ → KeyedValues (Entry V) → Cache V
   cache_of capacity kept = record { entries = kept.values; capacity = capacity; parts = kept.parts }
 

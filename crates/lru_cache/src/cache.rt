@@ -1,4 +1,4 @@
-//! The cache.
+//! The type `LruCache` and its calls.
 //!
 //! ```text
 //! let mut cache = LruCache::new(rt.alloc(), 2); // by a tree; `with_index` by another index
@@ -19,21 +19,21 @@ use ic_rbtree::RBTree;
 use std::alloc::{Allocator, Global};
 use std::marker::Model;
 
-/// A cache from `u64` keys to values with a capacity. If it is full, it forgets the entry that was touched longest ago.
+/// A cache from `u64` keys to values, with a capacity. If it is full, the insertion of a new key removes the entry that was touched longest ago.
 ///
-/// A contract sees the entries from the one touched last to the oldest, the capacity, and into how many parts the index divides the entries: one for
-/// a tree, and the number of chains for a hash table. No key occurs twice, and there are never more entries than the capacity (`IsSound`). A cache of
-/// capacity 0 keeps nothing: it returns each inserted entry at once.
+/// A contract sees the entries from the one touched last to the oldest, the capacity, and the number of parts into which the index divides the
+/// entries. A tree has one part, and a hash table has one part for each chain. No key occurs twice, and there are never more entries than the
+/// capacity (`IsSound`). A cache of capacity 0 keeps nothing: it returns each inserted entry at once.
 #[derive(Drop)]
 pub struct LruCache<V, I: Index<Entry<V>, A>, A: Allocator = Global> {
     entries: Keyed<Entry<V>, I, A>,
     capacity: usize,
 }
 
-/// A cache whose entries are in a tree by their keys: each search is O(log n).
+/// A cache whose entries are in a tree that is sorted by their keys. Each search takes O(log n).
 pub type TreeLruCache<V, A = Global> = LruCache<V, RBTree<ByKey<Entry<V>>>, A>;
 
-/// The same as `TreeLruCache` over links of 4-byte words. The links take half the memory, and there can be at most 536,870,911 entries.
+/// A `TreeLruCache` whose links are 4-byte words. These links take half the memory, and there can be at most 536,870,911 entries.
 pub type NarrowTreeLruCache<V, A = Global> = LruCache<V, RBTree<NarrowByKey<Entry<V>>>, A>;
 
 impl<V, I: Index<Entry<V>, A>, A: Allocator> Model for LruCache<V, I, A> {
@@ -59,8 +59,8 @@ impl<V, A: Allocator> LruCache<V, RBTree<ByKey<Entry<V>>>, A> {
         LruCache::by_tree(alloc, capacity)
     }
 
-    /// Makes a cache without entries whose capacity is 18,446,744,073,709,551,615. There are fewer places than that, so an entry leaves only if a
-    /// call removes it. It takes no memory.
+    /// Makes a cache without entries whose capacity is 18,446,744,073,709,551,615. There are fewer places, so that an entry leaves only if a call
+    /// removes or replaces it. It takes no memory.
     pub fn unbounded(alloc: A) -> TreeLruCache<V, A>
     where
         A: Copy,
@@ -128,7 +128,7 @@ impl<V, I: Index<Entry<V>, A>, A: Allocator> LruCache<V, I, A> {
         self.entries.is_empty()
     }
 
-    /// Returns the capacity, which is how many entries there may be. O(1).
+    /// Returns the capacity, which is the largest number of entries that the cache may have. O(1).
     #[inline]
     pub fn capacity(&self) -> usize
         ensures { result ≡ self.now.capacity }
@@ -138,8 +138,8 @@ impl<V, I: Index<Entry<V>, A>, A: Allocator> LruCache<V, I, A> {
 
     /// Returns the value of the key, if there is one, and how many entries the search compared. It does not touch the entry.
     ///
-    /// By a tree O(log n): at most 2 log2(n + 1) comparisons among n entries. With a hash table it costs O(1) on average: it compares at most the
-    /// entries in the chain of the key.
+    /// With a tree it costs O(log n): it makes at most 2 log2(n + 1) comparisons among n entries. With a hash table it costs O(1) on average: it
+    /// compares at most the entries in the chain of the key.
     pub fn find(&self, key: u64) -> (Option<&V>, u64)
         ensures value { option_copied result.0 ≡ value_with key self.now.entries }
         ensures looks { I.IsFew self.now.parts key self.now.entries result.1 }
@@ -160,8 +160,8 @@ impl<V, I: Index<Entry<V>, A>, A: Allocator> LruCache<V, I, A> {
         Some(&self.entries.peek(key)?.value)
     }
 
-    /// Returns the value of the key, if there is one, and touches the entry: it moves to the front, and the others keep their order. It costs what
-    /// `find` does, and takes no memory.
+    /// Returns the value of the key, if there is one, and touches the entry: the entry moves to the front, and the other entries keep their order.
+    /// The call costs what `find` does, and takes no memory.
     pub fn get(&mut self, key: u64) -> Option<&V>
         ensures* touches { sem 𝓛 (EndsAs V.row I.row A.row I.Links.row I.Order.row I.Index I.Links.Tables I.Order.unlinked I.Order.is_linked I.Order.width I.Order.next_word I.Order.KeepsOthers I.Order.prev A.Allocator self.entry (touched key self.old.entries)) }
         ensures value { option_copied result ≡ value_with key self.old.entries }
@@ -173,7 +173,7 @@ impl<V, I: Index<Entry<V>, A>, A: Allocator> LruCache<V, I, A> {
         Some(&newest.value)
     }
 
-    /// Removes the entry with the key and returns its value, if there is one. It costs about two searches, and takes no memory.
+    /// Removes the entry with the key, if there is one, and returns its value. It costs about two searches, and takes no memory.
     pub fn remove(&mut self, key: u64) -> Option<V>
         ensures value { result ≡ value_with key self.old.entries }
         ensures removed { self.new ≡ with_entries self.old (without key self.old.entries) }
@@ -189,7 +189,7 @@ impl<V, I: Index<Entry<V>, A>, A: Allocator> LruCache<V, I, A> {
         Some((oldest.key, &oldest.value))
     }
 
-    /// Removes the entry that was touched longest ago and returns it, or returns `None` if there is none. It costs about a search, and takes no
+    /// Removes the entry that was touched longest ago and returns it, or returns `None` if there is no entry. It costs about one search, and takes no
     /// memory.
     pub fn pop_oldest(&mut self) -> Option<(u64, V)>
         ensures oldest { MatchOption result (self.old.entries ≡ [])
@@ -202,12 +202,12 @@ impl<V, I: Index<Entry<V>, A>, A: Allocator> LruCache<V, I, A> {
         Some((oldest.key, oldest.value))
     }
 
-    /// Inserts an entry at the front. It returns the entry that leaves, if one does: the one with the same key, or else the oldest if the cache is
-    /// full. In a cache of capacity 0 the inserted entry itself leaves.
+    /// Inserts an entry at the front. It returns the entry that leaves the cache, if one does: the entry with the same key, or else the oldest entry
+    /// if the cache is full. In a cache of capacity 0 the inserted entry itself leaves.
     ///
     /// If an entry leaves, its object is used again, so that the call takes no memory and cannot fail. Otherwise it takes memory for the entry and
-    /// its two links, in at most three requests. If that is refused, the caller gets the value back, and nothing has changed. It costs about three
-    /// searches.
+    /// its two links, in at most three requests. If one of them is refused, the caller gets the value back, and nothing has changed. It costs about
+    /// three searches.
     pub fn insert(&mut self, key: u64, value: V) -> Result<Option<(u64, V)>, InsertError<V>>
         ensures left { IfOk result (λ left. left ≡ option_map pair_of (leaves (entry_of key value) self.old)) }
         ensures inserted { OnOk result (self.new ≡ with_entries self.old (inserted (entry_of key value) self.old)) }
@@ -220,7 +220,7 @@ impl<V, I: Index<Entry<V>, A>, A: Allocator> LruCache<V, I, A> {
         left
     }
 
-    // The same, without the conclusion of the law.
+    // Does what `insert` does, but its contract does not state that the cache is sound afterwards.
     fn put(&mut self, key: u64, value: V) -> Result<Option<(u64, V)>, InsertError<V>>
         ensures left { IfOk result (λ left. left ≡ option_map pair_of (leaves (entry_of key value) self.old)) }
         ensures inserted { OnOk result (self.new ≡ with_entries self.old (inserted (entry_of key value) self.old)) }

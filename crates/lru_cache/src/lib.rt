@@ -1,4 +1,4 @@
-//! A cache that forgets the entry that was touched longest ago.
+//! A cache with a capacity: if it is full and gets a new entry, it removes the entry that was touched longest ago.
 //!
 //! ```text
 //! let mut cache = LruCache::new(rt.alloc(), 1000);
@@ -6,8 +6,8 @@
 //! let page = cache.get(7); // touched: it leaves last
 //! ```
 //!
-//! Each entry is one object that is linked in two fields: in the index of keys, by which it is found, and in the list of ages, whose last entry
-//! leaves first. The index is a tree, or the hash table of `ic_hash_index`, over buckets of yours:
+//! Each entry is one object with two links: one in the index of keys, by which a search finds the entry, and one in the list of ages. The last entry
+//! of this list leaves first. The index is a tree, or the hash table of `ic_hash_index` over buckets that the caller makes:
 //!
 //! ```text
 //! let index = HashIndex::new(buckets); // as many as entries: O(1) on average

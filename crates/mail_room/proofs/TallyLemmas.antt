@@ -1,4 +1,4 @@
--- One place more, and how many came in their sender's turn.
+-- Lemmas about the number of places that came in the order of their sender, after one further place.
 use Rattle.std.proofs.Common.{◌≡◌, ◌≢◌, ℕ, zero, suc, ◌+◌, ◌*◌, ◌/◌, ◌%◌, ◌<◌, ◌≤◌, eqb, cond, Bool, true, false, true≢false, List, [], ◌∷◌, ◌++◌, map, length, get_or, set, drop, All, refl, sym, ap, ◌∙◌, subst, arith, eq-eqb, eqb-true, ne_eqb}
 use Rattle.std.specs.Prelude.{sum_by, replicate, slice_index_or}
 use Rattle.std.specs.List.{range_with_len}
@@ -16,7 +16,7 @@ use Rattle.ic_lock_free_stack.proofs.MomentLemmas.{by_test}
 use Rattle.stack_uses.specs.Delivery.{of_sender, IsDelivered}
 use Rattle.mail_room.specs.Tally.{in_order_from, in_order_of, IsNext}
 
--- one place more of a sender: the next one, and another one
+-- one further place of a sender: if it is the sender's next place, then the number rises by 1, and otherwise it stays
 next_more : (first : ℕ) (ps : List Place) (p : Place) → index_of p ≡ first + in_order_from first ps → in_order_from first (ps ++ p ∷ []) ≡ in_order_from first ps + 1
 next_more first [] p e = ap (λ b. cond b 1 0) (eq-eqb (index_of p) first (omega (arith, e)))
 next_more first (q ∷ ps) p e =
@@ -37,7 +37,7 @@ other_more first (q ∷ ps) p ne =
     (λ _ ne. other_more first ps p ne)
     ne
 
--- it is of the sender of this number, and of no other
+-- the further place is one of the places of the sender with the number `k`, and of no other sender
 own_more : (count k : ℕ) (ps : List Place) (p : Place) → index_of p / count ≡ k → of_sender count k (ps ++ p ∷ []) ≡ of_sender count k ps ++ p ∷ []
 own_more count k [] p e = ap (λ b. cond b (p ∷ []) []) (eq-eqb (index_of p / count) k e)
 own_more count k (q ∷ ps) p e =
@@ -54,7 +54,7 @@ others_stay count k (q ∷ ps) p ne =
     (λ _. ap (λ l. q ∷ l) (others_stay count k ps p ne))
     (λ _. others_stay count k ps p ne)
 
--- a sum in which each number stays, and one in which one of them has one more
+-- if no number of a sum changes, then the sum stays. If one of the numbers rises by 1, then the sum rises by 1
 sum_same : (f g : ℕ → ℕ) (a n : ℕ) → ((k : ℕ) → a ≤ k → k < a + n → g k ≡ f k) → sum_by g (range_with_len a n) ≡ sum_by f (range_with_len a n)
 sum_same f g a zero same = refl
 sum_same f g a (suc n) same =
@@ -78,7 +78,7 @@ sum_more f g q a (suc n) low high more same =
     omega (arith, one, rest)) in
     sum_by-cons g a (range_with_len (a + 1) n) ∙ (both ∙ ap (λ m. m + 1) (sym (sum_by-cons f a (range_with_len (a + 1) n))))
 
--- THE TALLY: how many of each sender came in order, and how many of all
+-- THE TALLY: `numbers` has, for each sender, how many of its places came in order, and `all` is their sum
 pub record IsTally (senders count : ℕ) (numbers : List ℕ) (all : ℕ) (came : List Place) : Type 0 where
   pub len : length numbers ≡ senders
   pub each : 0 < count → (k : ℕ) → k < senders → slice_index_or numbers k 0 ≡ in_order_from (k * count) (of_sender count k came)
@@ -107,7 +107,7 @@ module _ (senders count : ℕ) (numbers : List ℕ) (all : ℕ) (came : List Pla
   abbrev pub number : ℕ
   number = index_of p / count
 
-  -- how many came in order of the sender of this number, before and now
+  -- how many places of the sender with the number `k` came in order, among the places `ps`
   abbrev pub of_each : List Place → ℕ → ℕ
   of_each ps k = in_order_from (k * count) (of_sender count k ps)
 
@@ -162,7 +162,7 @@ module _ (senders count : ℕ) (numbers : List ℕ) (all : ℕ) (came : List Pla
       some_of zero f = absurd (true≢false f)
       some_of (suc n) f = omega arith
 
-  -- what a call of `is_next` with the index of the place says
+  -- if a call of `is_next` was made with the index of the place `p`, then its result and the changed `numbers` give the tally with `p` added
   pub tally_more : (index : ℕ) → index_of p ≡ index → (new : List ℕ) (is_next : Bool) (sum : ℕ)
       → OnTrue is_next (IsNext numbers count index) → OnTrue is_next (new ≡ set numbers (index / count) (index % count + 1))
       → OnFalse is_next (IsNext numbers count index → ⊥) → OnFalse is_next (new ≡ numbers)
@@ -176,7 +176,7 @@ module _ (senders count : ℕ) (numbers : List ℕ) (all : ℕ) (came : List Pla
       (subst (λ l. IsTally senders count l all (came ++ p ∷ [])) (sym same)
       (tally_other (λ is. other (subst (IsNext numbers count) at is))))
 
--- of a sender whose places all came in order, as many as it has
+-- if all `n` places of a sender came, in order, then the number of its places that came in order is `n`
 whole_row : (first : ℕ) (ps : List Place) (n : ℕ) → map index_of ps ≡ range_with_len first n → in_order_from first ps ≡ n
 whole_row first [] zero e = refl
 whole_row first [] (suc n) e = absurd (let l = ap length e ∙ length-range_with_len first (suc n) in omega (arith, l))
@@ -193,7 +193,7 @@ sum_each f c a (suc n) each =
     let rest = sum_each f c (a + 1) n (λ k low. each k (omega (arith, low))) in
     sum_by-cons f a (range_with_len (a + 1) n) ∙ omega (arith, one, rest)
 
--- each place is of one sender
+-- each place belongs to exactly one sender, so that the numbers of the senders' places add up to the number of all places
 by_senders : (senders count : ℕ) (ps : List Place) → All (λ (p : Place). index_of p < senders * count) ps
     → sum_by (λ (k : ℕ). length (of_sender count k ps)) (range_with_len 0 senders) ≡ length ps
 by_senders senders count [] inside = sum_each (λ (k : ℕ). 0) 0 0 senders (λ k low. refl) ∙ omega arith
@@ -210,7 +210,7 @@ by_senders senders count (p ∷ ps) inside =
     some zero here = absurd (omega (arith, here))
     some (suc n) here = omega arith
 
--- WHAT WAS DELIVERED came in order, and is all that was sent
+-- THE DELIVERED PLACES came in order, and they are all places that were sent: `senders * count` places
 pub delivered_in_order : (senders count : ℕ) (came : List Place) → IsDelivered senders count came → in_order_of senders count came ≡ senders * count
 delivered_in_order senders count came is =
     by_test (λ b. (b ≡ true → count ≡ 0) → cond b 0 (sum_by (λ (k : ℕ). in_order_from (k * count) (of_sender count k came)) (range_with_len 0 senders)) ≡ senders * count)

@@ -12,21 +12,21 @@ use std::rt::Env;
 use std::thread::Threads;
 use std::{io, str};
 
-// The most senders, and the most places of each sender.
+// The largest number of senders, and the largest number of places of each sender, that the program accepts.
 const MOST_SENDERS: usize = 64;
 
 const MOST_PLACES: usize = 100_000;
 
-// The most bytes of any argument that the program knows.
+// The largest number of bytes of an argument that the program accepts.
 const LONGEST: usize = 32;
 
-// The number of senders, and the number of places of each.
+// The request of the caller: the number of senders, and the number of places that each sender sends.
 struct Request {
     senders: usize,
     places: usize,
 }
 
-// Returns the value of the argument at this position.
+// Returns the number that the program's argument at this position is, or `None` if there is no number at this position.
 fn number(rt: &impl Env, argument: usize) -> Option<usize> {
     let mut word = [0; LONGEST];
     let length = rt.arg(argument, &mut word).ok()?;
@@ -47,7 +47,7 @@ fn asked(rt: &impl Env) -> Option<Request>
     Some(Request { senders, places })
 }
 
-// Lets the senders send, and prints what came.
+// Lets the senders send their places, and prints how many were sent, came, came out of order and were lost.
 fn run<R: Print + AllocGlobal + Threads + Sync>(rt: &R, asked: Request) -> io::Result<()>
     requires senders { asked.senders ≤ 64 }
     requires places { asked.places ≤ 100000 }

@@ -1,4 +1,4 @@
-//! How many places came in the order in which their sender sent them.
+//! Counts the places that came in the order in which their sender sent them.
 
 ghost use Rattle.std.specs.Prelude.{◌≡◌, ◌≤◌, ◌+◌, ◌/◌, ◌%◌, IfOk, length, set};
 ghost use Rattle.std.specs.Bool.{OnTrue, OnFalse};
@@ -7,10 +7,10 @@ ghost use Rattle.mail_room.specs.Tally.{in_order_of, IsNext};
 use ic_unsafe_ref::Place;
 use std::alloc::{AllocError, Allocator};
 
-/// Returns how many of the places came as the next one of their sender, if each sender sends `places` places. The sender with a number sends those
-/// from `number * places` on.
+/// Returns how many of the places in `came` came as the next place of their sender, if each sender sends `places` places. The sender with the number
+/// k sends the places from the index `k * places` on.
 ///
-/// A place that comes a second time does not count, and neither does one after a lost place.
+/// A place that comes a second time does not count, and a place of the same sender after a lost place does not count either.
 pub fn in_order<A: Allocator>(
     alloc: A,
     senders: usize,
@@ -30,7 +30,7 @@ pub fn in_order<A: Allocator>(
     Ok(count)
 }
 
-// Returns whether the place with this index is the next one of its sender, and then counts it.
+// Returns whether the place with this index is the next place of its sender. If it is, the call adds 1 to the sender's number in `numbers`.
 fn is_next<A: Allocator>(numbers: &mut Vec<usize, A>, places: usize, index: usize) -> bool
     ensures next { OnTrue result (IsNext numbers.old.items places index) }
     ensures counted { OnTrue result (numbers.new.items ≡ set numbers.old.items (index / places) (index % places + 1)) }

@@ -9,7 +9,7 @@ use ic_rbtree::KeyAdapter;
 pub struct Entry {
     /// The phone number, which no other entry has.
     pub number: u64,
-    /// The person whose number it is. A person can have several numbers.
+    /// The person who has the number. A person can have several numbers.
     pub person: u64,
 }
 

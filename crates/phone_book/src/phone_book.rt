@@ -1,4 +1,4 @@
-//! The book: a pool, and two trees that have all its entries.
+//! The phone book, which has a pool of entries and two trees that contain all of them.
 //!
 //! ```text
 //! book.insert(Entry { number: 5550100, person: 7 })?;
@@ -21,7 +21,7 @@ use ic_unsafe_ref::UnsafeRef;
 use std::alloc::{Allocator, Global};
 use std::marker::Model;
 
-/// Entries, each in a tree by its number and in a tree by its person.
+/// A phone book, whose entries are each in a tree by number and in a tree by person.
 ///
 /// A contract sees the entries by their places.
 #[derive(Drop)]
@@ -64,8 +64,8 @@ impl<A: Allocator> PhoneBook<A> {
 
     /// Inserts an entry, and returns its place. It costs O(log n), and makes at most three requests for memory.
     ///
-    /// If it is refused, the caller gets the entry back, and nothing has changed. The error is `NumberTaken` exactly if an entry of the book has its
-    /// number, else `NoPlaceLeft` exactly if all 4,294,967,296 places are in use, and otherwise `OutOfMemory`.
+    /// If the entry is refused, the caller gets it back, and nothing has changed. The error is `NumberTaken` exactly if an entry of the book has the
+    /// same number, else `NoPlaceLeft` exactly if all 4,294,967,296 places are in use, and otherwise `OutOfMemory`.
     pub fn insert(&mut self, entry: Entry) -> Result<UnsafeRef<Entry>, InsertError>
         ensures added { IfOk result (λ object. Adds object entry self.old self.new) }
         ensures refused { IfErr result (λ refused. IsRefused entry self.old refused × (self.new ≡ self.old)) }
@@ -83,7 +83,7 @@ impl<A: Allocator> PhoneBook<A> {
         Ok(object)
     }
 
-    /// Returns the entry with this number, or `None` if none has it. O(log n).
+    /// Returns the entry with this number, or `None` if no entry has the number. O(log n).
     pub fn with_number(&self, number: u64) -> Option<&Entry>
         ensures { IsFoundObject number_of self.now number (option_copied result) }
     {
@@ -91,7 +91,7 @@ impl<A: Allocator> PhoneBook<A> {
         trees::get(&self.by_number, links, objects, number)
     }
 
-    /// Returns an entry of this person, or `None` if there is none. O(log n).
+    /// Returns an entry of this person, or `None` if the person has no entry. O(log n).
     pub fn of_person(&self, person: u64) -> Option<&Entry>
         ensures { IsFoundObject person_of self.now person (option_copied result) }
     {
@@ -99,8 +99,8 @@ impl<A: Allocator> PhoneBook<A> {
         trees::get(&self.by_person, links, objects, person)
     }
 
-    /// Removes the entry with this number and returns it. If no entry has it, the call returns `None`, and nothing has changed. O(log n), and it
-    /// takes no memory.
+    /// Removes the entry with this number and returns it. If no entry has the number, the call returns `None`, and nothing has changed. O(log n), and
+    /// it takes no memory.
     pub fn remove(&mut self, number: u64) -> Option<Entry>
         ensures removed { IfSome result (λ entry. Removes number entry self.old self.new) }
         ensures none { IfNone result (IsFoundObject number_of self.old number None × (self.new ≡ self.old)) }

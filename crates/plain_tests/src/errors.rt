@@ -1,4 +1,4 @@
-//! Refusals that `?` converts into an `anyhow::Error`, and the text that it prints.
+//! A test of refusals that the operator `?` converts into an `anyhow::Error`, and of the texts that these errors print.
 
 use ic_link_ops::linked_list::LinkOps;
 use ic_link_ops::rbtree::LinkOps as TreeLinkOps;
@@ -13,21 +13,21 @@ use std::alloc::{AllocError, Allocator, Global};
 use std::error::Error;
 use std::process::Abort;
 
-// Passes the refusal on.
+// Converts the refusal into an `anyhow::Error` by the operator `?`, and returns the error.
 fn passed_on<E: Error>(refused: E) -> anyhow::Result<()> {
     let outcome: Result<(), E> = Err(refused);
     outcome?;
     Ok(())
 }
 
-// Places a value in a new pool.
+// Places a value in a new pool, and returns the error if there is no memory.
 fn place_one<A: Allocator + Copy>(alloc: A) -> anyhow::Result<()> {
     let mut pool = Pool::new(alloc, LinkOps::new(alloc));
     let _object = pool.place(10)?;
     Ok(())
 }
 
-// Refuses the object at the one gap of a new tree.
+// Returns the error that refuses the object at the only gap of a new tree.
 fn refused_at<A: Allocator, B: Allocator>(
     links: &mut TreeLinkOps<A>,
     objects: &Objects<Timer, B>,
@@ -48,7 +48,7 @@ fn text_of(alloc: Global, outcome: anyhow::Result<()>) -> Result<String, AllocEr
     }
 }
 
-// Asserts that the outcome is an error with this text.
+// Ends the test with a failure unless the outcome is an error that prints this text.
 fn says(rt: &impl Abort, alloc: Global, outcome: anyhow::Result<()>, text: &str) {
     let printed = text_of(alloc, outcome).expect(rt, "memory for a text");
     assert!(rt; printed.as_str() == text);

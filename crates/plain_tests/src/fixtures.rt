@@ -1,4 +1,4 @@
-//! What the tests share: tables of a few places, and references to unlinked objects.
+//! The functions that the tests share. The functions make tables of a few places and references to unlinked objects.
 
 ghost use Rattle.std.specs.Prelude.{◌≡◌};
 ghost use Rattle.ic_link_ops.specs.PlainTables.{table, linked_by};
@@ -9,14 +9,14 @@ use ic_unsafe_ref::{Place, UnsafeRef};
 use std::alloc::Global;
 use std::process::Abort;
 
-/// Asserts that it is so.
+/// Ends the test with a failure unless `is_so` is true.
 ///
-/// What comes of it is proved once, here, and not again at each call.
+/// What follows from the assertion is proved once here, and not again at each call of this function.
 pub(crate) fn check(rt: &impl Abort, is_so: bool) {
     assert!(rt; is_so);
 }
 
-/// A table that covers four places.
+/// Returns a table of links that covers four places.
 pub(crate) fn covering<W: Words>(rt: &impl Abort, alloc: Global) -> PlainTable<W> {
     let mut links = PlainTable::new(alloc);
     links.cover(4).expect(rt, "memory for links");
@@ -38,7 +38,7 @@ pub(crate) fn unlinked<W: Words, T>(
     UnsafeRef::new(place)
 }
 
-/// The index of a place, 9 of none.
+/// Returns the index of a place, or 9 if there is no place.
 pub(crate) fn index(place: Option<Place>) -> usize {
     match place {
         Some(place) => place.index(),
@@ -46,7 +46,7 @@ pub(crate) fn index(place: Option<Place>) -> usize {
     }
 }
 
-/// Returns the index of an object's place, or 9 for none.
+/// Returns the index of an object's place, or 9 if there is no object.
 pub(crate) fn index_of<T>(object: Option<UnsafeRef<T>>) -> usize {
     match object {
         Some(object) => object.place().index(),

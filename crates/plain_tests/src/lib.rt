@@ -1,4 +1,4 @@
-//! The plain calls, each made once, and refusals that go by `?` into an `anyhow::Error`.
+//! Tests of the plain calls, each of which is made once, and of refusals that the operator `?` converts into an `anyhow::Error`.
 #![tactic(auto)]
 
 #[cfg(test)]

@@ -1,4 +1,4 @@
-//! The lists: each plain call once.
+//! Tests of lists by plain calls. The tests make each plain call at least once.
 
 ghost use Rattle.std.specs.Prelude.{[]};
 ghost use Rattle.ic_link_ops.specs.DoublyEntries.{DoublyLink, RepresentsList, PlainRepresentsSome, neighbors_of};
@@ -17,7 +17,7 @@ use ic_singly_linked_list::SinglyLinkedList;
 use ic_unsafe_ref::UnsafeRef;
 use ic_xor_linked_list::XorLinkedList;
 
-// New lists, in the words of the plain tables of 8-byte words.
+// Returns a new list. Its contract is stated for the plain table of links with 8-byte words.
 fn new_doubly() -> LinkedList<u64>
     ensures empty { (t : Table DoublyLink) → RepresentsList t result [] }
     ensures shows { (t : Table DoublyLink) → RepresentsSome neighbors_of t result }
@@ -39,7 +39,7 @@ fn new_xor() -> XorLinkedList<u64>
     xor_linked_list::new()
 }
 
-// Inserts the object after all others, and then before them.
+// Inserts the object after all members, and then moves it before all others.
 fn push_to_front<L: LinkedListOps + AcceptsUnlinked>(
     list: &mut LinkedList<u64>,
     links: &mut L,
@@ -54,7 +54,7 @@ fn push_to_front<L: LinkedListOps + AcceptsUnlinked>(
     linked_list::move_to_front(list, links, &object);
 }
 
-// Inserts the object after all others, and once more.
+// Inserts the object after all members, and then moves it to the back, where it already is.
 fn push_to_back<L: LinkedListOps + AcceptsUnlinked>(
     list: &mut LinkedList<u64>,
     links: &mut L,
@@ -69,7 +69,7 @@ fn push_to_back<L: LinkedListOps + AcceptsUnlinked>(
     linked_list::move_to_back(list, links, &object);
 }
 
-// Inserts the object at the back, and removes it.
+// Inserts the object at the back of the list, and then removes it.
 fn push_and_remove<L: LinkedListOps + AcceptsUnlinked>(
     list: &mut LinkedList<u64>,
     links: &mut L,
@@ -84,7 +84,7 @@ fn push_and_remove<L: LinkedListOps + AcceptsUnlinked>(
     linked_list::remove(list, links, &object);
 }
 
-// Uses the last member, which is the first one then.
+// Reuses the last member of the list, which moves it to the front.
 fn use_last(list: &mut LinkedList<u64>, links: &mut LinkOps)
     requires shown { PlainRepresentsSome links.old list.old }
     ensures shown { PlainRepresentsSome links.new list.new }
@@ -119,7 +119,7 @@ fn doubly_linked(rt: HostRuntime) {
     push_to_back(&mut list, &mut links, object);
     let object = unlinked(&rt, &links, 3);
     push_to_front(&mut list, &mut links, object);
-    // their order is 3, 0, 1, 2
+    // the order of the members is 3, 0, 1, 2
     use_last(&mut list, &mut links);
     requeue_first(&mut list, &mut links);
     requeue_first(&mut list, &mut links);
@@ -172,6 +172,7 @@ fn singly_linked(rt: HostRuntime) {
     check(&rt, singly_linked_list::is_empty(&list, &links));
 }
 
+// The plain calls of a doubly linked list over links with 4-byte words must leave the members in the right order.
 // Promise: plain calls over 4-byte words.
 #[test]
 fn doubly_linked_over_narrow_links(rt: HostRuntime) {
@@ -185,7 +186,7 @@ fn doubly_linked_over_narrow_links(rt: HostRuntime) {
     push_to_back(&mut list, &mut links, object);
     let object = unlinked(&rt, &links, 3);
     push_to_front(&mut list, &mut links, object);
-    // their order is 3, 1, 2
+    // the order of the members is 3, 1, 2
     let object = unlinked(&rt, &links, 0);
     let first = index_of(slide(&mut list, &mut links, object));
     let ends = [

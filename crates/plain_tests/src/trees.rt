@@ -1,4 +1,4 @@
-//! The tree: each plain call once.
+//! Tests of the tree by plain calls. The tests make each plain call at least once.
 
 ghost use Rattle.std.specs.Ordering.{nat_cmp};
 ghost use Rattle.ic_link_ops.specs.PlainTables.{table};
@@ -19,7 +19,7 @@ use ic_unsafe_ref::{Objects, Place, UnsafeRef};
 use std::alloc::Global;
 use std::process::Abort;
 
-// Timers with these deadlines, at the places from 0 on.
+// Returns timers with these deadlines, at the places from 0 on.
 fn timers_at(rt: &impl Abort, alloc: Global, deadlines: &[u64]) -> Objects<Timer> {
     let mut objects = Objects::new(alloc);
     for deadline in deadlines {
@@ -34,7 +34,7 @@ fn timers_at(rt: &impl Abort, alloc: Global, deadlines: &[u64]) -> Objects<Timer
     objects
 }
 
-// Inserts the timer at the place of this index into the tree.
+// Inserts the timer at the place with this index into the tree, by the plain call.
 fn add<W: NodeWords>(
     rt: &impl Abort,
     tree: &mut RBTree<ByDeadline>,
@@ -52,7 +52,7 @@ fn add<W: NodeWords>(
     rbtree::insert(tree, links, objects, timer);
 }
 
-// Inserts the timer at the place of this index into the tree, as a caller of timers does.
+// Inserts the timer at the place with this index into the tree, by the example function `schedule`.
 fn schedule_at(
     rt: &impl Abort,
     tree: &mut RBTree<ByDeadline>,
@@ -69,7 +69,7 @@ fn schedule_at(
     schedule(tree, links, objects, timer);
 }
 
-// Inserts the member at the place with this index after those with the same deadline, as a caller of timers does.
+// Moves the member at the place with this index after the other members with the same deadline, by the example function `reschedule`.
 fn reschedule_at(
     rt: &impl Abort,
     tree: &mut RBTree<ByDeadline>,
@@ -111,7 +111,7 @@ fn tree_in_order(rt: HostRuntime) {
     add(&rt, &mut tree, &mut links, &objects, 3);
     add(&rt, &mut tree, &mut links, &objects, 2);
     schedule_at(&rt, &mut tree, &mut links, &objects, 1);
-    // their order is 3, 1, 2, 0, and then as 1, 3, 2, 0
+    // the order of the members is 3, 1, 2, 0 before this call, and 1, 3, 2, 0 after it
     reschedule_at(&rt, &mut tree, &mut links, &objects, 3);
     let ends = [
         index(rbtree::first(&tree, &links)),
@@ -141,7 +141,7 @@ fn tree_in_order_over_narrow_links(rt: HostRuntime) {
     let objects = timers_at(&rt, rt.alloc(), &[30, 10, 20, 10]);
     let mut links: NarrowLinkOps = covering(&rt, rt.alloc());
     let mut tree = rbtree::new(ByDeadline);
-    // their order is 1, 3, 2, 0
+    // the order of the members will be 1, 3, 2, 0
     add(&rt, &mut tree, &mut links, &objects, 0);
     add(&rt, &mut tree, &mut links, &objects, 1);
     add(&rt, &mut tree, &mut links, &objects, 2);

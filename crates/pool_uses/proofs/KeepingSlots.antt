@@ -1,4 +1,4 @@
--- What slots keep over each of their calls, and what a change of one slot says of the handles.
+-- Lemmas which show that each call of `Slots` maintains `IsKept`, and what each handle names after one slot has changed.
 use Rattle.std.specs.Prelude.{⊤}
 use Rattle.std.proofs.Common.{◌≡◌, ◌≢◌, ℕ, ◌+◌, ◌-◌, ◌≤◌, ◌<◌, true, false, cond, List, [], ◌∷◌, ◌++◌, drop, length, Option, Some, None, IsSome, is_some, inl, inr, refl, sym, ap, subst, ◌∙◌, arith, length-append, true≢false}
 use Rattle.std.proofs.lemmas.Bool.{cases_eq, eqb-false, le-leb}
@@ -35,12 +35,12 @@ same_handle : (h k : Handle) → index_of h.place ≡ index_of k.place → h.gen
 same_handle h k e f = λ i. record { place = same_index h.place k.place e i; generation = f i }
 
 module _ {T : Type 0} where
-  -- what a handle names is the value of its slot
+  -- if a handle names a value, then its slot has this value and the handle's generation
   pub named_slot : (o : Option (Slot T)) (g : ℕ) {value : T} → Some value ≡ named_in o g → (slot : Slot T) × (o ≡ Some slot) × (slot.generation ≡ g) × (slot.value ≡ Some value)
   named_slot None g is = absurd (cc)
   named_slot (Some slot) g is = (slot, refl, grind (arith, nat_tests), grind (arith, nat_tests))
 
-  -- of every other handle is said what was, if that is so of the other generations of the slot that has changed
+  -- if one slot changes and its other generations name what they named before, then every handle except `handle` names what it named before
   others_said : {old new : Objects (Slot T)} (handle : Handle) {was : Option (Slot T)} {now : Slot T} (m n : ℕ) → object_at old handle.place ≡ was → Puts old new handle.place now
       → ((k : ℕ) → k ≢ handle.generation → (named_in (Some now) k ≡ named_in was k) × (given_in (Some now) k ≡ given_in was k))
       → (h : Handle) → h ≢ handle → (named (naming_of new n) h ≡ named (naming_of old m) h) × (is_given (naming_of new n) h ≡ is_given (naming_of old m) h)
@@ -49,7 +49,7 @@ module _ {T : Type 0} where
     | inr apart ↦ rw (put_beside puts (index_of h.place) apart) (refl, refl)
   ]
 
-  -- A SLOT IS PLACED with a value,
+  -- A NEW SLOT is placed with a value, and then the handle with the generation 0 of this slot names the value
   pub inserts_new : {old new : Objects (Slot T)} (p : Place) {value : T} (len : ℕ) → Places old new p (record { generation = 0; value = Some value })
       → Inserts (record { place = p; generation = 0 }) value (naming_of old len) (naming_of new (len + 1))
   inserts_new p {value} len places = record {
@@ -62,7 +62,7 @@ module _ {T : Type 0} where
   }
 
   module _ {old new : Objects (Slot T)} (handle : Handle) {was : Slot T} (len : ℕ) (there : object_at old handle.place ≡ Some was) (is : was.generation ≡ handle.generation) where
-    -- or is filled
+    -- a vacant slot gets a value, and then the handle with the slot's generation names the value
     pub inserts_filled : {value : T} → Puts old new handle.place (record was { value = Some value }) → was.value ≡ None → Inserts handle value (naming_of old len) (naming_of new (len + 1))
     inserts_filled {value} puts none = record {
       never = rw there (grind (arith, nat_tests));
@@ -73,7 +73,7 @@ module _ {T : Type 0} where
       count = refl;
     }
 
-    -- THE HANDLE IS OLD where the slot is emptied: its next generation is not given out yet
+    -- THE HANDLE IS OLD after the value of its slot is removed. No call has returned the handle with the slot's next generation yet
     pub removes : Puts old new handle.place (record { generation = was.generation + 1; value = None }) → 1 ≤ len → (is_last handle ≡ false → HasVacant (naming_of new (len - 1)))
         → Removes handle (naming_of old len) (naming_of new (len - 1))
     removes puts some left = record {
@@ -84,7 +84,7 @@ module _ {T : Type 0} where
       vacant = left;
     }
 
--- how slots read their table
+-- how the list of vacant slots reads its table: the members and the links of a singly linked list
 pub slot_reading : {K A : Type 0} → Reading {L = PlainTable (OneWord K) A ⊤} (Represents successor) is_linked (list_from None) plain_table members_of
 slot_reading = record {
   kind = singly_lists (λ e. refl);
@@ -92,7 +92,7 @@ slot_reading = record {
 }
 
 module _ {T : Type 0} where
-  -- a slot is at home in the list exactly if it can have a value
+  -- a slot belongs in the list of vacant slots exactly if it has no value and can get one
   usable_owner : (o : Option (Slot T)) → IsUsable o → owner_or vacant_owner o ≡ Some 0
   usable_owner None can = absurd can
   usable_owner (Some slot) can = grind (arith, nat_tests)
@@ -101,17 +101,17 @@ module _ {T : Type 0} where
   owner_usable None h = absurd (none_not 0 h)
   owner_usable (Some slot) h = (slot, refl, grind (arith, nat_tests))
 
--- what is at home nowhere is in no row
+-- a place that belongs in no list is not among the members of any list
 absent_off : (owner : Place → Option ℕ) (p : Place) → owner p ≡ None → (i : ℕ) (s : List Place) → AllByRecursion (λ q. owner q ≡ Some i) s → IsAbsent p s
 absent_off owner p none i [] own = tt
 absent_off owner p none i (x ∷ s) own = ((λ e. none_not i (sym none ∙ ap owner e ∙ own.0)), absent_off owner p none i s own.1)
 
 module _ {T : Type 0} {objects : Objects (Slot T)} {len : ℕ} (k : IsCounted objects len) where
-  -- THERE ARE FEW VALUES, as there are few places
+  -- THERE ARE FEW VALUES, because there are few places: at most 8,589,934,591
   pub few : len ≤ 8589934591
   few = omega (arith, k.count, few_places k.taken k.once)
 
-  -- ONE SLOT CHANGES
+  -- ONE SLOT CHANGES, at the place `p`, and all other slots keep their contents
   module _ {new : Objects (Slot T)} {p : Place} {slot : Slot T} (puts : Puts objects new p slot) where
     below_put : (IsSome slot.value → IsTaken (Some slot)) → (q : Place) → IsSome (value_in (object_at new q)) → IsTaken (object_at new q)
     below_put here q = elim (same_or_not q p) [ inl e ↦ rw (e, put_there puts) here | inr n ↦ rw (put_others puts q n) (k.below q) ]
@@ -119,7 +119,7 @@ module _ {T : Type 0} {objects : Objects (Slot T)} {len : ℕ} (k : IsCounted ob
     owners : (q : Place) → q ≢ p → owner_of taken_owner new q ≡ owner_of taken_owner objects q
     owners q n = ap (owner_or taken_owner) (put_others puts q n)
 
-    -- it gets a value,
+    -- if the changed slot gets a value, then one further slot has a value
     counted_more : {value : T} → slot.value ≡ Some value → slot.generation < 18446744073709551615 → owner_of taken_owner objects p ≡ None → IsCounted new (len + 1)
     counted_more has below none =
         let out = absent_off (owner_of taken_owner objects) p none in record {
@@ -130,7 +130,7 @@ module _ {T : Type 0} {objects : Objects (Slot T)} {len : ℕ} (k : IsCounted ob
           count = omega (arith, k.count);
         }
 
-    -- or loses it
+    -- if the changed slot loses its value, then one slot fewer has a value
     counted_less : slot.value ≡ None → owner_of taken_owner objects p ≡ Some 0 → IsCounted new (len - 1)
     counted_less none here =
         let m = member_split p k.taken (k.housed.all p 0 here) in record {
@@ -144,7 +144,7 @@ module _ {T : Type 0} {objects : Objects (Slot T)} {len : ℕ} (k : IsCounted ob
   some_value : (p : Place) → owner_of taken_owner objects p ≡ Some 0 → 1 ≤ len
   some_value p here = let m = member_split p k.taken (k.housed.all p 0 here) in omega (arith, k.count, ap length m.2, length-append m.0 (p ∷ m.1))
 
--- AT FIRST
+-- NEW SLOTS, which have no object and an empty table, maintain `IsKept`
 pub kept_none : {T K A : Type 0} (objects : Objects (Slot T)) (links : PlainTable (OneWord K) A ⊤) → ((p : Place) → object_at objects p ≡ None) → (plain_table links).extent.places ≡ 0
     → IsKept objects links (list_from None) 0
 kept_none {T} objects links vacant no_links =
@@ -171,18 +171,18 @@ module _ {T K A : Type 0} {objects : Objects (Slot T)} {links : PlainTable (OneW
   pub shown : Represents successor (plain_table links) vacant (members_of links vacant)
   shown = k.holds.shown 0
 
-  -- WHERE A SLOT IS VACANT the list has a first one
+  -- IF SOME SLOT IS VACANT, then the list of vacant slots has a first member
   pub first_of_vacant : HasVacant (naming_of objects len) → IsSome (first (members_of links vacant))
   first_of_vacant can = by members (k.holds.housed.all can.0 0 (usable_owner (object_at objects can.0) can.1)) where
     by : (s : List Place) → IsMember can.0 s → IsSome (first s)
     by [] member = absurd (member tt)
     by (p ∷ s) member = refl
 
-  -- AFTER THE TABLE HAS GROWN
+  -- AFTER THE TABLE HAS GROWN, the slots still maintain `IsKept`
   pub kept_grown : {grown : PlainTable (OneWord K) A ⊤} → Grows (plain_table links) (plain_table grown) → IsKept objects grown vacant len
   kept_grown {grown} grows = record { holds = holds_grown slot_reading k.holds grown grows; pooled = pooled_grown k.pooled grows; counted = k.counted }
 
-  -- A NEW SLOT, with a value
+  -- A NEW SLOT is placed with a value, and the slots still maintain `IsKept`
   pub kept_placed : {grown : PlainTable (OneWord K) A ⊤} {new : Objects (Slot T)} {p : Place} {value : T} → Grows (plain_table links) (plain_table grown) → Places objects new p (record { generation = 0; value = Some value })
       → IsCovered (plain_table grown) p → IsKept new grown vacant (len + 1)
   kept_placed {grown} {p = p} grows places room = record {
@@ -191,12 +191,12 @@ module _ {T K A : Type 0} {objects : Objects (Slot T)} {links : PlainTable (OneW
     counted = counted_more k.counted (placed_puts places) refl (omega arith) (ap (owner_or taken_owner) places.vacant);
   }
 
-  -- THE FIRST VACANT SLOT is taken off the list and filled
+  -- THE FIRST VACANT SLOT is removed from the list and gets a value, and the slots still maintain `IsKept`
   module _ (after : PlainTable (OneWord K) A ⊤) (front : Front) (value : T) {new : Objects (Slot T)} {p : Place} {g : ℕ} (answer : (s : List Place) → Represents successor (plain_table links) vacant s → Some p ≡ first s)
       (popped : (s : List Place) → Represents successor (plain_table links) vacant s → Represents successor (plain_table after) front (drop 1 s)) (off : Unlinks is_linked (plain_table links) (plain_table after) p)
       (frame : (s : List Place) → Represents successor (plain_table links) vacant s → ChangesOnlyIn (plain_table links) (plain_table after) s)
       (fills : (s : Slot T) → object_at objects p ≡ Some s → (g ≡ s.generation) × (new ≡ with_object objects p (record s { value = Some value }))) where
-    -- its slot, before
+    -- the slot at the place `p` of the list's first member, before it gets the value
     first_vacant : (was : Slot T) × (object_at objects p ≡ Some was) × IsUsable (Some was)
     first_vacant = owner_usable (object_at objects p) (subst (AllByRecursion (λ q. owner_or vacant_owner (object_at objects q) ≡ Some 0)) (first_is members (answer members shown)) (k.holds.housed.own 0)).0
 
@@ -211,14 +211,14 @@ module _ {T K A : Type 0} {objects : Objects (Slot T)} {links : PlainTable (OneW
       counted = counted_more k.counted filled_puts refl first_vacant.2.1 (ap (owner_or taken_owner) first_vacant.1 ∙ ap taken_with first_vacant.2.0);
     }
 
-    -- which was vacant
+    -- the slot at the place `p` was vacant before it got the value
     pub filled_usable : IsUsable (object_at objects p)
     filled_usable = subst IsUsable (sym first_vacant.1) first_vacant.2
 
     pub filled_handle : Inserts (record { place = p; generation = g }) value (naming_of objects len) (naming_of new (len + 1))
     filled_handle = inserts_filled (record { place = p; generation = g }) len first_vacant.1 (sym (fills first_vacant.0 first_vacant.1).0) filled_puts first_vacant.2.0
 
-  -- THE SLOT OF A HANDLE is emptied, where it names a value
+  -- THE VALUE IS REMOVED from the slot of a handle that names a value
   module _ (h : Handle) {new : Objects (Slot T)} {seen value : T} (is : Some seen ≡ named_in (object_at objects h.place) h.generation)
       (empties : (s : Slot T) → object_at objects h.place ≡ Some s → (s.value ≡ Some value) × (new ≡ with_object objects h.place (record { generation = s.generation + 1; value = None }))) where
     own : (slot : Slot T) × (object_at objects h.place ≡ Some slot) × (slot.generation ≡ h.generation) × (slot.value ≡ Some seen)
@@ -248,7 +248,7 @@ module _ {T K A : Type 0} {objects : Objects (Slot T)} {links : PlainTable (OneW
     pub emptied_usable : h.generation + 1 ≢ 18446744073709551615 → IsUsable (object_at new h.place)
     emptied_usable more = subst IsUsable (sym (put_there puts)) (refl, omega (arith, emptied_below, own.2, more))
 
-    -- it is used up, or goes to the front of the list
+    -- the slot is used up if its next generation is the last one. Otherwise the slot is inserted at the front of the list
     pub kept_used_up : h.generation + 1 ≡ 18446744073709551615 → IsKept new links vacant (len - 1)
     kept_used_up last = record {
       holds = holds_changed slot_reading vacant_owner objects k.holds puts (ap (λ b. cond b None (Some 0)) (le-leb 18446744073709551615 (own.0.generation + 1) (omega (arith, own.2, last))) ∙ sym owner_was);
@@ -267,7 +267,7 @@ module _ {T K A : Type 0} {objects : Objects (Slot T)} {links : PlainTable (OneW
     pub emptied_handle : Removes h (naming_of objects len) (naming_of new (len - 1))
     emptied_handle = removes h len own.1 own.2 puts emptied_some (λ no. (h.place, emptied_usable (eqb-false (h.generation + 1) 18446744073709551615 no)))
 
--- A HANDLE THAT IS OLD stays so, whatever is inserted and removed: it was given out, and names nothing
+-- A HANDLE IS OLD if a call returned it and it now names nothing. It stays old, whatever is inserted and removed later
 pub record IsOld {T : Type 0} (slots : Naming T) (h : Handle) : Type 0 where
   pub given : is_given slots h ≡ true
   pub nothing : named slots h ≡ None

@@ -1,4 +1,4 @@
--- What a step says of those that wait.
+-- Lemmas about the waiting timers after each step of a call.
 use Rattle.std.proofs.Common.{◌≡◌, ◌≢◌, ℕ, ◌^◌, leb, ◌<◌, true, false, Option, Some, None, IsSome, is_some, List, [], ◌∷◌, ◌++◌, map, drop, arith, append_assoc, append-nil, inl, inr, refl, sym, ap, subst, ◌∙◌, true≢false}
 use Rattle.std.proofs.lemmas.Bool.Decides.{leb_tells}
 use Rattle.std.proofs.lemmas.List.{map_push}
@@ -24,7 +24,7 @@ use Rattle.pool_uses.specs.KeptTimers.{deadline_of, waiting_of, waiting_at, wait
 use Rattle.pool_uses.specs.Timers.{Waiting, timer_of, deadlines, NamesNone, Adds, Cancels, TakesFirst, TakesAll, taken_out}
 
 module _ {V : Type 0} (objects : Objects (Timer V)) where
-  -- what waits at the members of a sequence that is cut
+  -- the timers at the members of a sequence that is divided in two are the timers of the first part and then those of the second part
   waiting_join : (front back : List Place) → waiting_at objects (front ++ back) ≡ waiting_at objects front ++ waiting_at objects back
   waiting_join front back = filter_map-append (λ p. waiting_of p (object_at objects p)) front back
 
@@ -32,12 +32,12 @@ module _ {V : Type 0} (objects : Objects (Timer V)) where
       → waiting_at objects (front ++ p ∷ back) ≡ waiting_at objects front ++ timer_of p timer.deadline timer.value ∷ waiting_at objects back
   waiting_split front p back there = waiting_join front (p ∷ back) ∙ rw there refl
 
-  -- their deadlines are those of the timers there
+  -- the deadlines of the waiting timers at the places of `s` are the deadlines of the timer objects at these places
   deadlines_are : (s : List Place) → deadlines (waiting_at objects s) ≡ map deadline_of (values_at objects s)
   deadlines_are [] = refl
   deadlines_are (p ∷ s) = let rest = deadlines_are s in grind arith
 
-  -- what holds of each member holds of what waits there
+  -- if `P` holds of each member and implies `Q` of the timer at the member, then `Q` holds of each waiting timer
   all_waiting : (P : Place → Type 0) (Q : Waiting V → Type 0) → ((p : Place) (timer : Timer V) → object_at objects p ≡ Some timer → P p → Q (timer_of p timer.deadline timer.value))
       → (s : List Place) → AllByRecursion P s → AllByRecursion Q (waiting_at objects s)
   all_waiting P Q says [] h = tt
@@ -46,7 +46,7 @@ module _ {V : Type 0} (objects : Objects (Timer V)) where
     by None e rest = rest
     by (Some timer) e rest = (says p timer e h.0, rest)
 
-  -- where all members have later deadlines, all that waits there has
+  -- if the deadlines at all members are later than `d`, then the deadlines of all waiting timers at these members are later than `d`
   pub all_later : (d : ℕ) (s : List Place) → AllByRecursion (λ p. d < key_at deadline_of objects p) s → AllByRecursion (λ (w : Waiting V). d < w.deadline) (waiting_at objects s)
   all_later d = all_waiting (λ p. d < key_at deadline_of objects p) (λ w. d < w.deadline) (λ p timer e h. subst (λ (o : Option (Timer V)). d < key_or deadline_of o) e h)
 
@@ -58,20 +58,20 @@ module _ {V A : Type 0} {objects : Objects (Timer V)} {links : TreeLinkOps A} {r
   abbrev members : List Place
   members = members_of links root
 
-  -- AFTER `place`, whatever it answered
+  -- AFTER THE CALL `place`, the tables may have grown, and the waiting timers are the same
   pub same_grown : (grown : TreeLinkOps A) → Grows (plain_table links) (plain_table grown) → timetable_of objects grown root ≡ timetable_of objects links root
   same_grown grown grows = ap (λ (s : List Place). record { waiting = waiting_at objects s; is_full = leb (2 ^ 32) objects.next }) (members_grown deadline_of objects a grown grows)
 
-  -- THEIR DEADLINES never fall
+  -- THE DEADLINES of the waiting timers never decrease
   pub rises : IsSorted nat_cmp (deadlines (waiting_in objects links root))
   rises = subst (IsSorted nat_cmp) (sym (deadlines_are objects members ∙ ap (map deadline_of) (all_values deadline_of objects a))) a.each.sorted.sorted
 
-  -- A VACANT PLACE is no reference
+  -- A PLACE WITHOUT A TIMER is the reference of no waiting timer
   pub vacant_named : (p : Place) → is_placed objects p ≡ false → NamesNone p (waiting_in objects links root)
   vacant_named p none =
       all_waiting objects (λ q. IsSome (object_at objects q)) (λ w. p ≢ w.reference) (λ q timer there here same. true≢false (sym (ap (is_placed objects) same ∙ ap is_some there) ∙ none)) members (all_stand deadline_of objects a)
 
-  -- ONE IS TAKEN OUT, from between these
+  -- ONE TIMER IS REMOVED from between the timers `front` and `back`, and all other timers wait in their order
   module _ {p : Place} {timer : Timer V} (front back : List Place) (was : members_of links root ≡ front ++ p ∷ back) (there : object_at objects p ≡ Some timer) {less : Objects (Timer V)} (frees : Frees objects less p) where
     were : waiting_in objects links root ≡ waiting_at objects front ++ timer_of p timer.deadline timer.value ∷ waiting_at objects back
     were = ap (waiting_at objects) was ∙ waiting_split objects front p back there
@@ -79,7 +79,7 @@ module _ {V A : Type 0} {objects : Objects (Timer V)} {links : TreeLinkOps A} {r
     left : waiting_at less (front ++ back) ≡ waiting_at objects front ++ waiting_at objects back
     left = waiting_beside objects less p (others_left frees) (front ++ back) (distinct_middle front back p (subst IsDistinct was (all_distinct deadline_of objects a))) ∙ waiting_join objects front back
 
-  -- IT IS CALLED OFF
+  -- THE TIMER AT THE PLACE `p` IS CANCELED, and all other timers still wait
   pub cancels : {p : Place} {timer : Timer V} {less : Objects (Timer V)} (after : TreeLinkOps A) (top : Option Place) → object_at objects p ≡ Some timer → Frees objects less p → Without p (members_of links root) (members_of after top)
       → Cancels (timer_of p timer.deadline timer.value) (waiting_in objects links root) (waiting_in less after top)
   cancels {less = less} after top there frees w = record {
@@ -89,7 +89,7 @@ module _ {V A : Type 0} {objects : Objects (Timer V)} {links : TreeLinkOps A} {r
     is = ap (waiting_at less) w.is ∙ left w.front w.back w.was there frees;
   }
 
-  -- THE FIRST IS TAKEN OUT, which is due
+  -- THE FIRST TIMER IS REMOVED because it is due
   pub first_due : (now : ℕ) {p : Place} → Some p ≡ if_passes (is_due deadline_of objects now) (first (members_of links root)) → (Some p ≡ first (members_of links root)) × is_due deadline_of objects now p ≡ true
   first_due now {p} due = passed (is_due deadline_of objects now) (first members) p due
 
@@ -103,7 +103,7 @@ module _ {V A : Type 0} {objects : Objects (Timer V)} {links : TreeLinkOps A} {r
     due = elim (leb_tells timer.deadline now) [ inl h ↦ h.1 | inr h ↦ absurd (true≢false (sym is_now ∙ ap (due deadline_of now) there ∙ h.0)) ];
   }
 
-  -- A NEW ONE WAITS
+  -- A NEW TIMER WAITS: it is inserted into the tree in the order of deadlines
   pub adds : (grown : TreeLinkOps A) → Grows (plain_table links) (plain_table grown) → {new : Objects (Timer V)} {p : Place} {timer : Timer V} → Places objects new p timer
       → (after : TreeLinkOps A) (top : Option Place) → IsSorted nat_cmp (deadlines (waiting_in new after top)) → PutsInOrder deadline_of new (members_of grown root) (members_of after top) p
       → Adds (timer_of p timer.deadline timer.value) (waiting_in objects links root) (waiting_in new after top)
@@ -118,13 +118,13 @@ module _ {V A : Type 0} {objects : Objects (Timer V)} {links : TreeLinkOps A} {r
     fresh = vacant_named p (ap is_some places.vacant);
   }
 
--- TIMERS THAT ARE DUE are taken out, one after another
+-- TIMERS THAT ARE DUE are removed one after the other
 module _ {V : Type 0} {now : ℕ} {had : List (ℕ × V)} where
-  -- at first none is taken,
+  -- at the beginning, no timer is removed
   pub takes_none : (start : List (Waiting V)) → TakesAll now had had start start
   takes_none start = record { taken = []; were = refl; due = tt; out = sym (append-nil had) }
 
-  -- and then the first of those that wait still
+  -- if due timers were removed and then the first of the others is removed because it is due, then the first timers were removed, each of them due
   pub takes_one : {has more : List (ℕ × V)} {start old new : List (Waiting V)} {deadline : ℕ} {value : V} → TakesAll now had has start old → TakesFirst now deadline value old new
       → more ≡ has ++ (deadline, value) ∷ [] → TakesAll now had more start new
   takes_one {new = new} {deadline} {value} k one is =

@@ -1,4 +1,4 @@
--- What slots maintain for their pool and the list of vacant slots.
+-- What `Slots` maintains for its pool and for its list of vacant slots.
 use Rattle.std.specs.Prelude.{◌≡◌, ◌<◌, ◌^◌, cond, leb, ℕ, Bool, Option, Some, None, IsSome, List, [], length, ⊤}
 use Rattle.ic_link_ops.specs.Prelude.{Place, Objects, object_at, IsDistinct, Table}
 use Rattle.ic_link_ops.specs.declared.link.Link.{Link}
@@ -15,7 +15,7 @@ use Rattle.ic_container.specs.Rows.{EachInItsList, alone, owner_of}
 use Rattle.pool_uses.specs.declared.slots.Slot.{Slot}
 use Rattle.pool_uses.specs.Slots.{Naming}
 
--- the table of singly links, as contracts see it, and the members of a list
+-- These definitions say how contracts see the table of links of a singly linked list, and which members a list over the table has
 module _ {K : Type 0} where
   abbrev pub is_linked : Link (OneWord K) ⊤ → Bool
   is_linked = linked_by has_word
@@ -35,12 +35,12 @@ module _ {T : Type 0} where
   value_in None = None
   value_in (Some slot) = slot.value
 
-  -- a slot with a value, whose generation is not the last
+  -- the slot has a value, and its generation is not the last one, which is 2^64 - 1
   abbrev pub IsTaken : Option (Slot T) → Type 0
   IsTaken None = ⊥
   IsTaken (Some slot) = IsSome slot.value × (slot.generation < 18446744073709551615)
 
-  -- a slot belongs in the list of vacant slots if it has no value, and its generation is not the last
+  -- a slot belongs in the list of vacant slots, list 0, if it has no value and its generation is not the last one
   abbrev pub owner_with : Option T → ℕ → Option ℕ
   owner_with None g = cond (leb 18446744073709551615 g) None (Some 0)
   owner_with (Some value) g = None
@@ -48,7 +48,7 @@ module _ {T : Type 0} where
   abbrev pub vacant_owner : Slot T → Option ℕ
   vacant_owner slot = owner_with slot.value slot.generation
 
-  -- a slot is counted if it has a value
+  -- a slot is counted among the taken slots if it has a value
   abbrev pub taken_with : Option T → Option ℕ
   taken_with None = None
   taken_with (Some value) = Some 0
@@ -56,11 +56,11 @@ module _ {T : Type 0} where
   abbrev pub taken_owner : Slot T → Option ℕ
   taken_owner slot = taken_with slot.value
 
--- what a contract sees of them
+-- what a contract sees of slots: their contents, how many of them have a value, and whether all places are in use
 abbrev pub naming_of : {T : Type 0} → Objects (Slot T) → ℕ → Naming T
 naming_of objects len = record { slots = objects.values; count = len; is_full = leb (2 ^ 32) objects.next }
 
--- a slot with a value is not used up, and `len` is how many places have one
+-- no slot with a value has the last generation, and `len` is the number of places whose slots have a value
 pub record IsCounted {T : Type 0} (objects : Objects (Slot T)) (len : ℕ) : Type 0 where
   pub below : (p : Place) → IsSome (value_in (object_at objects p)) → IsTaken (object_at objects p)
   pub taken : List Place
@@ -68,8 +68,8 @@ pub record IsCounted {T : Type 0} (objects : Objects (Slot T)) (len : ℕ) : Typ
   pub housed : EachInItsList (owner_of taken_owner objects) (alone [] taken)
   pub count : len ≡ length taken
 
--- WHAT SLOTS MAINTAIN: the list has exactly the slots that are vacant and not used up, the table covers the place of each slot, and the slots with a
--- value are counted
+-- WHAT SLOTS MAINTAIN: The list has exactly the slots without a value whose generation is not the last one. The table covers the place of each slot.
+-- `len` is the number of slots with a value
 pub record IsKept {T K A : Type 0} (objects : Objects (Slot T)) (links : PlainTable (OneWord K) A ⊤) (vacant : Front) (len : ℕ) : Type 0 where
   pub holds : Holds (Represents successor) is_linked plain_table members_of links (alone (list_from None) vacant) (owner_of vacant_owner objects)
   pub pooled : IsPooled is_linked objects (plain_table links)

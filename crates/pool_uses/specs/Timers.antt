@@ -1,4 +1,4 @@
--- Timers: values that wait, in the order in which they are due.
+-- What contracts see of timers: values that wait, in the order in which they are due.
 use Rattle.std.specs.Prelude.{◌≡◌, ◌≢◌, ◌<◌, ◌≤◌, ℕ, Bool, List, ◌∷◌, ◌++◌, map, refl}
 use Rattle.std.specs.Coded.{Coded, code_by, coded×, coded_ℕ, coded_bool, coded_list}
 use Rattle.std.specs.List.{AllByRecursion}
@@ -6,23 +6,23 @@ use Rattle.std.specs.Ordering.{nat_cmp}
 use Rattle.ic_link_ops.specs.Prelude.{Place, place_code}
 use Rattle.ic_rbtree.specs.Borders.{IsSorted}
 
--- a value that waits, its deadline, and the reference by which it is called off
+-- a waiting timer: its value, its deadline, and the reference by which a caller can cancel it
 pub record Waiting (V : Type 0) : Type 0 where
   pub reference : Place
   pub deadline : ℕ
   pub value : V
 
--- the timer with this reference, this deadline and this value
+-- the waiting timer with the given reference, deadline and value
 abbrev pub timer_of : {V : Type 0} → Place → ℕ → V → Waiting V
 timer_of reference deadline value = record { reference = reference; deadline = deadline; value = value }
 
--- a timer is stored as the tuple of its fields
+-- a waiting timer is stored as the tuple of its fields
 abbrev pub waiting_code : {V : Type 0} → Coded V → Coded (Waiting V)
 waiting_code {V} code =
     code_by (Place × (ℕ × V)) (coded× place_code (coded× coded_ℕ code)) (λ w. (w.reference, (w.deadline, w.value)))
     (λ p. record { reference = p.0; deadline = p.1.0; value = p.1.1 }) (λ _. refl)
 
--- the waiting timers, in the order in which they are due, and whether all places are in use
+-- a timetable has the waiting timers, in the order in which they are due, and says whether all places are in use
 pub record Timetable (V : Type 0) : Type 0 where
   pub waiting : List (Waiting V)
   pub is_full : Bool
@@ -32,7 +32,7 @@ timetable_code {V} code =
     code_by (List (Waiting V) × Bool) (coded× (coded_list (waiting_code code)) coded_bool) (λ t. (t.waiting, t.is_full)) (λ p. record { waiting = p.0; is_full = p.1 }) (λ _. refl)
 
 module _ {V : Type 0} where
-  -- each value with its deadline, as a removal returns it
+  -- the deadline and the value of each timer, which are what a removal returns
   abbrev pub taken_out : List (Waiting V) → List (ℕ × V)
   taken_out waiting = map (λ (w : Waiting V). (w.deadline, w.value)) waiting
 
@@ -40,11 +40,11 @@ module _ {V : Type 0} where
   abbrev pub deadlines : List (Waiting V) → List ℕ
   deadlines waiting = map (λ (w : Waiting V). w.deadline) waiting
 
-  -- no timer has this reference
+  -- no waiting timer has the reference
   abbrev pub NamesNone : Place → List (Waiting V) → Type 0
   NamesNone reference waiting = AllByRecursion (λ (w : Waiting V). reference ≢ w.reference) waiting
 
-  -- ONE MORE TIMER WAITS, after all with the same deadline or an earlier one. No timer had its reference, and the deadlines never decrease
+  -- A TIMER IS ADDED after all timers with the same deadline or an earlier one. No timer had its reference, and the deadlines of `new` never decrease
   pub record Adds (timer : Waiting V) (old new : List (Waiting V)) : Type 0 where
     pub front : List (Waiting V)
     pub back : List (Waiting V)
@@ -54,21 +54,21 @@ module _ {V : Type 0} where
     pub rises : IsSorted nat_cmp (deadlines new)
     pub fresh : NamesNone timer.reference old
 
-  -- ONE TIMER IS CANCELED, and all others wait in their order
+  -- ONE TIMER IS CANCELED, and all other timers still wait, in their order
   pub record Cancels (timer : Waiting V) (old new : List (Waiting V)) : Type 0 where
     pub front : List (Waiting V)
     pub back : List (Waiting V)
     pub was : old ≡ front ++ timer ∷ back
     pub is : new ≡ front ++ back
 
-  -- THE FIRST TIMER IS REMOVED: it is due, and has this deadline and this value
+  -- THE FIRST TIMER IS REMOVED: it is due at the time `now`, and has the given deadline and value
   pub record TakesFirst (now deadline : ℕ) (value : V) (old new : List (Waiting V)) : Type 0 where
     pub reference : Place
     pub first : old ≡ timer_of reference deadline value ∷ new
     pub due : deadline ≤ now
 
-  -- THE FIRST TIMERS ARE REMOVED, and each of them is due. They are appended in their order to the caller's list, and the others still wait in their
-  -- order
+  -- THE FIRST TIMERS ARE REMOVED, and each of them is due. Their deadlines and values are appended in order to the caller's list, which was `had` and
+  -- is now `has`. The other timers still wait, in their order
   pub record TakesAll (now : ℕ) (had has : List (ℕ × V)) (old new : List (Waiting V)) : Type 0 where
     pub taken : List (Waiting V)
     pub were : old ≡ taken ++ new

@@ -1,4 +1,4 @@
-//! Uses of pools, as a user would publish them. Each is a struct with private fields, and contracts see only what it represents.
+//! Examples of types over pools, as a user would publish them. Each type is a struct with private fields, and contracts see only what it represents.
 #![tactic(auto)]
 
 mod slots;

@@ -22,14 +22,14 @@ use ic_unsafe_ref::{Place, UnsafeRef};
 use std::alloc::{Allocator, Global};
 use std::marker::Model;
 
-/// The name of a value of [`Slots`]: a place, and a generation, which distinguishes the values that are there one after the other.
+/// The name of a value of [`Slots`]. It has a place and a generation, which distinguishes the values that the slot at this place has one after the other.
 #[derive(Clone, Copy, PartialEq, Eq)]
 pub struct Handle {
     place: Place,
     generation: u64,
 }
 
-// What a place has: a value with its generation, or no value with the generation of the next one.
+// A slot, which is the object at a place. It has a value with its generation, or no value and the generation of the next value.
 #[derive(Drop)]
 pub(crate) struct Slot<T> {
     pub(crate) generation: u64,
@@ -38,8 +38,8 @@ pub(crate) struct Slot<T> {
 
 /// Values that are named by handles. A handle names one value, from its insertion until its removal, and never names another.
 ///
-/// A contract sees which value each handle names, whether the handle was given out before, how many handles name a value, which slots are vacant, and
-/// whether all places are in use.
+/// A contract sees which value each handle names, and whether `insert` has ever returned the handle. It also sees how many handles name a value,
+/// which slots are vacant, and whether all places are in use.
 #[derive(Drop)]
 pub struct Slots<T, A: Allocator = Global> {
     pool: Pool<Slot<T>, LinkOps<A>, A>,
@@ -76,7 +76,7 @@ fn fill<T: Drop, A: Allocator>(
     slot.generation
 }
 
-// Removes the value from a slot, and ends its generation.
+// Removes the value from a slot and returns it. The slot's generation is then the next one.
 fn empty<T, A: Allocator>(pool: &mut Pool<Slot<T>, LinkOps<A>, A>, slot: &UnsafeRef<Slot<T>>) -> T
     requires taken { IsTaken (object_at pool.old.objects slot.now) }
     ensures emptied { (s : Slot T) → object_at pool.old.objects slot.now ≡ Some s → (s.value ≡ Some result)
@@ -91,7 +91,7 @@ fn empty<T, A: Allocator>(pool: &mut Pool<Slot<T>, LinkOps<A>, A>, slot: &Unsafe
 impl<T: Drop, A: Allocator> Slots<T, A> {
     ghost use Rattle.pool_uses.specs.Slots.{NamesNothing, HasVacant, IsVacantSlot, IsUnchanged, Inserts, Removes};
 
-    /// Makes slots without a value. It takes no memory.
+    /// Makes a `Slots` in which no handle names a value. It takes no memory.
     pub fn new(alloc: A) -> Slots<T, A>
     where
         A: Copy,
@@ -132,10 +132,10 @@ impl<T: Drop, A: Allocator> Slots<T, A> {
         }
     }
 
-    /// Inserts the value into the slot that was vacated last, or into a new one, and returns its handle. O(1), and it takes memory only for a new
-    /// slot.
+    /// Inserts the value into the slot that became vacant last, or into a new slot if none is vacant, and returns the handle of the value. O(1), and
+    /// it takes memory only for a new slot.
     ///
-    /// The handle was never given out before. If the value is refused, the caller gets it back, and nothing has changed. The error is `NoPlaceLeft`
+    /// No call returned this handle before. If the value is refused, the caller gets it back, and nothing has changed. The error is `NoPlaceLeft`
     /// exactly if all 4,294,967,296 places are in use, and otherwise `OutOfMemory`. While a slot is vacant, no value is refused, and no slot is
     /// added.
     pub fn insert(&mut self, value: T) -> Result<Handle, PlaceError<T>>
@@ -175,8 +175,8 @@ impl<T: Drop, A: Allocator> Slots<T, A> {
     /// Removes the value that the handle names and returns it, or returns `None` for an old handle. From then on the handle names nothing. O(1), and
     /// it takes no memory.
     ///
-    /// The slot is then vacant. After it has had 2^64 - 1 values its generations are used up, and the call does not add it to the list of vacant
-    /// slots again.
+    /// The slot is then vacant, and can get another value. After a slot has had 2^64 - 1 values, its generations are used up, and the call does not
+    /// add it to the list of vacant slots again.
     pub fn remove(&mut self, handle: Handle) -> Option<T>
         ensures value { result ≡ named self.old handle }
         ensures removed { IfSome result (λ value. Removes handle self.old self.new) }

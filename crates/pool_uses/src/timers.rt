@@ -1,4 +1,4 @@
-//! Timers: values that wait for their deadlines, and can be canceled before.
+//! Timers: values that wait for their deadlines. A caller can cancel a timer before it is due.
 //!
 //! ```text
 //! let mut timers = Timers::new(rt.alloc());
@@ -21,7 +21,7 @@ use scheduler::timer_queue::{ByDeadline, HasDeadline, take_due};
 use std::alloc::{AllocFailed, Allocator, Global};
 use std::marker::Model;
 
-/// A waiting value, as it is stored at a place.
+/// A waiting value with its deadline, as it is stored at a place.
 #[derive(Drop)]
 pub struct Timer<V> {
     pub(crate) deadline: u64,
@@ -39,8 +39,8 @@ impl<V> HasDeadline for Timer<V> {
 
 /// Values that wait for their deadlines.
 ///
-/// A contract sees the waiting timers as a list, sorted by deadline, and among equal deadlines in the order in which they were added. Each has the
-/// reference by which it can be canceled, its deadline and its value.
+/// A contract sees the waiting timers as a list, sorted by deadline, and among equal deadlines in the order in which they were added. Each timer has
+/// the reference by which a caller can cancel it, its deadline and its value.
 #[derive(Drop)]
 pub struct Timers<V, A: Allocator = Global> {
     pool: Pool<Timer<V>, LinkOps<A>, A>,
@@ -66,7 +66,7 @@ impl<V, A: Allocator> Timers<V, A> {
     ghost use Rattle.pool_uses.specs.Timers.{Waiting, timer_of, Adds, Cancels, TakesFirst, TakesAll, NamesNone};
     ghost use Rattle.scheduler.specs.Timers.{handed_back};
 
-    /// Makes timers of which none waits. It takes no memory.
+    /// Makes a `Timers` in which no value waits. It takes no memory.
     pub fn new(alloc: A) -> Timers<V, A>
     where
         A: Copy,
@@ -81,8 +81,9 @@ impl<V, A: Allocator> Timers<V, A> {
 
     /// Adds a value, which then waits, even if its deadline has passed. O(log n).
     ///
-    /// It returns the reference by which the timer can be canceled. If it is refused, the caller gets the value back, and nothing has changed. The
-    /// error is `NoPlaceLeft` exactly if all 4,294,967,296 places are in use, and otherwise `OutOfMemory`. It makes at most two requests for memory.
+    /// It returns the reference by which a caller can cancel the timer. If the value is refused, the caller gets the value back, and nothing has
+    /// changed. The error is `NoPlaceLeft` exactly if all 4,294,967,296 places are in use, and otherwise `OutOfMemory`. It makes at most two requests
+    /// for memory.
     pub fn add(&mut self, deadline: u64, value: V) -> Result<UnsafeRef<Timer<V>>, PlaceError<V>>
         ensures added { IfOk result (λ timer. Adds (timer_of timer deadline value) self.old.waiting self.new.waiting) }
         ensures refused { IfErr result (λ refused. (value_of refused ≡ value) × (self.new ≡ self.old)
@@ -100,7 +101,7 @@ impl<V, A: Allocator> Timers<V, A> {
 
     /// Cancels a timer, and returns its deadline and its value, or `None` if no waiting timer has this reference. O(log n), and it takes no memory.
     ///
-    /// The place of the timer is used again, so a reference that is kept longer may later name another timer.
+    /// The place of the timer is used again, so that a reference that the caller keeps longer may later name another timer.
     pub fn cancel(&mut self, timer: &UnsafeRef<Timer<V>>) -> Option<(u64, V)>
         ensures cancelled { IfSome result (λ answer. Cancels (timer_of timer.now answer.0 answer.1) self.old.waiting self.new.waiting) }
         ensures none { IfNone result (NamesNone timer.now self.old.waiting × (self.new ≡ self.old)) }
@@ -114,7 +115,8 @@ impl<V, A: Allocator> Timers<V, A> {
         Some((timer.deadline, timer.value))
     }
 
-    /// Removes the first timer if its deadline is at most `now`, and returns its deadline and its value. O(log n), and it takes no memory.
+    /// Removes the first timer if its deadline is at most `now`, and returns its deadline and its value. Otherwise it returns `None`. O(log n), and
+    /// it takes no memory.
     pub fn take_due(&mut self, now: u64) -> Option<(u64, V)>
         ensures taken { IfSome result (λ answer. TakesFirst now answer.0 answer.1 self.old.waiting self.new.waiting) }
         ensures none { IfNone result (AllByRecursion (λ (timer : Waiting V). now < timer.deadline) self.old.waiting × (self.new ≡ self.old)) }
@@ -129,10 +131,10 @@ impl<V, A: Allocator> Timers<V, A> {
         Some((timer.deadline, timer.value))
     }
 
-    /// Removes all timers that are due at `now`, the earliest first, and appends each with its deadline to `due`. O(k log n) for k timers.
+    /// Removes all timers that are due at `now`, the earliest first, and appends each with its deadline to `due`. O(k log n) for k removed timers.
     ///
-    /// It takes memory only for `due`, and none if that has room. If `due` cannot grow, the timer for which there was no room is returned, and the
-    /// others still wait.
+    /// It takes memory only for `due`, and none if `due` has room. If `due` cannot grow, the call returns the timer for which there was no room, and
+    /// the other timers still wait.
     pub fn take_all_due<C: Allocator>(
         &mut self,
         now: u64,

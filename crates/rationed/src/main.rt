@@ -1,8 +1,8 @@
-//! The program over an allocator that refuses one request: `rationed N` refuses the request with number N, counted from 0, and `rationed none`
-//! refuses none. It writes on standard error how many requests there were.
+//! The program over an allocator that refuses one request: `rationed N` refuses the request with number N, counted from 0, and `rationed none` refuses
+//! none. The program writes on standard error how many requests there were.
 //!
-//! With a second argument `list`, it runs all calls as one list of commands, and skips lines that are not calls. With `count`, it makes each call by
-//! its method, and writes how many requests the call made, and for how many bytes in all.
+//! If the second argument is `list`, the program runs all calls as one list of commands, and skips lines that are not calls. If the second argument is
+//! `count`, the program makes each call by its method, and writes how many requests the call made, and for how many bytes in all.
 #![tactic(auto)]
 
 mod methods;
@@ -16,7 +16,7 @@ use std::env;
 use std::io::{self, BufRead, BufReader, BufWriter, Write};
 use std::process::ExitCode;
 
-// Returns the number of the request to refuse, or none if the word is not a number.
+// Returns the number of the request to refuse. If the word is not a number, the result is `u64::MAX`, which refuses no request.
 fn request_in(word: Option<String>) -> u64 {
     match word {
         Some(word) => word.parse().unwrap_or(u64::MAX),
@@ -24,7 +24,7 @@ fn request_in(word: Option<String>) -> u64 {
     }
 }
 
-// Returns the calls that it reads from the reader, one for each line.
+// Reads calls from the reader, one for each line, and returns them. Lines that are not calls are skipped.
 fn commands_of(alloc: Global, reader: &mut impl BufRead) -> io::Result<Vec<Command<u64, u64>>> {
     let mut commands = Vec::new(alloc);
     for line in reader.lines(alloc) {
@@ -35,7 +35,7 @@ fn commands_of(alloc: Global, reader: &mut impl BufRead) -> io::Result<Vec<Comma
     Ok(commands)
 }
 
-// Runs the calls as one list, on a world over this allocator, and appends their answers to the lines.
+// Runs the calls as one list on a world that takes its memory from this allocator, and appends the answers to the lines.
 fn run_list(
     memory: &Rationed,
     commands: &[Command<u64, u64>],
@@ -50,7 +50,8 @@ fn run_list(
     Ok(())
 }
 
-// Makes the calls, on a world over this allocator, and appends to the lines how many requests for memory each made, and for how many bytes.
+// Makes the calls on a world over this allocator. For each call it appends a line that says how many requests for memory the call made, and for how
+// many bytes.
 fn count_each(
     memory: &Rationed,
     commands: &[Command<u64, u64>],
@@ -67,7 +68,7 @@ fn count_each(
     Ok(())
 }
 
-// Makes the calls that it reads from the reader, as one list or one by one, and writes the lines about them.
+// Reads calls from the reader, makes them as one list if `is_list` is true, or else one by one, and writes the lines about them.
 fn run_calls(
     alloc: Global,
     memory: &Rationed,
@@ -86,7 +87,7 @@ fn run_calls(
     writer.flush()
 }
 
-// Runs the program in the way that the word names, and returns its status.
+// Runs the program in the way that the second argument names, and returns its exit status.
 fn status_of(
     alloc: Global,
     memory: &Rationed,
@@ -106,14 +107,14 @@ fn status_of(
     }
 }
 
-// Runs the program over the standard streams, and returns its status.
+// Runs the program over the standard streams, and returns its exit status.
 fn status_over_streams(rt: &HostRuntime, memory: &Rationed, way: Option<&str>) -> io::Result<u8> {
     let mut reader = BufReader::new(rt.alloc(), rt.reader())?;
     let mut writer = BufWriter::new(rt.alloc(), io::writer(rt))?;
     Ok(status_of(rt.alloc(), memory, way, &mut reader, &mut writer))
 }
 
-// Runs the program with its arguments, and writes how many requests there were.
+// Runs the program with its arguments, and writes how many requests for memory there were.
 fn run(rt: &HostRuntime) -> io::Result<u8> {
     let mut words = env::args(rt)?;
     let _name = words.next();

@@ -1,10 +1,10 @@
-//! Each call of a world by the method with its name. `World::answer` does not use these methods.
+//! Makes each call of a world by the method that has the name of the call. `World::answer` does not use these methods.
 
 use ic_program::OwnKey;
 use ic_test_support::rationed::Rationed;
-use ic_world::{Call, Command, Direction, Gap, Insertion, Search, Seek, Whole, World};
+use ic_world::{BulkEdit, Call, Command, Gap, Insertion, Neighbor, Search, Seek, World};
 
-// Makes a call at a gap, or of all members, by its method, and any other as a command.
+// Makes a call at a gap, or a call on all members, by its method. Any other call is made as a command.
 fn call_list(world: &mut World<OwnKey, &Rationed>, collection: usize, call: Call<u64>) {
     match call {
         Call::Put(Gap::Front, object) => _ = world.push_front(collection, object),
@@ -17,30 +17,30 @@ fn call_list(world: &mut World<OwnKey, &Rationed>, collection: usize, call: Call
         Call::Take(Gap::After) => _ = world.remove_next(collection),
         Call::Swap(Gap::Before, object) => _ = world.replace_with(collection, object),
         Call::Swap(Gap::After, object) => _ = world.replace_next_with(collection, object),
-        Call::Whole(Whole::Clear) => _ = world.clear(collection),
-        Call::Whole(Whole::Reverse) => _ = world.reverse(collection),
+        Call::BulkEdit(BulkEdit::Clear) => _ = world.clear(collection),
+        Call::BulkEdit(BulkEdit::Reverse) => _ = world.reverse(collection),
         other => drop(world.answer(Command::On(collection, other))),
     }
 }
 
-// Makes a call that moves a cursor by its method, and any other as one of a list.
+// Makes a call that moves a cursor by its method. Any other call is passed to `call_list`.
 fn call_cursor(world: &mut World<OwnKey, &Rationed>, collection: usize, call: Call<u64>) {
     match call {
-        Call::Move(Direction::Next) => _ = world.move_next(collection),
-        Call::Move(Direction::Prev) => _ = world.move_prev(collection),
+        Call::Move(Neighbor::Next) => _ = world.move_next(collection),
+        Call::Move(Neighbor::Prev) => _ = world.move_prev(collection),
         Call::Seek(Seek::Null) => _ = world.go_null(collection),
         Call::Seek(Seek::On(object)) => _ = world.seek(collection, object),
-        Call::Seek(Seek::With(Direction::Prev, object, prev)) => _ = world.seek_with_prev(
+        Call::Seek(Seek::With(Neighbor::Prev, object, prev)) => _ = world.seek_with_prev(
             collection, object, prev,
         ),
-        Call::Seek(Seek::With(Direction::Next, object, next)) => _ = world.seek_with_next(
+        Call::Seek(Seek::With(Neighbor::Next, object, next)) => _ = world.seek_with_next(
             collection, object, next,
         ),
         other => call_list(world, collection, other),
     }
 }
 
-// Makes a call by keys by its method, and any other as one that moves a cursor.
+// Makes a call that takes a key by its method. Any other call is passed to `call_cursor`.
 fn call_on(world: &mut World<OwnKey, &Rationed>, collection: usize, call: Call<u64>) {
     match call {
         Call::Search(Search::Find(key)) => _ = world.find(collection, key),
@@ -55,7 +55,7 @@ fn call_on(world: &mut World<OwnKey, &Rationed>, collection: usize, call: Call<u
     }
 }
 
-/// Makes the call by its method, and any other as a command.
+/// Makes the call by its method, if it has one, or else as a command.
 pub(crate) fn call(world: &mut World<OwnKey, &Rationed>, command: Command<u64, u64>) {
     match command {
         Command::On(collection, call) => call_on(world, collection, call),

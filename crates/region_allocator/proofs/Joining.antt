@@ -1,10 +1,10 @@
--- Which regions touch one that is to be freed, what it is joined with, and what is left of one that is cut.
+-- Lemmas about a region that is freed, about the free regions that touch it and are joined with it, and about a free region that is cut.
 use Rattle.std.proofs.Common.{◌≡◌, ◌≢◌, ℕ, ◌+◌, ◌-◌, ◌^◌, ◌<◌, ◌≤◌, ◌⊎◌, ◌↔◌, inl, inr, Bool, Option, Some, None, Ok, Err, List, [], ◌∷◌, ◌++◌, refl, sym, ap, ◌∙◌, subst, arith}
 use Rattle.std.specs.List.{AllByRecursion}
 use Rattle.ic_link_ops.specs.Prelude.{Place, Objects, object_at}
 use Rattle.ic_link_ops.proofs.Each.{all_back, all_both, all_map, all_without}
 use Rattle.ic_rbtree.specs.PlainTrees.{TreeLinkOps}
-use Rattle.ic_augmented.specs.declared.sum_table.SumTable.{SumTable}
+use Rattle.ic_augmented.specs.declared.augmented_table.AugmentedTable.{AugmentedTable}
 use Rattle.region_allocator.specs.declared.free_error.FreeError.{FreeError}
 use Rattle.region_allocator.specs.declared.neighbors.Found.{Found}
 use Rattle.region_allocator.specs.declared.region.Region.{Region}
@@ -16,39 +16,40 @@ use Rattle.region_allocator.specs.Regions.{space_of, region_of, end_of, Has, IsF
 use Rattle.region_allocator.proofs.Apart.{IsOrApart, all_three, cut_apart, free_above, free_below, free_parts, free_with, others_away, others_not, parts_apart}
 use Rattle.region_allocator.proofs.Keeping.{represented_apart, others_apart, at_region}
 
--- a region shares no address with this one, and may touch it
+-- the region `x` shares no address with `region`, but may touch it
 abbrev pub IsBeside : Region → Region → Type 0
 IsBeside region x = AreApart region x ⊎ ((end_of x ≡ region.start) ⊎ (x.start ≡ end_of region))
 
--- no address of a region is free where all are beside it
+-- if no free region shares an address with `region`, then no address of `region` is free
 beside_not : (region : Region) (s : List Region) → AllByRecursion (IsBeside region) s → (a : ℕ) → Has region a → IsFree s a → ⊥
 beside_not region [] beside a own free = free
 beside_not region (x ∷ s) beside a own free = grind (arith, beside.0, beside_not region s beside.1 a own)
 
--- what is free with one more,
+-- after the region `r` was added, the free addresses are those that were free before and those of `r`
 adds_free : {r : Region} {old new : List Region} → Adds r old new → (a : ℕ) → IsFree new a ↔ (IsFree old a ⊎ Has r a)
 adds_free {r} adds a = rw (adds.is, adds.was) (free_with adds.front r adds.back a)
 
--- and with another one in the place of one
+-- after the region `r` replaced `out`, the free addresses are those of the other regions and those of `r`. Before, they were those of the others and
+-- of `out`
 changes_free : {out r : Region} {old new : List Region} (changes : Changes out r old new) (a : ℕ)
     → (IsFree old a ↔ (IsFree (changes.front ++ changes.back) a ⊎ Has out a)) × (IsFree new a ↔ (IsFree (changes.front ++ changes.back) a ⊎ Has r a))
 changes_free {out} {r} changes a = (rw changes.was (free_with changes.front out changes.back a), rw changes.is (free_with changes.front r changes.back a))
 
--- FREED, with what it is joined with
+-- THE REGION IS FREED if no free region shared an address with it, and the free addresses are now those from before and its own
 frees : {region : Region} {old new : List Region} → IsRegion region → AllByRecursion (IsBeside region) old → ((a : ℕ) → IsFree new a ↔ (IsFree old a ⊎ Has region a)) → FreesRegion region old new
 frees {region} {old} is beside free = record { is_region = is; was_taken = beside_not region old beside; free = free }
 
--- it fits where it has the addresses of the one in whose place it comes
+-- the region `joined` can replace the region `out` if it has all addresses of `out` and is apart from all other regions
 covers_fits : {out joined : Region} {s : List Region} → IsRegion out → joined.start ≤ out.start → end_of out ≤ end_of joined → end_of joined < 2 ^ 64
     → AllByRecursion (λ x. (x ≡ out) ⊎ AreApart joined x) s → FitsFor out joined s
 covers_fits own from to fits apart = let some = own.some in
     record { is_region = record { some = omega (arith, some, from, to); fits = fits }; low = omega (arith, some, from); high = omega (arith, some, to); apart = apart }
 
-module _ {A B : Type 0} {objects : Objects Region} {w : TreeLinkOps A} {root : Option Place} {z : SumTable ℕ ℕ B} (k : Keeps objects w root z) {region : Region} (is : IsRegion region) where
+module _ {A B : Type 0} {objects : Objects Region} {w : TreeLinkOps A} {root : Option Place} {z : AugmentedTable ℕ ℕ B} (k : Keeps objects w root z) {region : Region} (is : IsRegion region) where
   abbrev shown : List Region
   shown = represented_regions objects w root
 
-  -- with no other: all are apart from it
+  -- if no free region touches `region`, then all free regions are apart from it
   pub none_touches : Touches objects shown region None None → AllByRecursion (AreApart region) shown
   none_touches t = all_three (λ x near ends starts. grind arith) shown t.each t.front_is t.back_is
 
@@ -60,7 +61,7 @@ module _ {A B : Type 0} {objects : Objects Region} {w : TreeLinkOps A} {root : O
   pub adds_frees : {new : List Region} → Touches objects shown region None None → Adds region shown new → FreesRegion region shown new
   adds_frees t adds = frees is t.each (adds_free adds)
 
-  -- with the one before,
+  -- THE REGION TOUCHES ONLY the free region before it, which is replaced by the two joined
   module _ {front : Found} (t : Touches objects shown region (Some front) None) where
     pub front_fits : {out : Region} → object_at objects front.object ≡ Some out → FitsFor out (region_of front.region.start (front.region.length + region.length)) shown
     front_fits {out} there =
@@ -74,7 +75,7 @@ module _ {A B : Type 0} {objects : Objects Region} {w : TreeLinkOps A} {root : O
     front_frees resized = frees is t.each (λ a.
         let c = changes_free (resized front.region t.front_is.0.there) a in (λ free. grind (arith, c, t.front_is.1), λ either. grind (arith, c, t.front_is.1)))
 
-  -- with the one after,
+  -- THE REGION TOUCHES ONLY the free region after it, which is replaced by the two joined
   module _ {back : Found} (t : Touches objects shown region None (Some back)) where
     pub back_fits : {out : Region} → object_at objects back.object ≡ Some out → FitsFor out (region_of region.start (region.length + back.region.length)) shown
     back_fits {out} there =
@@ -88,7 +89,7 @@ module _ {A B : Type 0} {objects : Objects Region} {w : TreeLinkOps A} {root : O
     back_frees resized = frees is t.each (λ a.
         let c = changes_free (resized back.region t.back_is.0.there) a in (λ free. grind (arith, c, t.back_is.1), λ either. grind (arith, c, t.back_is.1)))
 
-  -- and with both, where the one after is taken out first
+  -- THE REGION TOUCHES a free region before it and one after it. The one after it is removed first, and then the one before is replaced by the three joined
   module _ {front back : Found} (t : Touches objects shown region (Some front) (Some back)) (less : Objects Region) {mid : List Region}
       (taken : (out : Region) → object_at objects back.object ≡ Some out → Adds out mid shown) (others : (p : Place) → p ≢ back.object → object_at less p ≡ object_at objects p) where
     front_there : object_at less front.object ≡ Some front.region
@@ -119,8 +120,8 @@ module _ {A B : Type 0} {objects : Objects Region} {w : TreeLinkOps A} {root : O
         let c = changes_free (resized front.region front_there) a in let d = adds_free adds a in
         (λ free. grind (arith, c, d, t.front_is.1, t.back_is.1), λ either. grind (arith, c, d, t.front_is.1, t.back_is.1)))
 
--- CUT: the start of a region is taken, and the rest of it is left
-module _ {A B : Type 0} {objects : Objects Region} {w : TreeLinkOps A} {root : Option Place} {z : SumTable ℕ ℕ B} (k : Keeps objects w root z) {found : Found} (is : IsFound objects found)
+-- CUT: the first `length` addresses of a found region are removed, and the rest of the region stays free
+module _ {A B : Type 0} {objects : Objects Region} {w : TreeLinkOps A} {root : Option Place} {z : AugmentedTable ℕ ℕ B} (k : Keeps objects w root z) {found : Found} (is : IsFound objects found)
     (length : ℕ) (enough : length ≤ found.region.length) where
   abbrev rest : Region
   rest = region_of (found.region.start + length) (found.region.length - length)
@@ -148,7 +149,7 @@ module _ {A B : Type 0} {objects : Objects Region} {w : TreeLinkOps A} {root : O
       let left : IsRegion rest = record { some = omega (arith, some); fits = omega (arith, is.is_region.fits, enough) } in
       rw same (record { is_region = left; low = omega (arith, some, enough); high = omega (arith, some); apart = apart })
 
--- the last of regions ends after all, and the first starts before all
+-- the last of several regions ends after all others, and the first of them starts before all others
 last_ends : (front rest : List Region) (r : Region) → front ≡ rest ++ r ∷ [] → AreRegionsApart front → AllByRecursion (λ x. end_of x ≤ end_of r) front
 last_ends front rest r is apart =
     let cut = cut_apart rest r [] (subst AreRegionsApart is apart) in rw is (all_both (λ x. end_of x ≤ end_of r) rest (r ∷ []) (all_map (λ x low. omega (arith, low)) rest cut.0) (omega arith, tt))
@@ -167,7 +168,7 @@ module _ {objects : Objects Region} {regions : List Region} where
     none_starts : AllByRecursion (λ x. x.start ≢ end_of region) beside.back → AllByRecursion (λ x. x.start ≢ end_of region) regions
     none_starts back = rw beside.cut (all_both (λ x. x.start ≢ end_of region) beside.front beside.back (all_map (λ x below same. omega (arith, below, same, is.some)) beside.front beside.starts_below) back)
 
-    -- NONE IN FRONT reaches beyond the address,
+    -- NO REGION BEFORE the address ends after the start of `region`, if the call for the region before it was not refused
     front_clear : (below result : Option Found) → IsLast objects beside.front below → EndsBy below region.start (Ok result)
         → AllByRecursion (λ x. end_of x ≤ region.start) beside.front × IsEnding objects regions region.start result
     front_clear None None last ends = (rw last tt, none_ends (rw last tt))
@@ -178,7 +179,7 @@ module _ {objects : Objects Region} {regions : List Region} where
         let last = subst (IsLast objects beside.front) ends.0 last in
         (all_map (λ x low. omega (arith, low, ends.1)) beside.front (last_ends beside.front last.1.0 found.region last.1.1 stand.0), (last.0, ends.1))
 
-    -- and none after starts before it
+    -- no region after the address starts before the end of `region`, if the call for the region after it was not refused
     back_clear : (above result : Option Found) → IsFirst objects beside.back above → StartsFrom above (end_of region) (Ok result)
         → AllByRecursion (λ x. end_of region ≤ x.start) beside.back × IsStarting objects regions (end_of region) result
     back_clear None None first starts = (rw first tt, none_starts (rw first tt))
@@ -189,7 +190,7 @@ module _ {objects : Objects Region} {regions : List Region} where
         let first = subst (IsFirst objects beside.back) starts.0 first in
         (all_map (λ x high. omega (arith, high, starts.1)) beside.back (first_starts beside.back first.1.0 found.region first.1.1 stand.1), (first.0, starts.1))
 
-    -- THE REGIONS THAT TOUCH IT
+    -- THE REGIONS THAT TOUCH `region` are those that the two calls `ending_at` and `starting_at` return
     pub touches : {front back : Option Found} → EndsBy low region.start (Ok front) → StartsFrom high (end_of region) (Ok back) → Touches objects regions region front back
     touches {front} {back} ends starts =
         let f = front_clear low front beside.below_is ends in
@@ -197,14 +198,14 @@ module _ {objects : Objects Region} {regions : List Region} where
         let each = all_both (IsBeside region) beside.front beside.back (all_map (λ x low. grind arith) beside.front f.0) (all_map (λ x high. grind arith) beside.back b.0) in
         record { each = subst (AllByRecursion (IsBeside region)) (sym beside.cut) each; front_is = f.1; back_is = b.1 }
 
-  -- the neighbor below an address has it if it ends after it
+  -- if the last region that starts at the address `a` or below it ends after `a`, then `a` is free
   last_free : {a : ℕ} {found : Found} {above : Option Found} → AreNeighbors objects regions a (Some found) above → a < end_of found.region → IsFree regions a
   last_free {a} {found} beside less =
       let rest = beside.below_is.1 in
       let low = (all_back (λ x. x.start ≤ a) rest.0 (found.region ∷ []) (subst (AllByRecursion (λ x. x.start ≤ a)) rest.1 beside.starts_below)).0 in
       rw beside.cut ((free_parts beside.front beside.back a).1 (inl (rw rest.1 ((free_with rest.0 found.region [] a).1 (inr (low, less))))))
 
-  -- THE ONE IN FRONT has an address of it, or the one after
+  -- THE REGION OVERLAPS its neighbor before it, or its neighbor after it, if the call for this neighbor was refused. Then the refusal has its reason
   pub overlaps_front : {region : Region} {below above : Option Found} → AreNeighbors objects regions region.start below above → IsRegion region → (full : Bool) (error : FreeError)
       → EndsBy below region.start (Err error) → IsRefused region (space_of regions full) error
   overlaps_front {below = None} beside is full error ends = absurd ends
@@ -219,7 +220,7 @@ module _ {objects : Objects Region} {regions : List Region} where
       let free = (free_with beside.front found.region first.1.0 found.region.start).1 (inr (omega arith, omega (arith, first.0.is_region.some))) in
       rw starts.0 (is, (found.region.start, (omega (arith, high), starts.1), rw (beside.cut, first.1.1) free))
 
-  -- WHETHER AN ADDRESS IS FREE, the neighbor below it tells
+  -- WHETHER THE ADDRESS IS FREE: it is free exactly if the last region that starts at it or below it ends after it
   module _ (a : ℕ) {above : Option Found} where
     pub free_there : AreRegionsApart regions → {found : Found} → AreNeighbors objects regions a (Some found) above → IsFree regions a ↔ (a < end_of found.region)
     free_there apart {found} beside =

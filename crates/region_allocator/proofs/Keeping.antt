@@ -1,4 +1,4 @@
--- What an allocator keeps over each of its calls, what that says of its regions, and what searches find.
+-- Lemmas which show that each call of an allocator maintains `Keeps`, how its regions change, and what its searches find.
 use Rattle.std.proofs.Common.{◌≡◌, ◌≢◌, ◌<◌, ◌↔◌, ℕ, nat_lt, map, Option, Some, None, IsSome, List, [], ◌∷◌, ◌++◌, refl, sym, ap, ◌∙◌, subst, arith, true≢false, ◌≤◌, ◌-◌, Bool, true, false, cond}
 use Rattle.std.proofs.lemmas.Bool.{lt-ltb, not-true, not-false, ltb-true, ltb-false}
 use Rattle.std.proofs.lemmas.Bool.Decides.{nat_tests}
@@ -32,9 +32,9 @@ use Rattle.ic_rbtree.proofs.SortedKeys.{front_is_least}
 use Rattle.ic_augmented.specs.Consistent.{IsConsistent, RepresentsConsistent}
 use Rattle.ic_augmented.specs.Greatest.{greatest, greatest_of, number_at, is_greater}
 use Rattle.ic_augmented.specs.Pooled.{GrowsSummed}
-use Rattle.ic_augmented.specs.SumTables.{blank, room_of}
-use Rattle.ic_augmented.specs.declared.sum_table.Cell.{Cell}
-use Rattle.ic_augmented.specs.declared.sum_table.SumTable.{SumTable}
+use Rattle.ic_augmented.specs.AugmentedTables.{blank, room_of}
+use Rattle.ic_augmented.specs.declared.augmented_table.Cell.{Cell}
+use Rattle.ic_augmented.specs.declared.augmented_table.AugmentedTable.{AugmentedTable}
 use Rattle.ic_augmented.proofs.PooledTrees.{grown_consistent, inserts_represented, consistent_in, numbers_stay}
 use Rattle.region_allocator.specs.declared.region.Region.{Region}
 use Rattle.region_allocator.specs.Changes.{Adds, Changes, FitsFor}
@@ -43,7 +43,7 @@ use Rattle.region_allocator.specs.Regions.{IsRegion, AreApart, AreRegionsApart, 
 use Rattle.region_allocator.specs.Neighbors.{found_at, IsFound, FitsFirst, IsLast, IsFirst, AreNeighbors}
 use Rattle.region_allocator.proofs.Apart.{IsOrApart, all_regions, added_apart, changed_apart, cut_apart, apart_from, starts_rise, lowest_fits, parts_apart}
 
--- a region stands where one is placed
+-- if an object is at a place, then it is a region
 pub region_there : (o : Option Region) → IsSome o → (r : Region) × (o ≡ Some r)
 region_there None here = absurd (true≢false (sym here))
 region_there (Some r) here = (r, refl)
@@ -53,26 +53,26 @@ nobody objects [] placed empty = refl
 nobody objects (p ∷ s) placed empty =
     let r = region_there (object_at objects p) placed.0 in absurd (cc (ap (λ (o : Option Region). cons_option o (values_at objects s)) r.1, empty))
 
--- a place whose length is not 0 has room for one
-in_room : {B : Type 0} (z : SumTable ℕ ℕ B) (p : Place) (n : ℕ) → number_at z p ≡ n → 0 < n → index_of p < room_of z
+-- if the number stored for the place `p` is not 0, then the table of numbers has room for `p`
+in_room : {B : Type 0} (z : AugmentedTable ℕ ℕ B) (p : Place) (n : ℕ) → number_at z p ≡ n → 0 < n → index_of p < room_of z
 in_room z p n told some = linked_in_range (λ (c : Cell ℕ ℕ). nat_lt 0 c.value) (blank 0) refl z.cells.items (index_of p) (lt-ltb 0 (number_at z p) (omega (arith, told, some)))
 
--- beside each link stands the length of its region
-abbrev IsBeside : {B : Type 0} → Objects Region → SumTable ℕ ℕ B → Place → Type 0
+-- the number that is stored for the place `q` is the length of the region at `q`, if there is one
+abbrev IsBeside : {B : Type 0} → Objects Region → AugmentedTable ℕ ℕ B → Place → Type 0
 IsBeside objects z q = (r : Region) → object_at objects q ≡ Some r → number_at z q ≡ r.length
 
--- of the region that was put at p, too
-beside_put : {B : Type 0} (new : Objects Region) (z : SumTable ℕ ℕ B) {r : Region} (p : Place) → object_at new p ≡ Some r → number_at z p ≡ r.length → ((q : Place) → q ≢ p → IsBeside new z q)
+-- if the right length is stored for the region at `p` and for all other regions, then it is stored for every region
+beside_put : {B : Type 0} (new : Objects Region) (z : AugmentedTable ℕ ℕ B) {r : Region} (p : Place) → object_at new p ≡ Some r → number_at z p ≡ r.length → ((q : Place) → q ≢ p → IsBeside new z q)
     → (q : Place) → IsBeside new z q
 beside_put new z {r} p is told others q = everywhere (IsBeside new z) p q (λ t there. let same : r ≡ t = cc (is, there) in told ∙ ap (λ (x : Region). x.length) same) (others q)
 
--- the regions are those that the tree has
+-- the regions of the allocator are the values that the tree has, in its order
 pub each_are : {A : Type 0} {objects : Objects Region} {w : TreeLinkOps A} {root : Option Place} {values : List Region} → HasEach start_of w root objects values → represented_regions objects w root ≡ values
 each_are {objects = objects} {w} each = ap (values_at objects) (plain_members w each.sorted.shown) ∙ each.sorted.stand.are
 
 module _ {A B : Type 0} where
-  -- AT FIRST
-  pub kept_none : (objects : Objects Region) (w : TreeLinkOps A) (root : Option Place) (z : SumTable ℕ ℕ B) → ((p : Place) → object_at objects p ≡ None)
+  -- A NEW ALLOCATOR, which has no object and whose table and tree are empty, maintains `Keeps`
+  pub kept_none : (objects : Objects Region) (w : TreeLinkOps A) (root : Option Place) (z : AugmentedTable ℕ ℕ B) → ((p : Place) → object_at objects p ≡ None)
       → (plain_table w).extent.places ≡ 0 → root ≡ None → Keeps objects w root z
   kept_none objects w root z vacant no_starts none = record {
     starts = [];
@@ -82,11 +82,11 @@ module _ {A B : Type 0} where
     apart = tt;
   }
 
-  module _ {objects : Objects Region} {w : TreeLinkOps A} {root : Option Place} {z : SumTable ℕ ℕ B} (k : Keeps objects w root z) where
+  module _ {objects : Objects Region} {w : TreeLinkOps A} {root : Option Place} {z : AugmentedTable ℕ ℕ B} (k : Keeps objects w root z) where
     pub represented_apart : AreRegionsApart (represented_regions objects w root)
     represented_apart = subst AreRegionsApart (sym (each_are k.by_start)) k.apart
 
-    -- there is none exactly where the tree has no root
+    -- there is no free region exactly if the tree has no root
     pub has_no_root : (root ≡ None) ↔ (represented_regions objects w root ≡ [])
     has_no_root =
         let e = k.by_start.sorted in
@@ -94,7 +94,7 @@ module _ {A B : Type 0} where
         let empty : represented_regions objects w root ≡ [] → e.members ≡ [] = λ empty. nobody objects e.members e.stand.placed (e.stand.are ∙ sym (each_are k.by_start) ∙ empty) in
         (λ h. each_are k.by_start ∙ sym e.stand.are ∙ ap (values_at objects) (none h), λ h. no_members (subst (PlainRepresents w root) (empty h) e.shown))
 
-    -- each greatest length of its members is right or stale
+    -- the greatest length of each member of the tree is right or marked as stale
     pub members_consistent : RepresentsConsistent node_of (greatest z) (plain_table w) root k.by_start.sorted.members
     members_consistent = (k.by_start.sorted.shown, k.consistent k.by_start.sorted.members k.by_start.sorted.shown)
 
@@ -102,31 +102,31 @@ module _ {A B : Type 0} where
       pub start_member : HasMember (PlainRepresents w root) p
       start_member = let m = each_member k.by_start p there in record { front = m.0; back = m.1; shown = subst (PlainRepresents w root) m.2 k.by_start.sorted.shown }
 
-      -- what holds of each region holds of the one there
+      -- a property `P` of all free regions holds of the region at the place `p`
       pub at_region : (P : Region → Type 0) → AllByRecursion P (represented_regions objects w root) → P out
       at_region P all = at_each k.by_start p there P (subst (AllByRecursion P) (each_are k.by_start) all)
 
       pub is_region : IsRegion out
       is_region = at_region IsRegion (all_regions (represented_regions objects w root) represented_apart)
 
-      -- each other one is apart from it
+      -- each other region is apart from the region at the place `p`
       pub others_apart : AllByRecursion (IsOrApart out) (represented_regions objects w root)
       others_apart = let m = each_member k.by_start p there in let is = each_are k.by_start ∙ each_value k.by_start p there m.0 m.1 m.2 in
           subst (AllByRecursion (IsOrApart out)) (sym is) (apart_from (values_at objects m.0) out (values_at objects m.1) (subst AreRegionsApart is represented_apart))
 
-      -- there is room for its length
+      -- the table of lengths has room for the length of the region at the place `p`
       pub has_room : index_of p < room_of z
       has_room = in_room z p out.length (k.beside p out there) is_region.some
 
     pub rooms : (q : Place) → IsNode node_of (plain_table w) q → index_of q < room_of z
     rooms q linked = let r = region_there (object_at objects q) (sym (k.by_start.exact q) ∙ linked) in has_room q r.1
 
-    -- WHERE THE LINKS STAY, the regions do, and it is kept with the same numbers
+    -- IF NO LINK CHANGES, the regions do not change, and the allocator maintains `Keeps` if the stored lengths do not change
     module _ (w' : TreeLinkOps A) (stays : (q : Place) → (plain_table w').entry q ≡ (plain_table w).entry q) where
       pub same_regions : represented_regions objects w' root ≡ represented_regions objects w root
       same_regions = each_are (each_covered k.by_start w' stays) ∙ sym (each_are k.by_start)
 
-      kept_same : (z' : SumTable ℕ ℕ B) → ((q : Place) (r : Region) → object_at objects q ≡ Some r → number_at z' q ≡ number_at z q)
+      kept_same : (z' : AugmentedTable ℕ ℕ B) → ((q : Place) (r : Region) → object_at objects q ≡ Some r → number_at z' q ≡ number_at z q)
           → ((s : List Place) → RepresentsConsistent node_of (greatest z) (plain_table w) root s → IsConsistent node_of (plain_table w') (greatest z') s) → Keeps objects w' root z'
       kept_same z' numbers still = record {
         starts = k.starts;
@@ -136,8 +136,8 @@ module _ {A B : Type 0} where
         apart = k.apart;
       }
 
-    -- AFTER `place`, whatever it answered: both tables may have grown
-    pub kept_grown : (w' : TreeLinkOps A) (z' : SumTable ℕ ℕ B) → GrowsSummed greatest_of 0 (λ (a b : TreeLinkOps A). Grows (plain_table a) (plain_table b)) (record { links = w; summaries = z }) (record { links = w'; summaries = z' })
+    -- AFTER THE CALL `place`, both tables may have grown, and the allocator still maintains `Keeps`
+    pub kept_grown : (w' : TreeLinkOps A) (z' : AugmentedTable ℕ ℕ B) → GrowsSummed greatest_of 0 (λ (a b : TreeLinkOps A). Grows (plain_table a) (plain_table b)) (record { links = w; summaries = z }) (record { links = w'; summaries = z' })
         → Keeps objects w' root z'
     kept_grown w' z' grows = kept_same w' grows.links.entries z' (λ q r there. grows.values q) (λ s h. grown_consistent node_of (plain_table w) (plain_table w') (greatest z) (greatest z') s grows.links.entries
         (λ q. ap (λ (n : ℕ). λ (a b : Option ℕ). greatest_of n a b) (grows.values q)) grows.same h.1)
@@ -145,19 +145,19 @@ module _ {A B : Type 0} where
     pub same_entries : (w' : TreeLinkOps A) → w' ≡ w → (q : Place) → (plain_table w').entry q ≡ (plain_table w).entry q
     same_entries w' same q = ap (λ (v : TreeLinkOps A). (plain_table v).entry q) same
 
-    -- AFTER `set_value` at a place where no object stands in the tree yet
-    pub kept_set : (w' : TreeLinkOps A) → w' ≡ w → (z' : SumTable ℕ ℕ B) (p : Place) → object_at objects p ≡ None → ((q : Place) → q ≢ p → number_at z' q ≡ number_at z q)
+    -- AFTER THE CALL `set_value` for a place that has no object yet, the allocator still maintains `Keeps`
+    pub kept_set : (w' : TreeLinkOps A) → w' ≡ w → (z' : AugmentedTable ℕ ℕ B) (p : Place) → object_at objects p ≡ None → ((q : Place) → q ≢ p → number_at z' q ≡ number_at z q)
         → ((s : List Place) → IsConsistent node_of (plain_table w) (greatest z) s → IsConsistent node_of (plain_table w') (greatest z') s) → Keeps objects w' root z'
     kept_set w' same z' p vacant others still =
         kept_same w' (same_entries w' same) z' (λ q r there. others q (λ e. absurd (cc (vacant, ap (object_at objects) e, there)))) (λ s h. still s h.1)
 
-    -- AFTER `refresh`
-    pub kept_fresh : (w' : TreeLinkOps A) → w' ≡ w → (z' : SumTable ℕ ℕ B) → (greatest z').join ≡ (greatest z).join
+    -- AFTER THE CALL `refresh`, which makes stale lengths right, the allocator still maintains `Keeps`
+    pub kept_fresh : (w' : TreeLinkOps A) → w' ≡ w → (z' : AugmentedTable ℕ ℕ B) → (greatest z').join ≡ (greatest z).join
         → ((s : List Place) → RepresentsConsistent node_of (greatest z) (plain_table w) root s → RepresentsConsistent node_of (greatest z') (plain_table w') root s) → Keeps objects w' root z'
     kept_fresh w' same z' joins still = kept_same w' (same_entries w' same) z' (λ q r there. numbers_stay z z' joins q) (λ s h. (still s h).1)
 
-    -- ONE REGION MORE, whose length stands beside its place already
-    pub put_in : {more : Objects Region} {p : Place} {r : Region} {before : List Region} (w' : TreeLinkOps A) (root' : Option Place) (z' : SumTable ℕ ℕ B) → Places objects more p r → number_at z p ≡ r.length
+    -- A REGION IS INSERTED after its length was stored for its place, and the allocator still maintains `Keeps`
+    pub put_in : {more : Objects Region} {p : Place} {r : Region} {before : List Region} (w' : TreeLinkOps A) (root' : Option Place) (z' : AugmentedTable ℕ ℕ B) → Places objects more p r → number_at z p ≡ r.length
         → (greatest z').join ≡ (greatest z).join
         → ((s : List Place) → RepresentsConsistent node_of (greatest z) (plain_table w) root s
         → InsertsInOrder (RepresentsConsistent node_of (greatest z')) (compared (own_order nat_cmp start_of more p) more) (plain_table w) (plain_table w') root' s p)
@@ -179,8 +179,8 @@ module _ {A B : Type 0} where
           record { front = a.1.front; back = a.1.back; was = was; is = each_are a.2 ∙ a.1.is },
         )
 
-    -- ONE REGION LESS, off the tree
-    pub take_out : {new : Objects Region} (p : Place) (w' : TreeLinkOps A) (root' : Option Place) (z' : SumTable ℕ ℕ B) → (greatest z').join ≡ (greatest z).join
+    -- A REGION IS REMOVED from the tree and from its place, and the allocator still maintains `Keeps`
+    pub take_out : {new : Objects Region} (p : Place) (w' : TreeLinkOps A) (root' : Option Place) (z' : AugmentedTable ℕ ℕ B) → (greatest z').join ≡ (greatest z).join
         → ((front back : List Place) → RepresentsConsistent node_of (greatest z) (plain_table w) root (front ++ p ∷ back) → RepresentsConsistent node_of (greatest z') (plain_table w') root' (front ++ back))
         → Unlinks is_linked (plain_table w) (plain_table w') p → Frees objects new p → (out : Region) → object_at objects p ≡ Some out
         → Keeps new w' root' z' × Adds out (represented_regions new w' root') (represented_regions objects w root)
@@ -197,8 +197,9 @@ module _ {A B : Type 0} where
           record { front = a.0; back = a.1; was = each_are a.3; is = each_are k.by_start ∙ a.2 },
         )
 
-    -- ANOTHER REGION in its place, and its length beside that: it stays where it is by its start
-    pub resize : {r : Region} (p : Place) (w' : TreeLinkOps A) → w' ≡ w → (z' : SumTable ℕ ℕ B) → number_at z' p ≡ r.length → ((q : Place) → q ≢ p → number_at z' q ≡ number_at z q)
+    -- A REGION IS REPLACED at its place by the region `r`, whose length is stored for it. The object stays between its neighbors, because `r` starts
+    -- between them
+    pub resize : {r : Region} (p : Place) (w' : TreeLinkOps A) → w' ≡ w → (z' : AugmentedTable ℕ ℕ B) → number_at z' p ≡ r.length → ((q : Place) → q ≢ p → number_at z' q ≡ number_at z q)
         → ((s : List Place) → IsConsistent node_of (plain_table w) (greatest z) s → IsConsistent node_of (plain_table w') (greatest z') s)
         → ((out : Region) → object_at objects p ≡ Some out → FitsFor out r (represented_regions objects w root)) → (out : Region) → object_at objects p ≡ Some out
         → Keeps (with_object objects p r) w' root z' × Changes out r (represented_regions objects w root) (represented_regions (with_object objects p r) w' root)
@@ -219,18 +220,19 @@ module _ {A B : Type 0} where
           record { front = a.0; back = a.1; was = same; is = each_are each },
         )
 
--- WHAT SEARCHES FIND: the first region that is long enough, and the neighbors of an address
-module _ {A B : Type 0} {objects : Objects Region} {w : TreeLinkOps A} {root : Option Place} {z : SumTable ℕ ℕ B} (k : Keeps objects w root z) where
-  -- what stands at a place is found there
+-- WHAT THE SEARCHES FIND: the first region that is long enough, and the neighbors of an address
+module _ {A B : Type 0} {objects : Objects Region} {w : TreeLinkOps A} {root : Option Place} {z : AugmentedTable ℕ ℕ B} (k : Keeps objects w root z) where
+  -- a search that ends at the place `p` finds the region at `p`
   found_is : (p : Place) {r : Region} → object_at objects p ≡ Some r → IsFound objects (record { object = p; region = r })
   found_is p there = record { there = there; is_region = is_region k p there }
 
-  -- THE FIRST that is long enough: `b` is the bound that its length exceeds
+  -- THE FIRST REGION THAT IS LONG ENOUGH, with at least the length `n`: its length exceeds the bound `b`, which is `n - 1`
   module _ (n b : ℕ) (bound : b ≡ n - 1) where
     abbrev test : Place → Bool
     test = is_greater (number_at z) b
 
-    -- where it cuts the regions at the members of s; all are shorter where there is none
+    -- the search result divides the regions at the members of `s`: all regions before the found one are shorter than `n`. If none is found, all
+    -- regions are shorter
     abbrev IsCutAt : List Place → Option Place → Type 0
     IsCutAt s None = AreShorter (values_at objects s) n
     IsCutAt s (Some p) = (front : List Region) × (r : Region) × (back : List Region) × (values_at objects s ≡ front ++ r ∷ back) × AreShorter front n × (object_at objects p ≡ Some r) × (n ≤ r.length)
@@ -270,7 +272,7 @@ module _ {A B : Type 0} {objects : Objects Region} {w : TreeLinkOps A} {root : O
               record { front = c.0; whole = c.1; back = c.2; was = refl; start = refl; long_enough = c.6; shorter = c.4; lowest = λ a some fits. lowest_fits n a c.0 c.1 c.2 apart c.4 some fits },
             )
 
-  -- THE NEIGHBORS of an address
+  -- THE NEIGHBORS OF AN ADDRESS: the gap between the members that start at the address or below it and those that start above it
   module _ (n : ℕ) (gap : Cut) (same : join gap ≡ k.by_start.sorted.members) (border : IsBorder (is_beyond (Included (compared (order_of nat_cmp start_of n) objects))) gap) where
     placed : ArePlaced objects (gap.front ++ gap.back)
     placed = subst (ArePlaced objects) (sym same) k.by_start.sorted.stand.placed

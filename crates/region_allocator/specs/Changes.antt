@@ -1,24 +1,24 @@
--- How the free regions change if one object changes.
+-- How the list of free regions changes if one region is added or replaced.
 use Rattle.std.specs.Prelude.{◌≡◌, ◌<◌, ◌⊎◌, List, ◌∷◌, ◌++◌}
 use Rattle.std.specs.List.{AllByRecursion}
 use Rattle.region_allocator.specs.declared.region.Region.{Region}
 use Rattle.region_allocator.specs.Regions.{end_of, IsRegion, AreApart}
 
--- ONE REGION MORE
+-- ONE REGION IS ADDED: `new` is `old` with `region` inserted at some position
 pub record Adds (region : Region) (old new : List Region) : Type 0 where
   pub front : List Region
   pub back : List Region
   pub was : old ≡ front ++ back
   pub is : new ≡ front ++ region ∷ back
 
--- ANOTHER REGION has replaced one
+-- ONE REGION IS REPLACED: `new` is `old` with `region` at the position of `out`
 pub record Changes (out region : Region) (old new : List Region) : Type 0 where
   pub front : List Region
   pub back : List Region
   pub was : old ≡ front ++ out ∷ back
   pub is : new ≡ front ++ region ∷ back
 
--- A REGION CAN REPLACE one: the two share an address, and the new one is apart from all others
+-- A REGION CAN REPLACE `out`: `region` shares an address with `out`, and is apart from all other regions
 pub record FitsFor (out region : Region) (regions : List Region) : Type 0 where
   pub is_region : IsRegion region
   pub low : region.start < end_of out

@@ -1,4 +1,4 @@
--- What an allocator maintains for its objects, their links, the lengths beside these and its tree.
+-- What an allocator maintains for its objects, their links, the length that is stored for each link, and its tree.
 use Rattle.std.specs.Prelude.{◌≡◌, ℕ, ◌^◌, leb, Option, Some, List}
 use Rattle.ic_link_ops.specs.Prelude.{Place, Objects, object_at, values_at}
 use Rattle.ic_link_ops.specs.ThreeWords.{node_of}
@@ -7,31 +7,31 @@ use Rattle.ic_rbtree.specs.Tree.{root_of}
 use Rattle.ic_rbtree.specs.EachObject.{HasEach}
 use Rattle.ic_augmented.specs.Consistent.{IsConsistent}
 use Rattle.ic_augmented.specs.Greatest.{greatest, number_at}
-use Rattle.ic_augmented.specs.Summed.{links_of, summaries_of}
-use Rattle.ic_augmented.specs.declared.sum_table.SumTable.{SumTable}
+use Rattle.ic_augmented.specs.Augmented.{links_of, summaries_of}
+use Rattle.ic_augmented.specs.declared.augmented_table.AugmentedTable.{AugmentedTable}
 use Rattle.region_allocator.specs.declared.region.Region.{Region}
 use Rattle.region_allocator.specs.declared.free_regions.FreeRegions.{FreeRegions}
 use Rattle.region_allocator.specs.Regions.{Space, space_of, AreRegionsApart}
 
--- where a region starts
+-- the first address of a region
 abbrev pub start_of : Region → ℕ
 start_of region = region.start
 
--- WHAT IT MAINTAINS: the tree has every object, sorted by the starts of the regions; beside each link is the length of its region; each greatest
--- length that is not stale is right; and the regions are apart
-pub record Keeps {A B : Type 0} (objects : Objects Region) (links : TreeLinkOps A) (root : Option Place) (lengths : SumTable ℕ ℕ B) : Type 0 where
+-- WHAT AN ALLOCATOR MAINTAINS: The tree has every object, sorted by the starts of the regions. The table stores, for each link, the length of its
+-- region. Each greatest length that is not stale is right. The regions are apart
+pub record Keeps {A B : Type 0} (objects : Objects Region) (links : TreeLinkOps A) (root : Option Place) (lengths : AugmentedTable ℕ ℕ B) : Type 0 where
   pub starts : List Region
   pub by_start : HasEach start_of links root objects starts
   pub beside : (p : Place) (region : Region) → object_at objects p ≡ Some region → number_at lengths p ≡ region.length
   pub consistent : (s : List Place) → PlainRepresents links root s → IsConsistent node_of (plain_table links) (greatest lengths) s
   pub apart : AreRegionsApart starts
 
--- the regions in the order of their addresses, as the tree has them
+-- the regions at the members of the tree, in the order of the tree, which is the order of their addresses
 abbrev pub represented_regions : {A : Type 0} → Objects Region → TreeLinkOps A → Option Place → List Region
 represented_regions objects links root = values_at objects (members_of links root)
 
 module _ {A : Type 0} (regions : FreeRegions A) where
-  -- the same for the free regions
+  -- the free regions of an allocator maintain `Keeps` for their objects, their links, their tree and their lengths
   abbrev pub IsKept : Type 0
   IsKept = Keeps regions.pool.objects (links_of regions.pool.links) (root_of regions.by_start) (summaries_of regions.pool.links)
 

@@ -1,4 +1,4 @@
--- The free regions that one search finds.
+-- The free regions that a search finds.
 use Rattle.std.specs.Prelude.{◌≡◌, ◌≢◌, ℕ, ◌<◌, ◌≤◌, ◌⊎◌, Option, None, Some, Result, Ok, Err, List, [], ◌∷◌, ◌++◌}
 use Rattle.std.specs.List.{AllByRecursion}
 use Rattle.ic_link_ops.specs.Prelude.{Place, Objects, object_at}
@@ -8,7 +8,7 @@ use Rattle.region_allocator.specs.declared.free_error.FreeError.{FreeError}
 use Rattle.region_allocator.specs.declared.free_error.FreeError.TheVariants.{Overlaps}
 use Rattle.region_allocator.specs.Regions.{region_of, end_of, IsRegion, IsFirstFit, AreApart, AreShorter}
 
--- the result of a search that finds the region at a place
+-- the result of a search that ends at the place `p`: the place and its region, or `None` if there is no region
 abbrev pub found_with : Place → Option Region → Option Found
 found_with p None = None
 found_with p (Some region) = Some (record { object = p; region = region })
@@ -18,17 +18,17 @@ found_at objects None = None
 found_at objects (Some p) = found_with p (object_at objects p)
 
 module _ (objects : Objects Region) where
-  -- the region that was found is the one at its place
+  -- the search result `found` is right: its object has the value `found.region`, which is not empty and ends at `u64::MAX` or before
   pub record IsFound (found : Found) : Type 0 where
     pub there : object_at objects found.object ≡ Some found.region
     pub is_region : IsRegion found.region
 
-  -- THE FIRST region with at least this length, or none if all are shorter
+  -- THE FIRST REGION THAT IS LONG ENOUGH: the search found the first region with at least this length, or `None` because all are shorter
   abbrev pub FitsFirst : List Region → ℕ → Option Found → Type 0
   FitsFirst regions length None = AreShorter regions length
   FitsFirst regions length (Some found) = IsFound found × (length ≤ found.region.length) × IsFirstFit (region_of found.region.start length) regions
 
-  -- the last of the regions, and the first
+  -- `IsLast`: the search found the last of the regions. `IsFirst`: it found the first of them. It found `None` if there is no region
   abbrev pub IsLast : List Region → Option Found → Type 0
   IsLast regions None = regions ≡ []
   IsLast regions (Some found) = IsFound found × ((front : List Region) × (regions ≡ front ++ found.region ∷ []))
@@ -37,7 +37,7 @@ module _ (objects : Objects Region) where
   IsFirst regions None = regions ≡ []
   IsFirst regions (Some found) = IsFound found × ((back : List Region) × (regions ≡ found.region ∷ back))
 
-  -- THE NEIGHBORS of an address: the last region that starts there or below, and the first that starts above
+  -- THE NEIGHBORS OF AN ADDRESS are the last region that starts at the address or below it, and the first region that starts above it
   pub record AreNeighbors (regions : List Region) (address : ℕ) (below above : Option Found) : Type 0 where
     pub front : List Region
     pub back : List Region
@@ -47,7 +47,7 @@ module _ (objects : Objects Region) where
     pub below_is : IsLast front below
     pub above_is : IsFirst back above
 
-  -- the region that ends at an address, and the one that starts there
+  -- `IsEnding`: the search found the region that ends at the address. `IsStarting`: it found the region that starts there. `None` means that no region does
   abbrev pub IsEnding : List Region → ℕ → Option Found → Type 0
   IsEnding regions address None = AllByRecursion (λ region. end_of region ≢ address) regions
   IsEnding regions address (Some found) = IsFound found × (end_of found.region ≡ address)
@@ -56,13 +56,15 @@ module _ (objects : Objects Region) where
   IsStarting regions address None = AllByRecursion (λ region. region.start ≢ address) regions
   IsStarting regions address (Some found) = IsFound found × (found.region.start ≡ address)
 
-  -- THE REGION IS JOINED WITH THESE: it shares no address with any region, and touches only these
+  -- THE REGION TOUCHES `front` and `back`, and no other region: `front` ends where it starts, and `back` starts where it ends. It shares no address
+  -- with any region
   pub record Touches (regions : List Region) (region : Region) (front back : Option Found) : Type 0 where
     pub each : AllByRecursion (λ other. AreApart region other ⊎ ((end_of other ≡ region.start) ⊎ (other.start ≡ end_of region))) regions
     pub front_is : IsEnding regions region.start front
     pub back_is : IsStarting regions (end_of region) back
 
--- the region before an address: it ends there, or earlier, or the call is refused
+-- The call returns the region `below` if it ends at the address `start`, and `None` if it ends earlier or there is none. If it ends later, the call
+-- is refused
 abbrev pub EndsBy : Option Found → ℕ → Result (Option Found) FreeError → Type 0
 EndsBy below start (Ok (Some found)) = (below ≡ Some found) × (end_of found.region ≡ start)
 EndsBy None start (Ok None) = Unit {0}
@@ -70,7 +72,8 @@ EndsBy (Some found) start (Ok None) = end_of found.region < start
 EndsBy None start (Err error) = ⊥
 EndsBy (Some found) start (Err error) = (error ≡ Overlaps) × start < end_of found.region
 
--- the region after an address
+-- The call returns the region `above` if it starts at the address `end`, and `None` if it starts later or there is none. If it starts earlier, the
+-- call is refused
 abbrev pub StartsFrom : Option Found → ℕ → Result (Option Found) FreeError → Type 0
 StartsFrom above end (Ok (Some found)) = (above ≡ Some found) × (found.region.start ≡ end)
 StartsFrom None end (Ok None) = Unit {0}

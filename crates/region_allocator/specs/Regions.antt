@@ -3,7 +3,7 @@ use Rattle.std.specs.Prelude.{◌≡◌, ℕ, ◌+◌, ◌^◌, ◌<◌, ◌≤�
 use Rattle.std.specs.List.{AllByRecursion}
 use Rattle.region_allocator.specs.declared.region.Region.{Region}
 
--- a region: `length` addresses from `start` on
+-- the region that consists of `length` addresses from the address `start` on
 abbrev pub region_of : ℕ → ℕ → Region
 region_of start length = record { start = start; length = length }
 
@@ -11,7 +11,7 @@ region_of start length = record { start = start; length = length }
 abbrev pub end_of : Region → ℕ
 end_of region = region.start + region.length
 
--- THE REGION HAS the address
+-- THE REGION HAS THE ADDRESS: the address is not below the region's start, and is below its end
 abbrev pub Has : Region → ℕ → Type 0
 Has region address = (region.start ≤ address) × (address < end_of region)
 
@@ -42,26 +42,27 @@ pub record Space : Type 0 where
 abbrev pub space_of : List Region → Bool → Space
 space_of regions is_full = record { regions = regions; is_full = is_full }
 
--- THE REGION IS FREED: none of its addresses was free, and now exactly these are free in addition
+-- THE REGION IS FREED: none of its addresses was free, and now all of them are free. No other address has changed
 pub record FreesRegion (region : Region) (old new : List Region) : Type 0 where
   pub is_region : IsRegion region
   pub was_taken : (address : ℕ) → Has region address → ¬ IsFree old address
   pub free : (address : ℕ) → IsFree new address ↔ (IsFree old address ⊎ Has region address)
 
--- THE REGION IS ALLOCATED: each of its addresses was free, and now exactly these are no longer free
+-- THE REGION IS ALLOCATED: each of its addresses was free, and now none of them is. No other address has changed
 pub record AllocatesRegion (region : Region) (old new : List Region) : Type 0 where
   pub was_free : (address : ℕ) → Has region address → IsFree old address
   pub free : (address : ℕ) → IsFree new address ↔ (IsFree old address × ¬ Has region address)
 
--- no region has this length
+-- all regions are shorter than this length
 abbrev pub AreShorter : List Region → ℕ → Type 0
 AreShorter regions length = AllByRecursion (λ region. region.length < length) regions
 
--- THIS MANY CONSECUTIVE ADDRESSES are free from this one on
+-- THE LENGTH FITS AT THE ADDRESS: the `length` consecutive addresses from `address` on are all free
 abbrev pub FitsAt : List Region → ℕ → ℕ → Type 0
 FitsAt regions length address = (a : ℕ) → Has (region_of address length) a → IsFree regions a
 
--- THE FIRST FIT: the region is the beginning of a free region, and all free regions before that one were shorter. So nothing fits at a lower address
+-- THE FIRST FIT: `region` is the beginning of the free region `whole`, and all free regions before `whole` are shorter than `region`. Therefore its
+-- length fits at no lower address
 pub record IsFirstFit (region : Region) (old : List Region) : Type 0 where
   pub front : List Region
   pub whole : Region

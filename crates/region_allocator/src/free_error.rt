@@ -4,7 +4,7 @@
 //! space.free(90, 20) // Err(FreeError::Overlaps): 90 to 99 are free already
 //! ```
 
-/// Why addresses were not freed. Nothing has changed then.
+/// The reason why addresses were not freed. The allocator has not changed then.
 #[derive(Clone, Copy, PartialEq, Eq, Debug)]
 pub enum FreeError {
     /// There are no addresses to free.

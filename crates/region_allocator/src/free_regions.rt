@@ -1,4 +1,4 @@
-//! The free regions, in a tree by their starts that keeps the greatest length of each subtree.
+//! The free regions, in a tree that is sorted by their starts and stores the greatest length of each subtree.
 
 ghost use Rattle.std.specs.Prelude.{◌≡◌, ◌≢◌, ◌≤◌, ◌+◌, ℕ, true, Option, Some, OnOk, IfOk, IsErr, IfErr};
 ghost use Rattle.std.specs.List.{AllByRecursion};
@@ -14,22 +14,22 @@ ghost use Rattle.region_allocator.specs.Neighbors.{IsFound, FitsFirst, AreNeighb
 use crate::FreeError;
 use crate::neighbors::{Found, ending_at, look_up, starting_at};
 use crate::region::{ByStart, Region};
-use ic_augmented::{Greatest, Summed, first_greater, refresh, set_value};
+use ic_augmented::{Augmented, Greatest, first_greater, refresh, set_value};
 use ic_link_ops::rbtree::LinkOps;
 use ic_pool::{PlaceError, Pool};
 use ic_rbtree::{Bound, RBTree};
 use ic_unsafe_ref::UnsafeRef;
 use std::alloc::{Allocator, Global};
 
-/// The free regions: objects, each of which is linked in the tree. Beside each link is the length of its region.
+/// The free regions, which are objects, each linked in the tree. The table of links stores the length of each region beside its link.
 #[derive(Drop)]
 pub(crate) struct FreeRegions<A: Allocator = Global> {
-    pub(crate) pool: Pool<Region, Summed<LinkOps<A>, Greatest<A>>, A>,
+    pub(crate) pool: Pool<Region, Augmented<LinkOps<A>, Greatest<A>>, A>,
     pub(crate) by_start: RBTree<ByStart>,
 }
 
 impl<A: Allocator> FreeRegions<A> {
-    // Returns the last region that starts at the address or below. It makes one search, in O(log n).
+    // Returns the last region that starts at the address or below it. It makes one search, in O(log n).
     pub(crate) fn below(&self, address: u64) -> Option<Found>
         requires kept { IsKept self.now }
         ensures { (above : Option Found) × AreNeighbors self.now.pool.objects (regions_of self.now) address result above }
@@ -42,7 +42,7 @@ impl<A: Allocator> FreeRegions<A> {
         look_up(&self.pool.objects, cursor.clone_pointer())
     }
 
-    // Returns the last region that starts at the address or below, and the first that starts above it. It makes one search, in O(log n).
+    // Returns the last region that starts at the address or below it, and the first that starts above it. It makes one search, in O(log n).
     pub(crate) fn neighbors(&self, address: u64) -> (Option<Found>, Option<Found>)
         requires kept { IsKept self.now }
         ensures { AreNeighbors self.now.pool.objects (regions_of self.now) address result.0 result.1 }
@@ -59,7 +59,7 @@ impl<A: Allocator> FreeRegions<A> {
         )
     }
 
-    // Returns the regions that touch this one, before and after it. It is refused if one of them shares an address with it.
+    // Returns the free regions that touch the given region, before and after it. The call is refused if a free region shares an address with the given one.
     pub(crate) fn touching(
         &self,
         region: Region,
@@ -80,7 +80,7 @@ impl<A: Allocator> FreeRegions<A> {
         }
     }
 
-    // Returns the first region with at least this length. It updates the greatest lengths that edits have made stale, in O(log n + v) for v of them.
+    // Returns the first region with at least this length. It updates the greatest lengths that edits have made stale, in O(log n + v) for v stale lengths.
     pub(crate) fn first_fit(&mut self, length: u64) -> Option<Found>
         requires kept { IsKept self.old }
         ensures kept { IsKept self.new }
@@ -94,7 +94,7 @@ impl<A: Allocator> FreeRegions<A> {
         }
     }
 
-    // Makes a new object, and inserts it into the tree.
+    // Makes a new object with the region as its value, and inserts the object into the tree.
     pub(crate) fn put_in(&mut self, region: Region) -> Result<(), FreeError>
         requires kept { IsKept self.old }
         requires region { IsRegion region }
@@ -116,7 +116,7 @@ impl<A: Allocator> FreeRegions<A> {
         Ok(())
     }
 
-    // Removes the object from the tree, and from its place.
+    // Removes the object from the tree, and frees its place.
     pub(crate) fn take_out(&mut self, object: UnsafeRef<Region>)
         requires kept { IsKept self.old }
         requires placed { is_placed self.old.pool.objects object ≡ true }
@@ -129,7 +129,7 @@ impl<A: Allocator> FreeRegions<A> {
         self.pool.remove(object);
     }
 
-    // Gives an object another region as its value. The object stays between its neighbors, with another length beside its link.
+    // Gives an object another region as its value. The object stays between its neighbors in the tree, and the length beside its link changes.
     pub(crate) fn resize(&mut self, object: UnsafeRef<Region>, region: Region)
         requires kept { IsKept self.old }
         requires placed { is_placed self.old.pool.objects object ≡ true }
@@ -143,7 +143,7 @@ impl<A: Allocator> FreeRegions<A> {
         set_value(&mut self.pool.links, object.place(), region.length);
     }
 
-    // Adds a region, and joins it with those that it touches.
+    // Adds a region to the free regions, and joins it with the free regions that it touches.
     pub(crate) fn add(&mut self, region: Region) -> Result<(), FreeError>
         requires kept { IsKept self.old }
         requires region { IsRegion region }
@@ -185,7 +185,7 @@ impl<A: Allocator> FreeRegions<A> {
         }
     }
 
-    // Removes the first `length` addresses of a region.
+    // Removes the first `length` addresses of a free region that a search has found.
     pub(crate) fn cut(&mut self, found: Found, length: u64)
         requires kept { IsKept self.old }
         requires found { IsFound self.old.pool.objects found }

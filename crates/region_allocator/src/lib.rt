@@ -1,4 +1,4 @@
-//! An allocator of ranges of addresses, as of a disk, a heap or virtual memory.
+//! An allocator of ranges of addresses, for example addresses of a disk, of a heap or of virtual memory.
 //!
 //! ```text
 //! let mut space = RegionAllocator::new(rt.alloc());
@@ -7,8 +7,8 @@
 //! space.free(0, 30)?; // free again, and one region with those after
 //! ```
 //!
-//! Each free region is one object with a link in one tree, by its start. The tree finds the neighbors of a region, and, since it keeps the greatest
-//! length of each subtree, the first region that is long enough.
+//! Each free region is one object with a link in one tree, which is sorted by the regions' starts. A search of the tree finds the neighbors of a
+//! region. It also finds the first region that is long enough, because the tree keeps the greatest length of each subtree.
 #![tactic(auto)]
 
 mod free_error;

@@ -1,4 +1,4 @@
-//! What a search finds, and whether it touches a region that is to be freed.
+//! The regions that a search finds, and whether they touch a region that is to be freed.
 
 ghost use Rattle.std.specs.Prelude.{◌≡◌, ◌<◌, ◌^◌, IfSome};
 ghost use Rattle.region_allocator.specs.Regions.{end_of};
@@ -9,14 +9,14 @@ use crate::region::Region;
 use ic_unsafe_ref::{Objects, UnsafeRef};
 use std::alloc::Allocator;
 
-/// A free region, and its object.
+/// A free region that a search has found, with its object.
 #[derive(Drop)]
 pub(crate) struct Found {
     pub(crate) object: UnsafeRef<Region>,
     pub(crate) region: Region,
 }
 
-// Returns the object with its region, if there is one.
+// Returns the object with its region, or `None` if the search found no object.
 pub(crate) fn look_up<A: Allocator>(
     objects: &Objects<Region, A>,
     object: Option<UnsafeRef<Region>>,
@@ -28,7 +28,7 @@ pub(crate) fn look_up<A: Allocator>(
     Some(Found { object, region })
 }
 
-// Returns the region before an address, if it ends there. It is refused if the region ends after the address.
+// Returns the region before the address `start` if it ends at this address. The call is refused if the region ends after the address.
 pub(crate) fn ending_at(below: Option<Found>, start: u64) -> Result<Option<Found>, FreeError>
     requires fits { IfSome below (λ found. end_of found.region < 2 ^ 64) }
     ensures { EndsBy below start result }
@@ -46,7 +46,7 @@ pub(crate) fn ending_at(below: Option<Found>, start: u64) -> Result<Option<Found
     Ok(Some(found))
 }
 
-// Returns the region after an address, if it starts there. It is refused if the region starts before the address.
+// Returns the region after the address `end` if it starts at this address. The call is refused if the region starts before the address.
 pub(crate) fn starting_at(above: Option<Found>, end: u64) -> Result<Option<Found>, FreeError>
     ensures { StartsFrom above end result }
 {

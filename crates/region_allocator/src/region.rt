@@ -1,11 +1,11 @@
-//! What a place has: a free region.
+//! Free regions, which are the objects in the allocator's pool.
 
 ghost use Rattle.std.specs.Prelude.{◌≡◌, ◌<◌, ◌^◌};
 ghost use Rattle.region_allocator.specs.Regions.{end_of};
 
 use ic_rbtree::KeyAdapter;
 
-/// A number of consecutive free addresses.
+/// A region, which is a number of consecutive addresses.
 #[derive(Clone, Copy)]
 pub struct Region {
     pub(crate) start: u64,

@@ -1,4 +1,4 @@
-//! The allocator.
+//! The type `RegionAllocator` and its calls.
 //!
 //! ```text
 //! let mut space = RegionAllocator::new(rt.alloc());
@@ -12,14 +12,14 @@ ghost use Rattle.std.specs.Prelude.{◌≡◌, ◌↔◌, [], true, false, OnOk,
 use crate::FreeError;
 use crate::free_regions::FreeRegions;
 use crate::region::{ByStart, Region};
-use ic_augmented::{Greatest, Summed};
+use ic_augmented::{Augmented, Greatest};
 use ic_link_ops::rbtree::LinkOps;
 use ic_pool::Pool;
 use ic_rbtree::RBTree;
 use std::alloc::{Allocator, Global};
 use std::marker::Model;
 
-/// An allocator of addresses.
+/// An allocator of ranges of addresses.
 ///
 /// A contract sees the free regions in the order of their addresses, and whether all places are in use. No region is empty, and no two of them touch
 /// or share an address.
@@ -50,7 +50,7 @@ impl<A: Allocator> RegionAllocator<A> {
         ensures empty { result.regions ≡ [] }
         ensures room { result.is_full ≡ false }
     {
-        let links = Summed {
+        let links = Augmented {
             links: LinkOps::new(alloc),
             summaries: Greatest::new(alloc),
         };
@@ -62,11 +62,12 @@ impl<A: Allocator> RegionAllocator<A> {
         }
     }
 
-    /// Frees `length` addresses from `start` on. Together with the free regions that touch them, they become one region. O(log n).
+    /// Frees `length` addresses from `start` on. These addresses and the free regions that touch them become one region. O(log n).
     ///
-    /// If it is refused, nothing has changed. The error is `Empty` exactly if `length` is 0, else `TooLong` exactly if the addresses end after
-    /// `u64::MAX`, and else `Overlaps` exactly if one of them is already free. Only a region that no free region touches needs a place and memory, in
-    /// at most three requests. Then the error is `TooManyRegions` exactly if all 4,294,967,296 places are in use, and otherwise `OutOfMemory`.
+    /// If the call is refused, nothing has changed. The error is `Empty` exactly if `length` is 0, else `TooLong` exactly if the addresses end after
+    /// `u64::MAX`, and else `Overlaps` exactly if one of the addresses is already free. Only a region that no free region touches needs a place and
+    /// memory, in at most three requests. If such a region is refused, the error is `TooManyRegions` exactly if all 4,294,967,296 places are in use,
+    /// and otherwise `OutOfMemory`.
     pub fn free(&mut self, start: u64, length: u64) -> Result<(), FreeError>
         ensures freed { OnOk result (FreesRegion (region_of start length) self.old.regions self.new.regions) }
         ensures refused { IfErr result (λ error. (self.new ≡ self.old) × IsRefused (region_of start length) self.old error) }
@@ -85,9 +86,9 @@ impl<A: Allocator> RegionAllocator<A> {
     /// Allocates `length` consecutive addresses, and returns the first one, which is the start of the first free region that is long enough. It takes
     /// no memory.
     ///
-    /// `None` means that all regions are shorter, and then nothing has changed. For the length 0 it takes nothing, and returns the start of the first
-    /// region. O(log n) on average over many calls: it updates the greatest lengths that the calls since the last `allocate` made stale, in O(log n)
-    /// for each call.
+    /// `None` means that all free regions are shorter, and then nothing has changed. For the length 0 it allocates nothing, and returns the start of
+    /// the first free region. O(log n) on average over many calls: it updates the greatest lengths that the calls since the last `allocate` made
+    /// stale, in O(log n) for each call.
     pub fn allocate(&mut self, length: u64) -> Option<u64>
         ensures allocated { IfSome result (λ start. AllocatesRegion (region_of start length) self.old.regions self.new.regions) }
         ensures first_fit { IfSome result (λ start. IsFirstFit (region_of start length) self.old.regions) }

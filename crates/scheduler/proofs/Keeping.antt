@@ -1,4 +1,4 @@
--- What a scheduler keeps over each of its calls, and what that says of its schedule.
+-- Lemmas which show that each call of a scheduler maintains `IsKept`, and how its schedule changes.
 use Rattle.std.proofs.Common.{◌≡◌, ◌≢◌, ℕ, ◌≤◌, ◌<◌, ◌^◌, true, false, leb, Option, Some, None, is_some, Result, Ok, Err, OnOk, OnErr, ◌↔◌, List, [], ◌∷◌, ◌++◌, length, map, drop, filter, refl, sym, ap, ◌∙◌, subst, arith, append-nil, slice_index_or, true≢false}
 use Rattle.std.proofs.Math.ListN.{get_or-map}
 use Rattle.std.proofs.lemmas.Bool.{lt-leb}
@@ -41,11 +41,11 @@ use Rattle.ic_link_ops.proofs.DoublyLists as doubly
 use Rattle.ic_rbtree.specs.PlainTrees as trees
 use Rattle.scheduler.specs.Timers as timers
 
--- where a task was placed, there was a place left
+-- if a call that places a task succeeded, then some place was not in use
 pub some_left : {X E : Type 0} {x : X} {e : E} (next : ℕ) → ((let r : Result X E = Ok x in r ≡ Err e) ↔ (2 ^ 32 ≤ next)) → next < 2 ^ 32
 some_left next full = grind (arith, full.1)
 
--- TASKS IN ORDER are as a call of the tree asks
+-- TASKS IN ORDER: if the tree has tasks sorted by their deadlines, then it satisfies what the calls of a sorted tree require
 pub sorted_values : {V A : Type 0} {objects : Objects (Task V)} (w : trees.TreeLinkOps A) {root : Option Place} {tasks : List (Task V)}
     → HasSorted nat_cmp deadline_of trees.RepresentsTree trees.is_linked (trees.plain_table w) root objects tasks → RepresentsSorted deadline_of (trees.PlainRepresents w root) objects
 sorted_values {objects = objects} w has =
@@ -54,7 +54,7 @@ sorted_values {objects = objects} w has =
 
 module _ {V A B : Type 0} where
   module _ {objects : Objects (Task V)} {w : trees.TreeLinkOps A} {root : Option Place} {q : lists.DoublyLinkOps B} {ends : List Ends} (k : IsKept objects w root q ends) where
-    -- THE SCHEDULE is what is kept
+    -- THE WAITING TASKS of the schedule are the tasks that `IsKept` says are in the tree
     pub waiting_is : (schedule_of objects w root q ends).waiting ≡ k.waiting
     waiting_is = ap (values_at objects) (plain_members w k.sorted.shown) ∙ k.sorted.stand.are
 
@@ -67,18 +67,18 @@ module _ {V A B : Type 0} where
     pub queue_is : (i : ℕ) → queue_at (schedule_of objects w root q ends) i ≡ k.queued i
     queue_is i = listed_is (values_at objects) refl i ∙ (k.numbered.each i).stand.are
 
-    -- and so are the places
+    -- the places of the waiting tasks in the schedule are the members of the tree
     pub waiting_at_is : (schedule_of objects w root q ends).waiting_at ≡ k.sorted.members
     waiting_at_is = plain_members w k.sorted.shown
 
     pub places_are : (i : ℕ) → places_at (schedule_of objects w root q ends) i ≡ k.numbered.members i
     places_are = listed_is (λ s. s) refl
 
-    -- FEWER WAIT than there are numbers of them
+    -- FEW TASKS WAIT: there are at most 8,589,934,591 waiting tasks
     pub few_wait : length (schedule_of objects w root q ends).waiting ≤ 8589934591
     few_wait = omega (arith, ap length waiting_is, few_values k.sorted.stand (plain_trees.distinct (trees.plain_table w) root k.sorted.members k.sorted.shown))
 
-  -- AT FIRST
+  -- A NEW SCHEDULER, which has no objects and whose tables, tree and lists are empty, maintains `IsKept`
   module _ (objects : Objects (Task V)) (w : trees.TreeLinkOps A) (root : Option Place) (q : lists.DoublyLinkOps B) (ends : List Ends) (vacant : (p : Place) → object_at objects p ≡ None) (next : objects.next ≡ 0)
       (no_trees : (trees.plain_table w).extent.places ≡ 0) (no_lists : (lists.plain_table q).extent.places ≡ 0) (none : root ≡ None) (empty : (i : ℕ) → list_at ends i ≡ no_members) where
     pub kept_none : IsKept objects w root q ends
@@ -99,17 +99,17 @@ module _ {V A B : Type 0} where
     pub queue_empty : (i : ℕ) → None ≡ first (k.numbered.members i) → queue_at (schedule_of objects w root q ends) i ≡ []
     queue_empty i none = queue_is k i ∙ sym (k.numbered.each i).stand.are ∙ ap (values_at objects) (nothing_first (k.numbered.members i) none)
 
-    -- the first of the tree, where it is due
+    -- if the search for a due task finds the place `p`, then `p` is the first member of the tree, and its task is due
     pub first_due : (now : ℕ) {p : Place} → ((s : List Place) → trees.PlainRepresents w root s → Some p ≡ if_passes (timers.is_due deadline_of objects now) (first s)) → (Some p ≡ first k.sorted.members) × (timers.is_due deadline_of objects now p ≡ true)
     first_due now {p} due = passed (timers.is_due deadline_of objects now) (first k.sorted.members) p (due k.sorted.members k.sorted.shown)
 
-    -- where it is not, none is
+    -- if the deadlines of all members of the tree are later than `now`, then no waiting task is due
     pub nothing_due : (now : ℕ) → ((s : List Place) → trees.PlainRepresents w root s → AllByRecursion (λ p. now < key_at deadline_of objects p) s)
         → AllByRecursion (λ (x : Task V). is_due now x ≡ false) (schedule_of objects w root q ends).waiting
     nothing_due now wait =
         subst (AllByRecursion (λ (x : Task V). is_due now x ≡ false)) (k.sorted.stand.are ∙ sym (waiting_is k)) (values_wait deadline_of objects now k.sorted.members (wait _ k.sorted.shown))
 
-    -- AFTER `place`, whatever it answered
+    -- AFTER THE CALL `place`, both tables may have grown, and the scheduler still maintains `IsKept`
     module _ (v : trees.TreeLinkOps A) (r : lists.DoublyLinkOps B) (grows_w : Grows (trees.plain_table w) (trees.plain_table v)) (grows_q : Grows (lists.plain_table q) (lists.plain_table r)) where
       pub kept_grown : IsKept objects v root r ends
       kept_grown = record {
@@ -132,16 +132,16 @@ module _ {V A B : Type 0} where
             ∙ doubly.plain_members r (kept_represented doubly.plain_lists grows_q.entries (k.numbered.each i).shown) ∙ sym (places_are k i);
       }
 
-      -- AND OF A NEW TASK
+      -- A NEW TASK was placed at the place `p`
       module _ {new : Objects (Task V)} {p : Place} {task : Task V} (places : Places objects new p task) where
-        -- it is linked nowhere, and the tree is as an insert asks
+        -- the place `p` of the new task is not linked, and the tree satisfies what an insertion requires
         pub new_unlinked : IsUnlinked trees.is_linked (trees.plain_table v) p
         new_unlinked = (unlinked_vacant kept_grown.once p places.vacant).0
 
         pub ready : RepresentsSorted deadline_of (trees.PlainRepresents v root) new
         ready = sorted_values v (has_beside plain_trees nat_cmp_total kept_grown.sorted {new = new} new_unlinked (others_placed places))
 
-        -- THE TASK WAITS, once it is scheduled
+        -- THE TASK WAITS: after the new task is inserted into the tree, the scheduler maintains `IsKept`, and the task is added
         module _ (u : trees.TreeLinkOps A) (top : Option Place) (room : HasRoom r p) {X : Type 0} (answer : Result Unit X)
             (scheduled : (s : List Place) → trees.PlainRepresents v root s → OnOk answer (InsertsInOrder trees.RepresentsTree (against deadline_of new p) (trees.plain_table v) (trees.plain_table u) top s p))
             (acquired : OnOk answer (LinksAlso trees.is_linked (trees.plain_table v) (trees.plain_table u) p)) (refused : OnErr answer (IsLinked trees.is_linked (trees.plain_table v) p × (u ≡ v))) where
@@ -170,7 +170,7 @@ module _ {V A B : Type 0} where
             queues = λ i. queue_is kept_added i ∙ sym (queue_is k i);
           }
 
-    -- THE FIRST OF THE TREE goes to the back of its queue
+    -- THE FIRST TASK OF THE TREE moves to the back of its queue, and the scheduler still maintains `IsKept`
     module _ {p : Place} {task : Task V} (is : Some p ≡ first k.sorted.members) (there : object_at objects p ≡ Some task) (v : trees.TreeLinkOps A) (top : Option Place) (r : lists.DoublyLinkOps B) (after : List Ends)
         (off : Removes trees.RepresentsTree (trees.plain_table w) (trees.plain_table v) top (at_front k.sorted.members)) (gone : Unlinks trees.is_linked (trees.plain_table w) (trees.plain_table v) p)
         (pushed : (s : List Place) → lists.PlainRepresents q (list_at ends task.queue) s → lists.PlainRepresents r (list_at after task.queue) (s ++ p ∷ [])) (others : (i : ℕ) → i ≢ task.queue → list_at after i ≡ list_at ends i)
@@ -197,7 +197,7 @@ module _ {V A B : Type 0} where
         one_more : (i : ℕ) → with_at k.queued task.queue (k.queued task.queue ++ task ∷ []) i ≡ k.queued i ++ filter (is_for i) (task ∷ [])
         one_more i = grind (arith, nat_tests, append-nil)
 
-    -- THE FRONT OF A QUEUE is taken out
+    -- THE FIRST TASK OF A QUEUE is removed with its object, and the scheduler still maintains `IsKept`
     module _ {i : ℕ} {p : Place} {found : Task V} (is : Some p ≡ first (k.numbered.members i)) (there : object_at objects p ≡ Some found) (new : Objects (Task V)) (r : lists.DoublyLinkOps B) (after : List Ends)
         (popped : (s : List Place) → lists.PlainRepresents q (list_at ends i) s → lists.PlainRepresents r (list_at after i) (drop 1 s)) (others : (j : ℕ) → j ≢ i → list_at after j ≡ list_at ends j)
         (gone : Unlinks lists.is_linked (lists.plain_table q) (lists.plain_table r) p) (frame : (s : List Place) → lists.PlainRepresents q (list_at ends i) s → ChangesOnlyIn (lists.plain_table q) (lists.plain_table r) s)
@@ -228,7 +228,7 @@ all_out [] t h = tt
 all_out (x ∷ s) t h = (h x (λ out. out.0 refl), all_out s t (λ p there. h p (λ out. there out.1)))
 
 module _ {V A B : Type 0} {objects : Objects (Task V)} {w : trees.TreeLinkOps A} {root : Option Place} {q : lists.DoublyLinkOps B} {ends : List Ends} (k : IsKept objects w root q ends) where
-  -- a member of the tree is linked there, so it is in no list
+  -- a member of the tree is linked in the tree's table, and therefore it is in no list
   in_no_queue : (i : ℕ) (p : Place) → IsMember p k.sorted.members → IsAbsent p (k.numbered.members i)
   in_no_queue i p there =
       let free = λ (f : trees.is_linked ((trees.plain_table w).entry p) ≡ false). there (plain_trees.free (trees.plain_table w) root k.sorted.members p k.sorted.shown f) in

@@ -1,4 +1,4 @@
--- Tasks by their deadlines, and a tick, task by task.
+-- Lemmas about lists of tasks that are sorted by their deadlines, and about a tick that moves one task after the other.
 use Rattle.std.proofs.Common.{◌≡◌, ℕ, ◌<◌, Bool, true, false, List, [], ◌∷◌, ◌++◌, filter, refl, sym, ap, ◌∙◌, arith, append-nil, ◌+◌, ◌≤◌, not, length, subst, append_assoc, length-append}
 use Rattle.std.proofs.lemmas.List.Elements.{filter-append}
 use Rattle.std.proofs.lemmas.Bool.Decides.{nat_tests}
@@ -12,13 +12,13 @@ use Rattle.scheduler.specs.Kept.{deadline_of}
 use Rattle.scheduler.specs.Schedule.{has_deadline, IsByDeadline, Schedule, queue_at, is_due, is_for, IsUnchanged, Ticks, MovesFirst}
 use Rattle.ic_link_ops.proofs.Each.{all_both, all_map}
 
--- two tests, in either order
+-- a list that is filtered by two tests has the same elements whichever test is applied first
 filter_swap : {X : Type 0} (test other : X → Bool) (s : List X) → filter test (filter other s) ≡ filter other (filter test s)
 filter_swap test other [] = refl
 filter_swap test other (x ∷ s) = let rest = filter_swap test other s in grind (arith, nat_tests)
 
 module _ {V : Type 0} where
-  -- ONE MORE, before exactly those that are later
+  -- A TASK IS ADDED before exactly those tasks whose deadlines are later, and the list is still sorted by deadline, with the task at the end of `w`
   pub by_deadline_with : {old new w : List (Task V)} {task : Task V} → InsertsValue nat_cmp deadline_of old task new → IsByDeadline old w → IsByDeadline new (w ++ task ∷ [])
   by_deadline_with {old} {new} {w} {task} put stands = record { rises = put.sorted; alike = alike } where
     alike : (d : ℕ) → filter (has_deadline d) new ≡ filter (has_deadline d) (w ++ task ∷ [])
@@ -27,14 +27,14 @@ module _ {V : Type 0} where
         let was = simp filter-append at (ap (filter (has_deadline d)) put.was) in
         rw put.is (simp filter-append (grind (arith, nat_tests, append-nil, none, was, stands.alike d)))
 
-  -- THOSE ALONE THAT PASS A TEST
+  -- ONLY THE TASKS THAT PASS A TEST: if `tasks` has the tasks of `w` by deadline, then the tasks that pass a test are also by deadline
   pub by_deadline_among : (test : Task V → Bool) {tasks w : List (Task V)} → IsByDeadline tasks w → IsByDeadline (filter test tasks) (filter test w)
   by_deadline_among test {tasks} {w} stands = record {
     rises = sorted_filter deadline_of test tasks stands.rises;
     alike = λ d. filter_swap (has_deadline d) test tasks ∙ ap (filter test) (stands.alike d) ∙ filter_swap test (has_deadline d) w;
   }
 
-  -- A TICK SO FAR: these were first, are due, and went to their queues
+  -- A TICK SO FAR: the tasks `taken` were the first waiting tasks, they are due, and they have moved to their queues
   pub record Moved (now : ℕ) (start schedule : Schedule V) (moved : ℕ) : Type 0 where
     pub taken : List (Task V)
     pub first : start.waiting ≡ taken ++ schedule.waiting
@@ -43,7 +43,7 @@ module _ {V : Type 0} where
     pub count : moved ≡ length taken
     pub is_full : schedule.is_full ≡ start.is_full
 
-  -- none has gone yet
+  -- at the beginning of a tick, 0 tasks have moved
   pub none_moved : (now : ℕ) (schedule : Schedule V) → Moved now schedule schedule 0
   none_moved now schedule = record { taken = []; first = refl; due = tt; queues = λ q. sym (append-nil (queue_at schedule q)); count = refl; is_full = refl }
 
@@ -58,11 +58,11 @@ module _ {V : Type 0} where
       is_full = m.is_full ∙ k.is_full;
     }
 
-    -- those that waited at first are as few as those that wait before the first move
+    -- at most `most` tasks waited at first, if at most `most` tasks wait before the first move
     pub moved_few : (most : ℕ) → (0 < moved → length start.waiting ≤ most) → length schedule.waiting ≤ most → length start.waiting ≤ most
     moved_few most few wait = grind (arith, k.count, ap length k.first, length-append k.taken schedule.waiting)
 
-    -- THE TICK, where no more are due
+    -- THE TICK IS OVER if no waiting task is due any more, and then all due tasks have moved
     module _ {new : Schedule V} (same : IsUnchanged schedule new) (left : AllByRecursion (λ (x : Task V). is_due now x ≡ false) schedule.waiting) where
       due_is : filter (is_due now) start.waiting ≡ k.taken
       due_is = ap (filter (is_due now)) k.first ∙ filter_front (is_due now) k.taken schedule.waiting k.due left

@@ -1,4 +1,4 @@
--- Timers that are due, and those that wait still.
+-- Lemmas about timers that are due and are removed, and about timers that still wait.
 use Rattle.std.proofs.Common.{◌≡◌, ℕ, ◌≤◌, ◌<◌, Bool, false, Option, Some, None, IfSome, List, [], ◌∷◌, sym, ap, ◌∙◌, arith, subst, leb, true, ◌++◌, length, drop, refl, append_assoc, append-nil}
 use Rattle.std.proofs.lemmas.Bool.Decides.{nat_tests}
 use Rattle.std.specs.List.{AllByRecursion}
@@ -21,7 +21,7 @@ use Rattle.ic_rbtree.specs.Members.{members}
 use Rattle.ic_rbtree.proofs.Members.{members_represented}
 
 module _ {T : Type 0} (deadline : T → ℕ) (objects : Objects T) where
-  -- it has the least deadline
+  -- if the first member is due and is removed, then its deadline is the earliest of all members
   pub taken_earliest : (now : ℕ) (s : List Place) (o : Option Place) → o ≡ if_passes (is_due deadline objects now) (first s) → IsSorted nat_cmp (keys_at deadline objects s)
       → IfSome o (λ p. AllByRecursion (λ q. key_at deadline objects p ≤ key_at deadline objects q) s)
   taken_earliest now s None is sorted = tt
@@ -30,7 +30,7 @@ module _ {T : Type 0} (deadline : T → ℕ) (objects : Objects T) where
       subst (λ (y : Place). AllByRecursion (λ q. key_at deadline objects y ≤ key_at deadline objects q) (x ∷ s)) (sym (some_same (passed (is_due deadline objects now) (Some x) p is).0))
       (omega arith, first_is_least (key_at deadline objects) x s sorted)
 
-  -- where the first is not due, or there is none, all wait
+  -- if the first timer is not due, or if there is no timer, then the deadlines of all timers are later than `now`
   pub all_wait : (now : ℕ) (s : List Place) {b : Bool} {x : Option T} → b ≡ due deadline now x → x ≡ object_there objects (first s) → b ≡ false → ArePlaced objects s
       → IsSorted nat_cmp (keys_at deadline objects s) → AllByRecursion (λ q. now < key_at deadline objects q) s
   all_wait now [] tested there told placed sorted = tt
@@ -38,13 +38,13 @@ module _ {T : Type 0} (deadline : T → ℕ) (objects : Objects T) where
       let here : now < key_at deadline objects p = grind (arith, nat_tests, placed.0, tested, there, told) in
       (here, all_map (λ q low. omega (arith, here, low)) s (first_is_least (key_at deadline objects) p s sorted))
 
-  -- NO VALUE IS DUE where no member is
+  -- NO VALUE IS DUE if the deadlines of all members are later than `now`
   pub values_wait : (now : ℕ) (s : List Place) → AllByRecursion (λ p. now < key_at deadline objects p) s → AllByRecursion (λ x. leb (deadline x) now ≡ false) (values_at objects s)
   values_wait now [] wait = tt
   values_wait now (p ∷ s) wait = let rest = values_wait now s wait.1 in grind (arith, nat_tests, wait.0)
 
 module _ {L E : Type 0} {n : E → Node} {table : L → Table E} {Trace : L → L → List LinkStep → Type 0} {old new : CursorState L (Option Place)} {s : List Place} where
-  -- the position is on the one that is first then
+  -- if the cursor is on the first member and the member is removed, then the cursor is on the member that is first afterwards
   pub first_again : RepresentsAt (Represents n) table old s → old.position ≡ first s → (o : Option Place) → RemovesThere (Represents n) table Trace old o new
       → (u : List Place) → RepresentsAt (Represents n) table new u → new.position ≡ first u
   first_again shown is None off u here =
@@ -53,7 +53,8 @@ module _ {L E : Type 0} {n : E → Node} {table : L → Table E} {Trace : L → 
       off.moved (at_front s) shown is ∙ ap first (one_sequence (off.removed (at_front s) shown is).shows here)
 
 module _ {T L E : Type 0} (deadline : T → ℕ) (n : E → Node) (table : L → Table E) (Trace : L → L → List LinkStep → Type 0) (objects : Objects T) (now : ℕ) where
-  -- SOME THAT ARE DUE were taken off the front of s, which `start` showed, and stand after `items` now; the rest is represented
+  -- SOME DUE TIMERS WERE REMOVED: The table `start` represented `s`. The timers `taken` were removed from the front of `s` and appended to `items`,
+  -- which gives `held`. The table `links` represents the others, which are `rest`
   pub record Takes (start : L) (s items : List Place) (links : L) (root : Option Place) (held : List Place) : Type 0 where
     pub taken : List Place
     pub rest : List Place
@@ -64,7 +65,7 @@ module _ {T L E : Type 0} (deadline : T → ℕ) (n : E → Node) (table : L →
     pub frame : ChangesOnlyIn (table start) (table links) s
 
 module _ {T L E : Type 0} {deadline : T → ℕ} {n : E → Node} {table : L → Table E} {Trace : L → L → List LinkStep → Type 0} {objects : Objects T} {now : ℕ} {start : L} {s items : List Place} where
-  -- at first none were taken,
+  -- at the beginning, no timer was removed
   pub takes_none : {root : Option Place} → Trace start start [] → Represents n (table start) root s → Takes deadline n table Trace objects now start s items start root items
   takes_none nothing shown = record {
     taken = [];
@@ -77,11 +78,11 @@ module _ {T L E : Type 0} {deadline : T → ℕ} {n : E → Node} {table : L →
   }
 
   module _ {links : L} {root : Option Place} {held : List Place} (k : Takes deadline n table Trace objects now start s items links root held) {p : Place} (is : Some p ≡ if_passes (is_due deadline objects now) (first k.rest)) where
-    -- the first of the rest is due,
+    -- if the due place is `p`, then the remaining timers begin with `p`
     pub next_due : k.rest ≡ p ∷ drop 1 k.rest
     next_due = first_is k.rest (passed (is_due deadline objects now) (first k.rest) p is).0
 
-    -- and is taken too
+    -- if the first of the remaining timers is due and is removed, then it is the last of the removed timers
     pub takes_one : ((a b c : L) (u v : List LinkStep) → Trace a b u → Trace b c v → Trace a c (u ++ v)) → {new : L} {new_root : Option Place} {new_held : List Place}
         → new_held ≡ held ++ p ∷ [] → Removes (Represents n) (table links) (table new) new_root (at_front k.rest) → Trace links new (releases p ∷ []) → Takes deadline n table Trace objects now start s items new new_root new_held
     takes_one on {new} held_is removes step =
@@ -100,7 +101,7 @@ module _ {T L E : Type 0} {deadline : T → ℕ} {n : E → Node} {table : L →
           frame = frames_join k.frame removes.frame (λ q out. absent_right q k.taken k.rest (subst (IsAbsent q) (sym k.stood.same) out));
         }
 
-    -- so that fewer are left
+    -- after the first of the remaining timers was removed, fewer timers remain
     pub fewer : ((l : L) (q : Place) → (n ((table l).entry q)).linked ≡ true → IsCovered (table l) q) → {new : L} {new_root : Option Place}
         → Removes (Represents n) (table links) (table new) new_root (at_front k.rest) → length (members n (table new) new_root) < length (members n (table links) root)
     fewer covered {new} {new_root} removes =

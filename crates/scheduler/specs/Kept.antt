@@ -11,24 +11,24 @@ use Rattle.ic_rbtree.specs.SortedValues.{HasSorted}
 use Rattle.scheduler.specs.declared.task.Task.{Task}
 use Rattle.scheduler.specs.Schedule.{Schedule}
 
--- the list of the queue with this number
+-- the ends of the list of the queue with the number `q`; the list is empty if no queue has this number
 abbrev pub list_at : List Ends → ℕ → Ends
 list_at queues q = slice_index_or queues q no_members
 
 module _ {V : Type 0} where
-  -- a task's deadline, and its queue
+  -- `deadline_of` returns a task's deadline, and `queue_of` returns the number of its queue
   abbrev pub deadline_of : Task V → ℕ
   deadline_of task = task.deadline
 
   abbrev pub queue_of : Task V → ℕ
   queue_of task = task.queue
 
--- a place that the lists' table covers, and that the pool can give out
+-- the lists' table covers the place `p`, and the index of `p` is below 2^32, so that the pool can use it
 abbrev pub HasRoom : {B : Type 0} → lists.DoublyLinkOps B → Place → Type 0
 HasRoom links p = IsCovered (lists.plain_table links) p × index_of p < 2 ^ 32
 
 module _ {V A B : Type 0} (objects : Objects (Task V)) (deadline_links : trees.TreeLinkOps A) (root : Option Place) (queue_links : lists.DoublyLinkOps B) (queues : List Ends) where
-  -- the tasks in the tree and those in each list, and their places, as the tables represent them
+  -- what a contract sees of the scheduler: the tasks in the tree and in each list, their places, and whether all places are in use
   abbrev pub schedule_of : Schedule V
   schedule_of = record {
     waiting = values_at objects (trees.members_of deadline_links root);
@@ -38,9 +38,9 @@ module _ {V A B : Type 0} (objects : Objects (Task V)) (deadline_links : trees.T
     queued_at = map (λ list. lists.members_of queue_links list) queues;
   }
 
-  -- WHAT IT MAINTAINS: the tasks in the tree are sorted by their deadlines, and nothing else is linked in its table. List q has only tasks of queue
-  -- q, and only members of the lists are linked in the lists' table. Each task is linked in exactly one of the two fields, and the lists' table
-  -- covers its place
+  -- WHAT A SCHEDULER MAINTAINS: The tasks in the tree are sorted by their deadlines, and no other place is linked in the tree's table. List q has only
+  -- tasks of queue q, and only members of the lists are linked in the lists' table. Each task is linked in exactly one of the two tables, and the
+  -- lists' table covers its place
   pub record IsKept : Type 0 where
     pub waiting : List (Task V)
     pub queued : ℕ → List (Task V)

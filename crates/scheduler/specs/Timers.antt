@@ -7,26 +7,27 @@ use Rattle.ic_link_ops.specs.RedBlackTree.{Node, Represents}
 use Rattle.ic_rbtree.specs.SortedObjects.{key_at, RepresentsSorted}
 
 module _ {T : Type 0} (deadline : T → ℕ) where
-  -- whether a timer is due: there is one, and its deadline is at most `now`
+  -- whether there is a timer that is due: its deadline is at most `now`
   abbrev pub due : ℕ → Option T → Bool
   due now None = false
   due now (Some timer) = leb (deadline timer) now
 
-  -- the same for the timer at a place
+  -- whether the place `p` has a timer that is due at the time `now`
   abbrev pub is_due : Objects T → ℕ → Place → Bool
   is_due objects now p = due now (object_at objects p)
 
-  -- s begins with `taken`, whose timers are all due, and goes on with `rest`
+  -- The sequence `s` consists of the places `taken` and then the places `rest`. The timers at the places of `taken` are all due at the time `now`
   pub record ComesFirst (objects : Objects T) (now : ℕ) (taken rest s : List Place) : Type 0 where
     pub same : taken ++ rest ≡ s
     pub are_due : AllByRecursion (λ p. key_at deadline objects p ≤ now) taken
 
-  -- a position is on the first timer of a queue, or null if there is none; the timers are objects, and sorted by their deadlines
+  -- The position of the cursor state `at` is the first timer of the queue, or null if the queue is empty. The timers are objects, and the queue has
+  -- them sorted by their deadlines
   pub record IsAtFront {L E : Type 0} (n : E → Node) (table : L → Table E) (objects : Objects T) (at : CursorState L (Option Place)) : Type 0 where
     pub queue : RepresentsSorted deadline (RepresentsAt (Represents n) table at) objects
     pub first_is : (s : List Place) → RepresentsAt (Represents n) table at s → at.position ≡ first s
 
--- the timer that is returned if there was no room for it
+-- the timers that a call gives back to its caller: the refused timer if there was no room for it, and none if the call succeeded
 abbrev pub handed_back : {T : Type 0} → Result Unit (AllocFailed T) → List T
 handed_back (Ok u) = []
 handed_back (Err refused) = refused.value ∷ []

@@ -1,8 +1,8 @@
-//! Why a task was not added.
+//! The error that a scheduler returns if it does not add a task.
 
 ghost use Rattle.std.specs.Prelude.{◌≡◌};
 
-/// Why a task was not added, with its value.
+/// The reason why a task was not added, with the value of the task.
 #[derive(Debug, Drop)]
 pub enum AddError<V> {
     /// All places are in use.

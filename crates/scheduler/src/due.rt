@@ -1,4 +1,4 @@
-//! Moves of due tasks from the tree of deadlines to their queues.
+//! Moves due tasks from the tree of deadlines to their queues.
 //!
 //! ```text
 //! let moved = move_due(&mut deadlines, &mut deadline_links, &objects, &mut queue_links, &mut queues, now);
@@ -22,8 +22,8 @@ use ic_rbtree::{CursorMut, RBTree};
 use ic_unsafe_ref::Objects;
 use std::alloc::Allocator;
 
-// Moves the first waiting task, on which the cursor is, to its queue if it is due, and returns whether it did. There are fewer than 2^33 places, so a
-// count of these moves cannot overflow.
+// Moves the first waiting task, on which the cursor is, to the back of its queue if the task is due. It returns whether it moved a task. There are
+// fewer than 2^33 places, so that a count of the moves cannot overflow.
 #[inline]
 fn move_first<V, A: Allocator>(
     cursor: &mut CursorMut<'_, ByDeadline<Task<V>>, rbtree::LinkOps<A>>,
@@ -56,8 +56,8 @@ fn move_first<V, A: Allocator>(
     true
 }
 
-// Moves the tasks that are due to the backs of their queues, the earliest first, and returns how many. A cursor goes from each task to the next, so
-// that only the first needs a search.
+// Moves the tasks that are due to the backs of their queues, the earliest first, and returns how many tasks it moved. A cursor goes from each task to
+// the next one, so that only the first task needs a search.
 pub(crate) fn move_due<V, A: Allocator>(
     deadlines: &mut RBTree<ByDeadline<Task<V>>>,
     deadline_links: &mut rbtree::LinkOps<A>,

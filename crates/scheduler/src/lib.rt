@@ -7,8 +7,9 @@
 //! let next = scheduler.next_task(queue); // a deadline and its task
 //! ```
 //!
-//! Each task is one object with a link in each of two fields: in the tree of deadlines while it waits, and in the list of its queue once it was due.
-//! So a task moves from one to the other without taking memory. [`timer_queue`] is this tree, for objects of your own.
+//! Each task is one object with two links. While the task waits, it is linked in the tree of deadlines. Once it was due, it is linked in the list of
+//! its queue. Therefore a task moves from the tree to the list without taking memory. The module [`timer_queue`] has this tree for objects of your
+//! own.
 #![tactic(auto)]
 
 mod add_error;

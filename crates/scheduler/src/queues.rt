@@ -1,4 +1,4 @@
-//! The eight queues, lists over one table.
+//! The eight queues of a scheduler, which are lists over one table of links.
 
 ghost use Rattle.std.specs.Prelude.{◌≡◌, ◌≢◌, ◌++◌, ◌∷◌, [], ℕ, List, IfSome, IfNone};
 ghost use Rattle.ic_link_ops.specs.Prelude.{Place, first, remove, at_front, IsCovered, IsUnlinked, ChangesOnlyIn, LinksAlso, Unlinks};
@@ -14,7 +14,7 @@ use ic_unsafe_ref::UnsafeRef;
 use std::alloc::Allocator;
 use std::array;
 
-/// The lists, by the numbers of their queues.
+/// The lists of the eight queues. The list of a queue is at the index that is the queue's number.
 pub(crate) type Queues<V> = [LinkedList<Task<V>>; 8];
 
 // Makes eight empty queues.
@@ -44,7 +44,7 @@ pub(crate) fn enqueue<V, A: Allocator>(
     let _ = queues[queue.number()].push_back(links, object); // proved: it is not linked
 }
 
-// Removes the task at the front of the queue.
+// Removes the task at the front of the queue and returns it, or returns `None` if the queue is empty.
 pub(crate) fn dequeue<V, A: Allocator>(
     queues: &mut Queues<V>,
     links: &mut LinkOps<A>,

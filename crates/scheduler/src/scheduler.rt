@@ -1,4 +1,4 @@
-//! The scheduler.
+//! The type `Scheduler` and its calls.
 
 ghost use Rattle.std.specs.Prelude.{◌≡◌, [], true, OnOk, IsErr, IfErr, IfSome, IfNone};
 
@@ -16,7 +16,7 @@ use std::marker::Model;
 /// Tasks that wait for their deadlines, and eight queues of tasks whose deadlines have come.
 ///
 /// A contract sees the waiting tasks in the order of their deadlines, the tasks of each queue from its front, and whether all places are in use. Each
-/// task is linked in the tree of deadlines or in the list of its queue, never in both.
+/// task is linked either in the tree of deadlines or in the list of its queue, and never in both.
 #[derive(Drop)]
 pub struct Scheduler<V, A: Allocator = Global> {
     pool: Pool<Task<V>, (linked_list::LinkOps<A>, rbtree::LinkOps<A>), A>,
@@ -60,8 +60,8 @@ impl<V, A: Allocator> Scheduler<V, A> {
 
     /// Adds a task, which then waits, even if its deadline has passed. O(log n).
     ///
-    /// If it is refused, the caller gets the value back, and nothing has changed. The error is `TooManyTasks` exactly if all 4,294,967,296 places are
-    /// in use, and otherwise `OutOfMemory`. It makes at most three requests for memory.
+    /// If the task is refused, the caller gets the value back, and nothing has changed. The error is `TooManyTasks` exactly if all 4,294,967,296
+    /// places are in use, and otherwise `OutOfMemory`. It makes at most three requests for memory.
     pub fn add(&mut self, deadline: u64, queue: Queue, value: V) -> Result<(), AddError<V>>
         ensures added { OnOk result (Adds (task_of deadline queue value) self.old self.new) }
         ensures refused { IfErr result (λ refused. (value_of refused ≡ value) × IsUnchanged self.old self.new
@@ -73,7 +73,7 @@ impl<V, A: Allocator> Scheduler<V, A> {
             queue,
             value,
         };
-        // It makes room in both tables, so that a waiting task can later move without memory.
+        // The pool makes room for the task in both tables, so that the task can later move to its queue without taking memory.
         let object = match self.pool.place(task) {
             Ok(object) => object,
             Err(PlaceError::NoPlaceLeft(task)) => return Err(AddError::TooManyTasks(task.value)),
@@ -85,7 +85,7 @@ impl<V, A: Allocator> Scheduler<V, A> {
     }
 
     /// Moves the tasks that are due at `now` to the backs of their queues, the earliest first, and among tasks with equal deadlines the one that was
-    /// added first. It returns how many tasks it moved. It costs O(log n), plus O(1) on average for each of them, and takes no memory.
+    /// added first. It returns how many tasks it moved. It costs O(log n), plus O(1) on average for each moved task, and takes no memory.
     pub fn tick(&mut self, now: u64) -> usize
         ensures { Ticks now self.old self.new result }
     {
@@ -110,16 +110,17 @@ impl<V, A: Allocator> Scheduler<V, A> {
         Some((task.deadline, task.value))
     }
 
-    /// Gives a caller's proof that each task is in one collection, the tree of waiting tasks or one queue, and never in both. It does nothing itself.
+    /// States, for use in a caller's proof, that each task is in one collection, the tree of waiting tasks or one queue, and never in both. The call
+    /// itself does nothing.
     pub fn each_task_is_once(&self)
         ensures { IsOnceEach self.now }
     {
-        // What this function reads belongs to a scheduler, of which the law holds.
+        // This function reads a part of a scheduler, and the invariant holds for every scheduler.
         let _ = self.pool.len();
     }
 
-    /// Gives a caller's proof that the waiting tasks are sorted by deadline, so that there is a list that the scheduler represents. It does nothing
-    /// itself.
+    /// States, for use in a caller's proof, that the waiting tasks are sorted by deadline, so that there is a list that the scheduler represents. The
+    /// call itself does nothing.
     pub fn stands_for_what_waits(&self)
         ensures { IsScheduleOf self.now self.now.waiting }
     {

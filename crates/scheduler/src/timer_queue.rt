@@ -1,5 +1,5 @@
-//! A queue of values sorted by deadline. The value with the earliest deadline is taken first, and among equal deadlines the one that was scheduled
-//! first.
+//! A queue of values sorted by deadline. The value with the earliest deadline is taken first, and among values with equal deadlines the one that was
+//! scheduled first.
 //!
 //! ```text
 //! let mut timers = RBTree::new(ByDeadline::new());
@@ -34,8 +34,8 @@ use std::alloc::{AllocFailed, Allocator};
 /// Inserts a timer into the queue, after all timers with the same deadline or an earlier one, unless its link is refused. O(log n), and it takes no
 /// memory.
 ///
-/// It requires that the timer is an object and the table covers its place, and that the timers in the queue are objects, sorted by their deadlines,
-/// as every call of this module leaves them. If the link is refused, the caller gets the timer back, and the queue is as it was.
+/// It requires that the timer is an object and the table covers its place. It also requires that the timers in the queue are objects, sorted by their
+/// deadlines, as every call of this module leaves them. If the link is refused, the caller gets the timer back, and the queue has not changed.
 pub fn schedule<T: HasDeadline, L: RBTreeOps, B: Allocator>(
     timers: &mut RBTree<ByDeadline<T>>,
     links: &mut L,
@@ -56,7 +56,7 @@ pub fn schedule<T: HasDeadline, L: RBTreeOps, B: Allocator>(
     timers.insert(links, objects, timer)
 }
 
-// Returns whether there is a timer, and it is due.
+// Returns whether there is a timer that is due at `now`.
 #[inline]
 fn is_due<T: HasDeadline>(timer: Option<&T>, now: u64) -> bool
     ensures { result ≡ due T.deadline now (option_copied timer.entry) }
@@ -67,8 +67,8 @@ fn is_due<T: HasDeadline>(timer: Option<&T>, now: u64) -> bool
     }
 }
 
-// Removes the first timer, on which the cursor is, if its deadline is at most `now`, or else returns `None`. The cursor goes on to the timer that is
-// then first. O(log n), and O(1) on average over many removals.
+// Removes and returns the first timer, on which the cursor is, if its deadline is at most `now`. Otherwise it returns `None`. The cursor moves to the
+// timer that is then first. O(log n), and O(1) on average over many removals.
 #[inline]
 pub(crate) fn take_due_at<T: HasDeadline, L: RBTreeOps, B: Allocator>(
     cursor: &mut CursorMut<'_, ByDeadline<T>, L>,
@@ -94,10 +94,10 @@ pub(crate) fn take_due_at<T: HasDeadline, L: RBTreeOps, B: Allocator>(
     cursor.remove()
 }
 
-/// Removes the first timer if its deadline is at most `now`, and returns `None` otherwise. O(log n).
+/// Removes and returns the first timer if its deadline is at most `now`, and returns `None` otherwise. O(log n).
 ///
-/// It requires that the timers in the queue are objects, sorted by their deadlines. The timer is then unlinked, but keeps its place, and no timer in
-/// the queue was due before it. If it returns `None`, nothing has changed.
+/// It requires that the timers in the queue are objects, sorted by their deadlines. The removed timer is unlinked, but keeps its place, and no timer
+/// in the queue was due before it. If the call returns `None`, nothing has changed.
 pub fn take_due<T: HasDeadline, L: RBTreeOps, B: Allocator>(
     timers: &mut RBTree<ByDeadline<T>>,
     links: &mut L,
@@ -125,8 +125,8 @@ pub fn take_due<T: HasDeadline, L: RBTreeOps, B: Allocator>(
 /// timer.
 ///
 /// It requires that the timers in the queue are objects, sorted by their deadlines. The removed timers are unlinked, but keep their places. It takes
-/// memory only for `due`, and none if that has room. If `due` cannot grow, it returns the timer for which there was no room, which is unlinked like
-/// those in `due`, and the others still wait.
+/// memory only for `due`, and none if `due` has room. If `due` cannot grow, the call returns the timer for which there was no room. This timer is
+/// unlinked like those in `due`, and the other timers still wait.
 pub fn take_all_due<T: HasDeadline, L: RBTreeOps, B: Allocator, C: Allocator>(
     timers: &mut RBTree<ByDeadline<T>>,
     links: &mut L,
@@ -152,9 +152,9 @@ pub fn take_all_due<T: HasDeadline, L: RBTreeOps, B: Allocator, C: Allocator>(
     Ok(())
 }
 
-/// Removes a timer before it is due: all others stay, in their order. O(log n), and it takes no memory.
+/// Cancels a timer: removes it from the queue, in which all other timers stay in their order. O(log n), and it takes no memory.
 ///
-/// It requires that the timer is in the queue, and is never refused. The timer is then unlinked, but keeps its place.
+/// It requires that the timer is in the queue, and then the call is never refused. The removed timer is unlinked, but keeps its place.
 pub fn cancel<T: HasDeadline, L: RBTreeOps>(
     timers: &mut RBTree<ByDeadline<T>>,
     links: &mut L,

@@ -1,4 +1,4 @@
--- What was sent in threads was received: no claim was refused, and what came of each sender is what it was to send.
+-- All places that the threads sent were received: no claim was refused, and the received places of each sender are those that it was to send.
 use Rattle.std.proofs.Common.{◌≡◌, ◌≢◌, ℕ, zero, suc, ◌+◌, ◌*◌, ◌/◌, ◌-◌, ◌<◌, ◌≤◌, eqb, Bool, true, false, true≢false, cond, ◌||◌, ◌&&◌, ◌⊎◌, inl, inr, List, [], ◌∷◌, ◌++◌, map, length, length-append, get_or, reverse, All, Contains, refl, sym, ap, ◌∙◌, subst, arith, append-nil, eq-eqb, ne_eqb, ⊎_elim, le_refl}
 use Rattle.std.specs.List.{range_with_len, IsDistinct}
 use Rattle.std.proofs.lemmas.Bool.{or_left, or_right}
@@ -32,7 +32,7 @@ use Rattle.stack_uses.specs.declared.mailbox.Receiver.{Receiver}
 use Rattle.stack_uses.proofs.DeliveryLemmas.{takes_more}
 use Rattle.stack_uses.proofs.MailLemmas.{mail}
 
--- whether the step claims the place, with success, without, and either way
+-- The tests tell whether the step claims the place `p`: `grants` if the claim succeeds, `denies` if it is refused, and `asks` in both cases
 abbrev grants : Place → Step → Bool
 grants p (Claim q was) = was && same p q
 grants p (Release q) = false
@@ -77,7 +77,7 @@ denies_asks p (Release q) e = e
 denies_asks p (Push k s) e = e
 denies_asks p (TakeAll k s) e = e
 
--- A PLACE THAT IS WITH NOBODY stays so until a claim of it is granted, and no claim of it is refused before
+-- A PLACE THAT NOBODY HOLDS and that is in no stack stays so until a claim of the place succeeds, and no claim of it is refused before
 moved_free : (m : Moment) → IsSound m → (a : ℕ) (e : Step) → Fits m a e → (p : Place) → m.place p ≡ nowhere → moves p e ≡ true → grants p e ≡ true
 moved_free m sound a (Claim q was) fits p free mv = mv
 moved_free m sound a (Release q) fits p free mv = absurd (true≢false (ap is_nowhere (sym free ∙ (ap (λ r. m.place r) (one_place p q mv) ∙ fits))))
@@ -120,7 +120,7 @@ first_grant P (x ∷ xs) m sound legal by p free h is =
     (any_rest (denies p) (eqb x.holder h) x.step (steps_of h xs) (not_denied m x.holder x.step legal.0 p free) is) in
     (later.0, later.1, any_cons (grants p) (eqb x.holder later.0) x.step (steps_of later.0 xs) later.2)) refl
 
--- A SENDER claims each of its places once
+-- A SENDER claims each of its places once. Their indices are the consecutive numbers from `first` on
 abbrev IsRow : ℕ → List Place → Type 0
 IsRow first [] = Unit {0}
 IsRow first (p ∷ ps) = (index_of p ≡ first) × IsRow (first + 1) ps
@@ -143,7 +143,7 @@ asked_in p (q ∷ ps) [] e = absurd (true≢false (sym e))
 asked_in p (q ∷ ps) (true ∷ was) e = or_more (same p q) (any (asks p) (steps_to_send_each 0 ps was)) (same p q) (is_in p ps) (λ f. f) (asked_in p ps was) e
 asked_in p (q ∷ ps) (false ∷ was) e = or_more (same p q) (any (asks p) (steps_to_send_each 0 ps was)) (same p q) (is_in p ps) (λ f. f) (asked_in p ps was) e
 
--- a place of the rest of a row is not its first one
+-- a later place of a list with consecutive indices is not its first place `q`
 not_first : (p q : Place) (first : ℕ) (ps : List Place) → index_of q ≡ first → IsRow (first + 1) ps → is_in p ps ≡ true → same p q ≡ false
 not_first p q first ps e row is = let low = (in_row p (first + 1) ps row is).0 in ne_eqb (index_of p) (index_of q) (λ f. absurd (omega (arith, e, f, low)))
 
@@ -161,7 +161,7 @@ not_both p first (q ∷ ps) (false ∷ was) row g d =
     let there : is_in p ps ≡ true = asked_in p ps was (any_more (grants p) (asks p) (grants_asks p) (steps_to_send_each 0 ps was) g) in
     not_both p (first + 1) ps was row.1 g (or_rest (same p q) (any (denies p) (steps_to_send_each 0 ps was)) (not_first p q first ps row.0 row.1 there) d)
 
--- where no claim is refused, all is sent
+-- if no claim of the steps is refused, then the steps send all places of `ps`
 every_one : (ps : List Place) (was : List Bool) → length was ≡ length ps → ((p : Place) → any (denies p) (steps_to_send_each 0 ps was) ≡ true → ⊥)
     → of_record (sent 0) (steps_to_send_each 0 ps was) ≡ ps
 every_one [] was e none = refl
@@ -174,14 +174,14 @@ all_of first count es s none =
     ap (λ l. map index_of (of_record (sent 0) l)) s.steps_are
     ∙ (ap (map index_of) (every_one s.places s.got s.each (λ p d. none p (ap (any (denies p)) s.steps_are ∙ d))) ∙ s.are)
 
--- no step takes what is sent
+-- the steps by which places are sent take no place from the mailbox
 sends_got : (ps : List Place) (was : List Bool) → of_record (got 0) (steps_to_send_each 0 ps was) ≡ []
 sends_got [] was = refl
 sends_got (q ∷ ps) [] = refl
 sends_got (q ∷ ps) (true ∷ was) = sends_got ps was
 sends_got (q ∷ ps) (false ∷ was) = sends_got ps was
 
--- who only takes claims nothing and sends nothing
+-- steps that only take places from stacks claim no place and send none
 takes_grant : (p : Place) (es : List Step) → OnlyTakes es → any (grants p) es ≡ true → ⊥
 takes_grant p [] only g = true≢false (sym g)
 takes_grant p (Claim q was ∷ es) only g = absurd only
@@ -196,7 +196,7 @@ takes_sent (Release q ∷ es) only = absurd only
 takes_sent (Push k s ∷ es) only = absurd only
 takes_sent (TakeAll k s ∷ es) only = takes_sent es only
 
--- SEVERAL SENDERS, of which each begins where the one before it ends
+-- SEVERAL SENDERS: each party of the list sends `count` places, and these follow the places of the party before it
 abbrev pub SentBy : ℕ → ℕ → List Party → Type 0
 SentBy first count [] = Unit {0}
 SentBy first count (x ∷ xs) = Sends first count x.steps × SentBy (first + count) count xs
@@ -206,7 +206,7 @@ sends_at first count [] are i x at = absurd (some-ne-none x (sym at))
 sends_at first count (y ∷ ys) are zero x at = subst (λ n. Sends n count x.steps) (omega arith) (subst (λ (z : Party). Sends first count z.steps) (some-injective y x at) are.0)
 sends_at first count (y ∷ ys) are (suc i) x at = subst (λ n. Sends n count x.steps) (omega arith) (sends_at (first + count) count ys are.1 i x at)
 
--- a place that is claimed by one of them is in its part
+-- a place that a sender claims is one of the `count` places from `first` on that it is to send
 asks_part : (p : Place) (first count : ℕ) (es : List Step) → Sends first count es → any (asks p) es ≡ true → (first ≤ index_of p) × (index_of p < first + count)
 asks_part p first count es s ask =
     let row = is_row first count s.places s.are in
@@ -215,7 +215,7 @@ asks_part p first count es s ask =
     let high = part.1 in
     (part.0, (omega (arith, high, long)))
 
--- two parts are apart
+-- no number is in the parts of two different senders: if `n` is in the parts i and j, then i is j
 apart_parts : (i j count n : ℕ) → i * count ≤ n → n < i * count + count → j * count ≤ n → n < j * count + count → i ≡ j
 apart_parts i j count n a b c d = dite (ℕ_discrete i j) (λ e. e) (λ ne. absurd (dite (dec_le i j)
     (λ le. let m = mul-le (i + 1) count j count (omega (arith, le, ne)) (le_refl count) in omega (arith, m, b, c))
@@ -228,7 +228,7 @@ module _ (count : ℕ) (order : List Entry) (xs : List Party) (z : Party) (was :
   abbrev name_of_party : Party → ℕ
   name_of_party x = x.name
 
-  -- one of the parties is a sender or the receiver
+  -- each of the parties is one of the senders `xs` or the receiver `z`
   which : (i : ℕ) (x : Party) → get_elem? parties i ≡ some x → (get_elem? xs i ≡ some x) ⊎ (x ≡ z)
   which i x at = go xs i at
     where
@@ -246,7 +246,7 @@ module _ (count : ℕ) (order : List Entry) (xs : List Party) (z : Party) (was :
       go (y ∷ l) zero e = e
       go (y ∷ l) (suc k) e = go l k e
 
-  -- a name is that of one of them
+  -- if the names of the parties contain the name `h`, then one of the parties has this name
   named_at : (h : ℕ) → Contains (map name_of_party parties) h → (i : ℕ) × ((x : Party) × ((get_elem? parties i ≡ some x) × (x.name ≡ h)))
   named_at h at = go parties at.0 at.1 at.2
     where
@@ -258,7 +258,7 @@ module _ (count : ℕ) (order : List Entry) (xs : List Party) (z : Party) (was :
   own : (i : ℕ) (x : Party) → get_elem? parties i ≡ some x → steps_of x.name order ≡ x.steps
   own i x at = all_each (λ (y : Party). steps_of y.name order ≡ y.steps) parties was.own i x at
 
-  -- NO CLAIM IS REFUSED
+  -- NO CLAIM of a sender is refused
   none_denied : (i : ℕ) (x : Party) → get_elem? xs i ≡ some x → (p : Place) → any (denies p) x.steps ≡ true → ⊥
   none_denied i x at p d =
       let g = first_grant (Contains (map name_of_party parties)) order at_first (record { members = λ q k. refl; once = λ k. tt }) was.legal was.by p refl x.name (ap (any (denies p)) (own i x (there i x at)) ∙ d) in
@@ -280,16 +280,16 @@ module _ (count : ℕ) (order : List Entry) (xs : List Party) (z : Party) (was :
       (λ receiver. takes_grant p z.steps takes (ap (λ (u : Party). any (grants p) u.steps) (sym receiver) ∙ granted))
       (which by.0 y by.1.1.0)
 
-  -- what a sender sent
+  -- the sender with the number i has sent all `count` places from the index `i * count` on, in order
   sent_all : (i : ℕ) (x : Party) → get_elem? xs i ≡ some x → map index_of (of_record (sent 0) x.steps) ≡ range_with_len (i * count) count
   sent_all i x at = all_of (0 + i * count) count x.steps (sends_at 0 count xs sent_by i x at) (none_denied i x at) ∙ ap (λ n. range_with_len n count) (omega arith)
 
-  -- THE LETTERS
+  -- THE LETTERS of the mailbox, from which all places in `came` were received
   module _ (came : List Place) (mail : IsMail 0 parties came []) where
     abbrev each_sent : Party → Type 0
     each_sent x = sent_from x.name mail.letters ≡ of_record (sent 0) x.steps
 
-    -- a letter is among those of its sender
+    -- the place of each letter is among the places that the letter's sender sent
     letter_in : (l : List Letter) → All (λ (x : Letter). is_in x.place (sent_from x.sender l) ≡ true) l
     letter_in [] = All-nil (λ (x : Letter). is_in x.place (sent_from x.sender []) ≡ true)
     letter_in (y ∷ ys) = All-cons (λ (x : Letter). is_in x.place (sent_from x.sender (y ∷ ys)) ≡ true) y ys
@@ -297,7 +297,7 @@ module _ (count : ℕ) (order : List Entry) (xs : List Party) (z : Party) (was :
         (All-weaker (λ (x : Letter). is_in x.place (sent_from x.sender ys) ≡ true) (λ (x : Letter). is_in x.place (sent_from x.sender (y ∷ ys)) ≡ true)
         (λ x e. by_test (λ b. is_in x.place (cond b (y.place ∷ sent_from x.sender ys) (sent_from x.sender ys)) ≡ true) (eqb y.sender x.sender) (λ _. in_rest y.place x.place (sent_from x.sender ys) e) (λ _. e)) ys (letter_in ys))
 
-    -- whose it is
+    -- the sender of the letter `x` is the party with this number, and the place of the letter is one of the party's `count` places
     record IsOfSender (x : Letter) : Type 0 where
       pub number : ℕ
       pub party : Party
@@ -325,7 +325,7 @@ module _ (count : ℕ) (order : List Entry) (xs : List Party) (z : Party) (was :
     all_of_senders : All IsOfSender mail.letters
     all_of_senders k d low = of_one (get_or mail.letters k d) (mail.by k d low) (letter_in mail.letters k d low)
 
-    -- the division of an index gives the number of its sender
+    -- the index of a place divided by `count` is the number of the sender that sends the place
     number_of : (p : Place) (k : ℕ) → k * count ≤ index_of p → index_of p < k * count + count → index_of p / count ≡ k
     number_of p k low high =
         let b : ℕ = index_of p - k * count in
@@ -365,7 +365,7 @@ module _ (count : ℕ) (order : List Entry) (xs : List Party) (z : Party) (was :
         go (y ∷ l) zero low = (y, refl)
         go (y ∷ l) (suc i) low = go l i (omega (arith, low))
 
-    -- ALL CAME
+    -- ALL PLACES CAME: for each sender, `came` has its `count` places in order, and no other place
     pub delivered : IsDelivered (length xs) count came
     delivered = record {
       rows = λ k low.
@@ -375,7 +375,7 @@ module _ (count : ℕ) (order : List Entry) (xs : List Party) (z : Party) (was :
       inside = subst (All (λ (p : Place). index_of p < length xs * count)) came_is (inside_at mail.letters all_of_senders);
     }
 
--- THE LAST CALL THAT TAKES ALL leaves nothing
+-- THE LAST CALL takes all places from the mailbox and leaves none. The party that makes it is the last of the list
 at_last : (l : List Party) (x : Party) → get_elem? (l ++ x ∷ []) (length l) ≡ some x
 at_last [] x = refl
 at_last (y ∷ l) x = at_last l x
@@ -393,7 +393,7 @@ at_both (z ∷ l) x y (suc i) a b e f = ⊎_elim
 abbrev label : Party → ℕ
 label x = x.name
 
--- the last of the holders has made one step more, and no other has
+-- the last of the parties has made one further step `e`, and no other party has made a step
 pub one_on : (xs : List Party) (x y : Party) (e : Step) → IsDistinct eqb (map (λ (u : Party). u.name) (xs ++ x ∷ [])) → y.name ≡ x.name → y.steps ≡ x.steps ++ e ∷ [] → OneStepOn (xs ++ x ∷ []) (xs ++ y ∷ []) x.name e
 one_on xs x y e apart named gained = record {
   names = map-append label xs (y ∷ []) ∙ (ap (λ n. map label xs ++ n ∷ []) named ∙ sym (map-append label xs (x ∷ [])));
@@ -432,7 +432,7 @@ module _ (xs : List Party) (x y : Party) (s : List Place) (order new last : List
     pub all_delivered : IsDelivered (length xs) count (of_record (got 0) y.steps)
     all_delivered = delivered count last xs y is sent_by takes (of_record (got 0) y.steps) all_mail
 
--- senders by their holders
+-- if the holders have sent their places, then the parties of these holders have sent them
 pub sent_by_holders : {A : Type 0} (stacks : Stacks A) (first count : ℕ) (hs : List Holder) → HaveSent stacks first count hs → SentBy first count (map party_of hs)
 sent_by_holders stacks first count [] are = tt
 sent_by_holders stacks first count (h ∷ hs) are = (are.0.sends, sent_by_holders stacks (first + count) count hs are.1)
@@ -441,7 +441,7 @@ pub made_all : {A : Type 0} (stacks : Stacks A) (first count : ℕ) (hs : List H
 made_all stacks first count [] are = All-nil (IsOf stacks)
 made_all stacks first count (h ∷ hs) are = All-cons (IsOf stacks) h hs are.0.made (made_all stacks (first + count) count hs are.1)
 
--- the last of a list, and those before it
+-- if two lists that end with `a` and `b` are equal, then `a` is `b`, and the elements before them are equal
 pub same_front : {X : Type 0} (l m : List X) (a b : X) → l ++ a ∷ [] ≡ m ++ b ∷ [] → (l ≡ m) × (a ≡ b)
 same_front [] [] a b e = (refl, cc e)
 same_front [] (y ∷ []) a b e = absurd (cc e)
@@ -450,19 +450,19 @@ same_front (x ∷ []) [] a b e = absurd (cc e)
 same_front (x ∷ z ∷ l) [] a b e = absurd (cc e)
 same_front (x ∷ l) (y ∷ m) a b e = let first : x ≡ y = cc e in let rest = same_front l m a b (cc e) in ((λ i. first i ∷ rest.0 i), rest.1)
 
--- what holds of all holds of the last, and of those before it
+-- if `P` holds of all elements of a list, then it holds of the last element and of all elements before it
 pub ends : {X : Type 0} (P : X → Type 0) (l : List X) (x : X) → All P (l ++ x ∷ []) → All P l × P x
 ends P [] x all = (All-nil P, All-head P x [] all)
 ends P (y ∷ l) x all = let r = ends P l x (All-tail P y (l ++ x ∷ []) all) in (All-cons P y l (All-head P y (l ++ x ∷ []) all) r.0, r.1)
 
--- a receiver that has nothing opened has given out what it got
+-- a receiver that has returned all places that it took has returned `ps`, and these are all places that its holder took
 pub got_all : {A : Type 0} (stacks : Stacks A) (receiver : Receiver) (ps : List Place) → HasReceived stacks receiver ps → HasOpened stacks receiver [] → receiver.mailbox ≡ 0
     → of_record (got 0) (record_of receiver.holder) ≡ ps
 got_all stacks receiver ps has none box =
     ap (λ k. of_record (got k) (record_of receiver.holder)) (sym box) ∙ (has.got_is
     ∙ (ap (λ l. ps ++ l) (one_sequence stacks receiver.holder receiver.opened has.rest [] has.opened none) ∙ append-nil ps))
 
--- THE RECEIVER'S LAST CALL between two audits
+-- THE LAST CALL OF THE RECEIVER is made between two audits of all holders
 module _ {A : Type 0} (stacks : Stacks A) (count : ℕ) (h0 h1 front : List Holder) (r1 r2 : Holder) (came : List Place) (done : HasDone stacks count h0 came)
     (same_one : map party_of h1 ≡ map party_of h0) (first : h1 ≡ front ++ r1 ∷ []) where
   pub before : (map party_of front ≡ map party_of done.senders) × (party_of r1 ≡ party_of done.receiver)

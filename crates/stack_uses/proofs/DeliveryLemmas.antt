@@ -1,4 +1,4 @@
--- Senders and what they send, place by place.
+-- Lemmas about senders, which send one place after the other, and about the steps that they make.
 use Rattle.std.proofs.Common.{◌≡◌, ℕ, zero, suc, ◌+◌, ◌*◌, ◌<◌, Bool, List, [], ◌∷◌, ◌++◌, length, length-append, append_assoc, append-nil, refl, sym, ap, ◌∙◌, subst, arith}
 use Rattle.std.specs.Prelude.{slice_index_or, Result, Ok, Err, IfOk}
 use Rattle.std.proofs.lemmas.List.{map-append}
@@ -13,7 +13,7 @@ use Rattle.stack_uses.specs.declared.delivery.Sender.{Sender}
 use Rattle.stack_uses.specs.Mail.{steps_to_send}
 use Rattle.stack_uses.specs.Delivery.{steps_to_send_each, Sends, OnlyTakes, IsReady, AreReady, HasSent, HaveSent}
 
--- one place more
+-- if one further place `p` is sent with the result `b`, then the steps for all places are those from before and the steps for `p`
 each_more : (k : ℕ) (ps : List Place) (got : List Bool) (p : Place) (b : Bool) → length got ≡ length ps
     → steps_to_send_each k (ps ++ p ∷ []) (got ++ b ∷ []) ≡ steps_to_send_each k ps got ++ steps_to_send k p b
 each_more k [] [] p b e = append-nil (steps_to_send k p b)
@@ -34,7 +34,7 @@ sends_more first count es p b was e = record {
   steps_are = ap (λ l. l ++ steps_to_send 0 p b) was.steps_are ∙ sym (each_more 0 was.places was.got p b was.each);
 }
 
--- one call more that takes all
+-- steps that only take places from stacks still do so with one further call that takes all places of a stack
 pub takes_more : (es : List Step) (k : ℕ) (s : List Place) → OnlyTakes es → OnlyTakes (es ++ TakeAll k s ∷ [])
 takes_more [] k s only = tt
 takes_more (Claim p got ∷ es) k s only = absurd only
@@ -42,14 +42,14 @@ takes_more (Release p ∷ es) k s only = absurd only
 takes_more (Push j t ∷ es) k s only = absurd only
 takes_more (TakeAll j t ∷ es) k s only = takes_more es k s only
 
--- one sender more
+-- if all senders of a list are ready, and one further sender is ready for the next `count` places, then all senders of the longer list are ready
 pub ready_more : {A : Type 0} (stacks : Stacks A) (first count : ℕ) (xs : List (Sender A)) (x : Sender A) → AreReady stacks first count xs
     → IsReady stacks (first + length xs * count) count x → AreReady stacks first count (xs ++ x ∷ [])
 ready_more stacks first count [] x are is = (subst (λ n. IsReady stacks n count x) (omega arith) is, tt)
 ready_more stacks first count (y ∷ ys) x are is =
     (are.0, ready_more stacks (first + count) count ys x are.1 (subst (λ n. IsReady stacks n count x) (omega arith) is))
 
--- each sender is ready for its own part, and sent that
+-- each sender is ready to send the places that it has stored, and its holder has then sent these places
 module _ {A : Type 0} (stacks : Stacks A) (count : ℕ) where
   own_part : (first : ℕ) (x : Sender A) → IsReady stacks first count x → IsReady x.stacks.now x.first x.count x
   own_part first x is = subst (λ (s : Stacks A). IsReady s x.first x.count x) (sym is.stacks_are)
@@ -65,7 +65,7 @@ module _ {A : Type 0} (stacks : Stacks A) (count : ℕ) where
   ready_at first (y ∷ ys) are zero x low is = subst (λ (z : Sender A). IsReady z.stacks.now z.first z.count z) (sym is) (own_part first y are.0)
   ready_at first (y ∷ ys) are (suc i) x low is = ready_at (first + count) ys are.1 i x (omega (arith, low)) is
 
-  -- what the call for a sender gave
+  -- the call for the sender with the number `i` returned a holder that has sent the places of this sender
   abbrev pub Gave : List (Sender A) → List Holder → ℕ → Type 0
   Gave xs hs i = (d : Holder) → i < length xs → (x : Sender A) × ((y : Sender A) → slice_index_or xs i y ≡ x) × HasSent x.stacks.now x.first x.count (slice_index_or hs i d)
 
@@ -79,7 +79,7 @@ module _ {A : Type 0} (stacks : Stacks A) (count : ℕ) where
         all_sent (first + count) xs hs (omega (arith, e)) are.1 (λ i d low. gave (suc i) d (omega (arith, low))),
       )
 
--- two facts of one answer
+-- if `P` and `Q` hold of the value of a successful result, and together imply `R`, then `R` holds of this value
 pub if_both : {X E : Type 0} {P Q R : X → Type 0} (r : Result X E) → ((x : X) → P x → Q x → R x) → IfOk r P → IfOk r Q → IfOk r R
 if_both (Ok x) f p q = f x p q
 if_both (Err e) f p q = tt

@@ -1,4 +1,4 @@
--- What was sent to a mailbox and what was received of it.
+-- Lemmas about the places that were sent to a mailbox and the places that were received from it.
 use Rattle.std.proofs.Common.{◌≡◌, ◌≢◌, ℕ, zero, suc, ◌<◌, eqb, Bool, true, false, true≢false, cond, List, [], ◌∷◌, ◌++◌, map, length, get_or, reverse, All, Contains, refl, sym, ap, ◌∙◌, subst, arith, append-nil, eq-eqb}
 use Rattle.std.proofs.lemmas.List.{map-append, length-map}
 use Rattle.std.proofs.lemmas.List.Elements.{All-nil, All-cons, All-head, All-tail, All-append, All-weaker}
@@ -13,11 +13,11 @@ use Rattle.ic_lock_free_stack.proofs.MomentLemmas.{by_test}
 use Rattle.ic_lock_free_stack.proofs.OrderLemmas.{comes_in_turn}
 use Rattle.stack_uses.specs.Mail.{Letter, sent_from, IsOnlyReceiver, IsMail}
 
--- of a record with one step more
+-- the places of a record with one further step are those of the record before, and those of the step
 pub of_more : (f : Step → List Place) (es : List Step) (e : Step) → of_record f (es ++ e ∷ []) ≡ of_record f es ++ f e
 of_more f es e = flat_map-append f es (e ∷ []) ∙ ap (λ l. of_record f es ++ l) (append-nil (f e))
 
--- THE LETTERS of a history
+-- THE LETTERS OF A HISTORY: each place that a step sends is a letter, with the holder of the step as its sender
 abbrev signed : ℕ → List Place → List Letter
 signed h s = map (λ (p : Place). record { sender = h; place = p }) s
 
@@ -66,7 +66,7 @@ from_letters h k (x ∷ xs) =
     ∙ by_test (λ b. cond b (sent k x.step) [] ++ sent_from h (letters_of k xs) ≡ of_record (sent k) (cond b (x.step ∷ steps_of h xs) (steps_of h xs))) (eqb x.holder h)
     (λ _. ap (λ l. sent k x.step ++ l) rest) (λ _. rest))
 
--- what nobody else took, one holder did
+-- if no holder except `r` has taken a place, then all places that were taken in the history were taken by `r`
 no_front : (s t : List Place) → s ++ t ≡ [] → s ≡ []
 no_front [] t e = refl
 no_front (p ∷ s) t e = absurd (cc e)
@@ -91,7 +91,7 @@ only_by f r names (x ∷ xs) by none =
     let mine : of_record f (x.step ∷ steps_of x.holder xs) ≡ [] = subst (λ b. of_record f (cond b (x.step ∷ steps_of x.holder xs) (steps_of x.holder xs)) ≡ []) (eq-eqb x.holder x.holder refl) (none x.holder ne here) in
     ap (λ l. l ++ of_history f xs) (no_front (f x.step) (of_record f (steps_of x.holder xs)) mine) ∙ rest) refl
 
--- a name is that of one of the parties
+-- each name in the list of the parties' names is the name of the party at the same position
 name_at : (l : List Party) (i : ℕ) (d : Party) (h : ℕ) → i < length l → get_or (map (λ (x : Party). x.name) l) i h ≡ (get_or l i d).name
 name_at [] i d h low = absurd (omega (arith, low))
 name_at (x ∷ xs) zero d h low = refl

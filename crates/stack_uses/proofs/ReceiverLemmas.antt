@@ -1,4 +1,4 @@
--- A receiver that goes on.
+-- Lemmas about the calls of a receiver: which places it has returned after one further call.
 use Rattle.std.proofs.Common.{◌≡◌, ℕ, ◌+◌, ◌<◌, Bool, true, false, true≢false, Option, Some, None, List, [], ◌∷◌, ◌++◌, drop, reverse, refl, sym, ap, ◌∙◌, subst, append_assoc, append-nil, eq-eqb}
 use Rattle.std.specs.Prelude.{IfSome, IfNone}
 use Rattle.std.specs.Bool.{OnTrue, OnFalse}
@@ -23,7 +23,7 @@ use Rattle.stack_uses.specs.declared.mailbox.Receiver.{Receiver}
 use Rattle.stack_uses.specs.Mail.{HasReceived, IsOut}
 use Rattle.stack_uses.proofs.MailLemmas.{of_more}
 
--- what one step adds to what a holder has sent, and to what it got
+-- what one further push adds to the places that a holder has sent, and what one further call that takes all adds to those that it got
 pub sent_more : (k : ℕ) (es : List Step) (p : Place) → of_record (sent k) (es ++ Push k (p ∷ []) ∷ []) ≡ of_record (sent k) es ++ p ∷ []
 sent_more k es p = of_more (sent k) es (Push k (p ∷ [])) ∙ ap (λ b. of_record (sent k) es ++ Rattle.std.proofs.Common.cond b (p ∷ []) []) (eq-eqb k k refl)
 
@@ -33,7 +33,7 @@ got_more k es s = of_more (got k) es (TakeAll k s) ∙ ap (λ b. of_record (got 
 pub nothing_more : (f : Step → List Place) (es : List Step) (e : Step) → f e ≡ [] → of_record f (es ++ e ∷ []) ≡ of_record f es
 nothing_more f es e none = of_more f es e ∙ (ap (λ l. of_record f es ++ l) none ∙ append-nil (of_record f es))
 
--- the first of the rest is given out
+-- if the first of the places that were not returned yet is `p`, then the returned places and `p`, followed by the others, are all places
 pub one_given : (all ps rest : List Place) (p : Place) → all ≡ ps ++ rest → first rest ≡ Some p → all ≡ (ps ++ p ∷ []) ++ drop 1 rest
 one_given all ps rest p is e = is ∙ (ap (λ l. ps ++ l) (from_first rest p e) ∙ sym (append_assoc ps (p ∷ []) (drop 1 rest)))
 
@@ -41,7 +41,7 @@ pub none_given : (rest : List Place) → first rest ≡ None → rest ≡ []
 none_given [] e = refl
 none_given (p ∷ s) e = absurd (cc e)
 
--- the last place of a chain that is turned round
+-- the last place of a reversed chain is the first place of the chain
 pub last_snoc : (s : List Place) (p : Place) → last (s ++ p ∷ []) ≡ Some p
 last_snoc [] p = refl
 last_snoc (q ∷ []) p = refl
@@ -51,7 +51,7 @@ pub last_turned : (s : List Place) (p : Place) → first s ≡ Some p → last (
 last_turned [] p e = absurd (cc e)
 last_turned (q ∷ s) p e = ap last (reverse-append (q ∷ []) s) ∙ (last_snoc (reverse s) q ∙ e)
 
--- A PLACE IS RECEIVED, or none is there
+-- A PLACE IS RECEIVED if there is one. Otherwise the receiver has returned the same places as before
 module _ {A : Type 0} (stacks : Stacks A) (old : Receiver) (ps : List Place) (was : HasReceived stacks old ps) (h : Holder) (chain : Chain) (same_holder : h ≡ old.holder)
     (left : HasChain stacks h chain (drop 1 was.rest)) where
   abbrev now : Receiver
@@ -84,13 +84,13 @@ module _ {A : Type 0} (stacks : Stacks A) (old : Receiver) (ps : List Place) (wa
   received (Some p) (has, none) = (ps ++ p ∷ [], has.0)
   received None (has, none) = (ps, none)
 
-  -- which place that is, is known
+  -- if the first of the places that were not returned yet is known to be `p`, then the receiver returns `p`
   pub receives_first : (r : Option Place) (p : Place) → r ≡ first was.rest → Some p ≡ first was.rest
       → IfSome r (λ q. (index_of q < places_of stacks) × (holds q (record_of old.holder) ≡ true) × (is_in q (drop 1 was.rest) ≡ false)) → HasReceived stacks now (ps ++ p ∷ [])
   receives_first r p e is found =
       (receives (Some p) is (subst (λ o. IfSome o (λ q. (index_of q < places_of stacks) × (holds q (record_of old.holder) ≡ true) × (is_in q (drop 1 was.rest) ≡ false))) (e ∙ sym is) found)).0.0
 
--- a call that made no step, and then one step
+-- if a first call made no step, and a second call made the step `e`, then both calls together made the step `e`
 pub after_stays : (a b c : Holder) (e : Step) → Stays a b → Steps b c e → Steps a c e
 after_stays a b c e stays steps = record {
   name = steps.name ∙ stays.name;
@@ -99,11 +99,11 @@ after_stays a b c e stays steps = record {
   spends = steps.spends ∙ ap (λ l. pushes_and_takes l + on_head e) stays.record_is;
 }
 
--- a place that a holder does not hold is in no chain of its
+-- a place that a holder does not hold is in none of the holder's chains
 pub not_free : {A : Type 0} (stacks : Stacks A) (h : Holder) (chain : Chain) (s : List Place) (p : Place) → HasChain stacks h chain s → holds p (record_of h) ≡ false → is_in p s ≡ false
 not_free stacks h chain s p has none = by_test (λ b. is_in p s ≡ b → b ≡ false) (is_in p s) (λ _ e. absurd (true≢false (sym (has.held p e) ∙ none))) (λ _ _. refl) refl
 
--- what is so is so whichever the test
+-- if `X` holds, then it also holds under the condition that a test is true
 pub on_true : {X : Type 0} (b : Bool) → X → OnTrue b X
 on_true true x = x
 on_true false x = tt

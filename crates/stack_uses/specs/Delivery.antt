@@ -1,4 +1,4 @@
--- Threads that send places to one mailbox, and the places that are received.
+-- Threads send places to one mailbox, and one receiver takes them.
 use Rattle.std.specs.Prelude.{◌≡◌, ℕ, ◌+◌, ◌*◌, ◌/◌, ◌<◌, ◌≤◌, ◌==◌, if◌then◌else◌, Bool, List, [], ◌∷◌, ◌++◌, map, length, All}
 use Rattle.std.specs.List.{range_with_len}
 use Rattle.ic_unsafe_ref.specs.declared.place.Place.{Place}
@@ -12,13 +12,13 @@ use Rattle.ic_lock_free_stack.specs.Holders.{places_of, stacks_of, record_of, sp
 use Rattle.stack_uses.specs.Mail.{steps_to_send}
 use Rattle.stack_uses.specs.declared.delivery.Sender.{Sender}
 
--- the steps by which several places are sent, one after the other. If the claim of a place is refused, it is not sent
+-- the steps by which the places are sent one after the other. If the claim of a place is refused, which `false` says, the place is not sent
 abbrev pub steps_to_send_each : ℕ → List Place → List Bool → List Step
 steps_to_send_each mailbox [] got = []
 steps_to_send_each mailbox (p ∷ ps) [] = []
 steps_to_send_each mailbox (p ∷ ps) (b ∷ got) = steps_to_send mailbox p b ++ steps_to_send_each mailbox ps got
 
--- these steps send `count` places, from the one with index `first` on, and do nothing else
+-- the steps send `count` places to the mailbox 0, from the place with the index `first` on, and do nothing else
 pub record Sends (first count : ℕ) (steps : List Step) : Type 0 where
   pub places : List Place
   pub are : map index_of places ≡ range_with_len first count
@@ -26,7 +26,7 @@ pub record Sends (first count : ℕ) (steps : List Step) : Type 0 where
   pub each : length got ≡ length places
   pub steps_are : steps ≡ steps_to_send_each 0 places got
 
--- these steps only take all places that a stack has
+-- each of the steps takes all places of a stack, and none claims, releases or pushes a place
 abbrev pub OnlyTakes : List Step → Type 0
 OnlyTakes [] = Unit {0}
 OnlyTakes (Claim p got ∷ es) = ⊥
@@ -34,18 +34,18 @@ OnlyTakes (Release p ∷ es) = ⊥
 OnlyTakes (Push k s ∷ es) = ⊥
 OnlyTakes (TakeAll k s ∷ es) = OnlyTakes es
 
--- the places among these that the sender with this number was to send, if each sender sends `count`
+-- the places of the list that the sender with the number `k` was to send, if each sender sends `count` places
 abbrev pub of_sender : ℕ → ℕ → List Place → List Place
 of_sender count k [] = []
 of_sender count k (p ∷ ps) = if index_of p / count == k then p ∷ of_sender count k ps else of_sender count k ps
 
--- ALL CAME: for each sender its `count` places, each once and in their order, and no other place
+-- ALL PLACES CAME: `came` has the `count` places of each sender, each once and in the order of their indices, and no other place
 pub record IsDelivered (senders count : ℕ) (came : List Place) : Type 0 where
   pub rows : (k : ℕ) → k < senders → map index_of (of_sender count k came) ≡ range_with_len (k * count) count
   pub inside : All (λ (p : Place). index_of p < senders * count) came
 
 module _ {A : Type 0} where
-  -- the sender's holder has made no step, and is to send this many places, which exist
+  -- The sender is to send `count` places, from the place with the index `first` on. These places exist, and its holder has made no step yet
   pub record IsReady (stacks : Stacks A) (first count : ℕ) (sender : Sender A) : Type 0 where
     pub stacks_are : sender.stacks.now ≡ stacks
     pub first_is : sender.first ≡ first
@@ -56,12 +56,13 @@ module _ {A : Type 0} where
     pub inside : first + count ≤ places_of stacks
     pub small : places_of stacks ≤ 4294967296
 
-  -- the holder has sent this many places, and has done nothing else
+  -- the holder has sent `count` places, from the place with the index `first` on, and has done nothing else
   pub record HasSent (stacks : Stacks A) (first count : ℕ) (holder : Holder) : Type 0 where
     pub made : IsOf stacks holder
     pub sends : Sends first count (record_of holder)
 
-  -- the same for several senders, each of which begins where the one before it ends
+  -- `AreReady`: each sender of the list is ready. `HaveSent`: each holder has sent its places. The places of each one follow those of the one before
+  -- it in the list
   abbrev pub AreReady : Stacks A → ℕ → ℕ → List (Sender A) → Type 0
   AreReady stacks first count [] = Unit {0}
   AreReady stacks first count (x ∷ xs) = IsReady stacks first count x × AreReady stacks (first + count) count xs
@@ -70,14 +71,14 @@ module _ {A : Type 0} where
   HaveSent stacks first count [] = Unit {0}
   HaveSent stacks first count (h ∷ hs) = HasSent stacks first count h × HaveSent stacks (first + count) count hs
 
-  -- the receiver's holder has taken these places from the mailbox, with at most this many calls, and has done nothing else
+  -- the receiver's holder has taken the places `came` from the mailbox 0 in at most `turns` steps, and has done nothing else
   pub record HasTaken (stacks : Stacks A) (turns : ℕ) (holder : Holder) (came : List Place) : Type 0 where
     pub made : IsOf stacks holder
     pub takes : OnlyTakes (record_of holder)
     pub few : spent_by holder ≤ turns
     pub came_is : of_record (got 0) (record_of holder) ≡ came
 
-  -- the senders have sent their places, and after them the receiver has taken these
+  -- Each sender has sent its `count` places, and the receiver has taken the places `came`. The receiver's holder is the last of the holders
   pub record HasDone (stacks : Stacks A) (count : ℕ) (holders : List Holder) (came : List Place) : Type 0 where
     pub senders : List Holder
     pub receiver : Holder

@@ -6,14 +6,14 @@ use Rattle.ic_lock_free_stack.specs.declared.stacks.Holder.{Holder}
 use Rattle.ic_lock_free_stack.specs.Holders.{stacks_of, IsOf, HasChain}
 use Rattle.stack_uses.specs.declared.remote_frees.Owner.{Owner}
 
--- an owner's holder, and the stack to which other threads free its places
+-- `user_of` returns an owner's holder. `stack_of` returns the number of the stack to which other threads free the owner's places
 abbrev pub user_of : Owner → Holder
 user_of owner = owner.holder
 
 abbrev pub stack_of : Owner → ℕ
 stack_of owner = owner.stack
 
--- the owner holds these places, each once, and may give them out
+-- the owner holds the places of `s`, each once, and counts them as free, so that `take` can return them
 pub record HasFree {A : Type 0} (stacks : Stacks A) (owner : Owner) (s : List Place) : Type 0 where
   pub made : IsOf stacks owner.holder
   pub stack : owner.stack < stacks_of stacks

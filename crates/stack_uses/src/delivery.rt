@@ -1,4 +1,4 @@
-//! Threads that send to one mailbox, and their caller, who receives the places.
+//! Threads send places to one mailbox, and the thread that started them receives the places.
 //!
 //! ```text
 //! let came = deliver(&rt, rt.alloc(), 4, 250)?; // 1,000 places of 4 senders, each sender's in the order of their indexes
@@ -16,10 +16,10 @@ use std::alloc::{AllocError, Allocator};
 use std::thread;
 use std::thread::Threads;
 
-// The mailbox to which all send.
+// The number of the mailbox to which all senders send.
 const MAILBOX: usize = 0;
 
-// A sender before its thread begins: it is to send `count` places, from the one with index `first` on.
+// A sender before its thread begins. It is to send `count` places, from the place with the index `first` on.
 #[derive(Drop)]
 struct Sender<'c, A: Allocator> {
     stacks: &'c Stacks<A>,
@@ -28,7 +28,7 @@ struct Sender<'c, A: Allocator> {
     count: usize,
 }
 
-// Sends each place of a sender, in the order of their indexes, and returns its holder.
+// Sends each place of the sender, in the order of the places' indices, and returns the sender's holder.
 fn send_each<A: Allocator>(sender: Sender<'_, A>) -> Holder
     requires { IsReady sender.stacks.now sender.first sender.count sender }
     ensures { HasSent sender.entry.stacks.now sender.entry.first sender.entry.count result }
@@ -47,7 +47,7 @@ fn send_each<A: Allocator>(sender: Sender<'_, A>) -> Holder
     holder
 }
 
-// Makes a sender of `count` places for each holder.
+// Makes one sender of `count` places for each holder.
 fn senders<'c, A: Allocator + Copy>(
     alloc: A,
     stacks: &'c Stacks<A>,
@@ -75,7 +75,7 @@ fn senders<'c, A: Allocator + Copy>(
     Ok(senders)
 }
 
-// Receives the places that come to the mailbox, in this many turns.
+// Receives the places that come to the mailbox, with as many calls of `receive_all` as `turns` says.
 fn receive_some<A: Allocator>(
     alloc: A,
     stacks: &Stacks<A>,
@@ -96,7 +96,7 @@ fn receive_some<A: Allocator>(
     Ok((receiver.into_holder(), came))
 }
 
-// Lets each sender send in a thread of its own, and returns their holders in order.
+// Lets each sender send its places in a thread of its own, and returns the holders of the senders in order.
 fn send_in_threads<R: Threads + Sync, A: Allocator + Copy + Send + Sync>(
     rt: &R,
     stacks: &Stacks<A>,
@@ -112,7 +112,7 @@ fn send_in_threads<R: Threads + Sync, A: Allocator + Copy + Send + Sync>(
     thread::map_vec(rt, senders, &send_each)
 }
 
-// Lets the senders send while the caller's thread receives.
+// Lets the senders send in their threads while the caller's thread receives.
 fn send_and_receive<R: Threads + Sync, A: Allocator + Copy + Send + Sync>(
     rt: &R,
     alloc: A,
@@ -146,7 +146,8 @@ fn send_and_receive<R: Threads + Sync, A: Allocator + Copy + Send + Sync>(
     Ok((holders, came))
 }
 
-// Receives the rest after all senders have sent, between two audits of all holders, which show that nothing comes later.
+// Receives all places that are still in the mailbox after all senders have sent. An audit of all holders before and one after show that no place
+// comes later.
 fn receive_rest<A: Allocator>(
     stacks: &Stacks<A>,
     mut holders: Vec<Holder, A>,
@@ -168,7 +169,7 @@ fn receive_rest<A: Allocator>(
     Ok(came)
 }
 
-// Lets the last of the holders receive what all others send.
+// Lets the last of the holders receive what all other holders send.
 fn deliver_over<R: Threads + Sync, A: Allocator + Copy + Send + Sync>(
     rt: &R,
     alloc: A,
@@ -192,12 +193,13 @@ fn deliver_over<R: Threads + Sync, A: Allocator + Copy + Send + Sync>(
 
 /// Lets `senders` threads send `places` places each to one mailbox, and returns the received places, in the order in which they came.
 ///
-/// Each sender sends in a thread of its own, in the order of the places' indexes: the first sender sends those from 0 on, the next one those after
-/// them. The caller's thread receives meanwhile, and receives the rest when all have sent. Every sent place came exactly once, and the places of each
-/// sender came in their order. It is left open how the places of several senders are interleaved.
+/// Each sender sends in a thread of its own, in the order of the places' indices. The first sender sends the places from 0 on, and each later sender
+/// those after the places of the sender before it. The caller's thread receives meanwhile, and receives the rest when all senders are done. Every
+/// sent place comes exactly once, and the places of each sender come in the order in which it sent them. The contract leaves open how the places of
+/// several senders are interleaved.
 ///
-/// It requires at most 65,534 senders. It is refused if they have more than 4,294,967,296 places together, or if memory runs out. Then it waits first
-/// until the senders that have begun are done. It joins its threads, and takes no lock. O(senders * places).
+/// It requires at most 65,534 senders. The call is refused if the senders have more than 4,294,967,296 places together, or if memory runs out. It
+/// then waits until the senders that have begun are done, before it returns. It joins its threads, and takes no lock. O(senders * places).
 pub fn deliver<R: Threads + Sync, A: Allocator + Copy + Send + Sync>(
     rt: &R,
     alloc: A,

@@ -1,4 +1,4 @@
-//! Uses of lock-free stacks, as a caller writes them: each with a contract, and a test that runs it in threads.
+//! Examples of how a caller uses lock-free stacks. Each example has a contract, and a test runs it in threads.
 #![tactic(auto)]
 
 pub mod delivery;

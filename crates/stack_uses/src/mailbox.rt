@@ -1,4 +1,4 @@
-//! A mailbox: several threads send places, and one thread receives them, each sender's in the order in which they were sent.
+//! A mailbox: several threads send places, and one thread receives them. The places of each sender come in the order in which it sent them.
 //!
 //! ```text
 //! // in a sender's thread, with its own holder
@@ -10,7 +10,7 @@
 //! }
 //! ```
 //!
-//! A message is a place. Its content is wherever the sender and the receiver of the place agree to store it.
+//! A message is a place. The sender and the receiver agree where the content of the message is stored.
 
 ghost use Rattle.std.specs.Prelude.{◌≡◌, ◌<◌, ◌≤◌, ◌+◌, ℕ, [], ◌∷◌, ◌++◌, reverse, List, IfSome, IfNone, OnOk, Contains};
 ghost use Rattle.std.specs.Bool.{OnTrue, OnFalse};
@@ -29,7 +29,7 @@ use ic_lock_free_stack::{Chain, Holder, Stacks};
 use ic_unsafe_ref::Place;
 use std::alloc::{AllocError, Allocator};
 
-/// The receiver of one mailbox, which is the stack with this number.
+/// The receiver of one mailbox. The mailbox is the stack with the number `mailbox`.
 #[derive(Drop)]
 pub struct Receiver {
     holder: Holder,
@@ -37,7 +37,8 @@ pub struct Receiver {
     opened: Chain,
 }
 
-/// Claims a place and sends it, and returns whether it did. It does not if somebody holds the place, or if the place is on its way.
+/// Claims a place and sends it to the mailbox, and returns whether it was sent. It is not sent if somebody holds the place, or if the place was sent
+/// and is not received yet.
 ///
 /// It requires that the holder has made fewer than 281,474,976,710,656 pushes and calls that take all. It waits for nobody.
 pub fn send<A: Allocator>(
@@ -65,8 +66,8 @@ pub fn send<A: Allocator>(
 }
 
 impl Receiver {
-    /// Makes a receiver for the mailbox with this number. It has received what its holder has taken from the mailbox: nothing, if the holder has made
-    /// no step.
+    /// Makes a receiver for the mailbox with this number. The receiver has received the places that its holder has taken from the mailbox, which are
+    /// none if the holder has made no step.
     pub fn new<A: Allocator>(stacks: &Stacks<A>, holder: Holder, mailbox: usize) -> Receiver
         requires mailbox { mailbox < stacks_of stacks.now }
         requires made { IsOf stacks.now holder }
@@ -83,7 +84,7 @@ impl Receiver {
         }
     }
 
-    /// Returns the next place that was sent, which the receiver then holds, or `None` if none had come. It waits for nobody.
+    /// Returns the next place that was sent, which the receiver then holds, or returns `None` if no place had come. It waits for nobody.
     ///
     /// It requires that its holder has made fewer than 281,474,976,710,656 pushes and calls that take all. It makes one load. If it has already
     /// returned all places that it took, it makes a swap, and a load and a store for each place that had come. O(1) for each place.
@@ -125,7 +126,7 @@ impl Receiver {
         self.receive_opened(stacks, came)
     }
 
-    // Receives the places that it has taken but not returned.
+    // Appends the places that the receiver has taken but not returned yet to `came`.
     fn receive_opened<A: Allocator, B: Allocator>(
         &mut self,
         stacks: &Stacks<A>,
@@ -145,7 +146,7 @@ impl Receiver {
         Ok(())
     }
 
-    // Takes the places that have come, if it has returned all places that it took before.
+    // Takes all places that are in the mailbox, if the receiver has returned all places that it took before.
     fn open<A: Allocator>(&mut self, stacks: &Stacks<A>)
         requires kept { (ps : List Place) × HasReceived stacks.now self.old ps }
         requires room { spent_by (holder_of self.old) < most_steps }
@@ -162,7 +163,7 @@ impl Receiver {
         }
     }
 
-    /// Gives up a received place, so that it can be sent again. It makes one store.
+    /// Gives up a received place, so that any holder can send it again. It makes one store.
     pub fn give_up<A: Allocator>(&mut self, stacks: &Stacks<A>, place: Place)
         requires kept { (ps : List Place) × HasReceived stacks.now self.old ps }
         requires out { IsOut stacks.now self.old place }
@@ -174,7 +175,7 @@ impl Receiver {
         stacks.release(&mut self.holder, place);
     }
 
-    /// Returns the holder, for an audit.
+    /// Consumes the receiver and returns its holder, for an audit.
     pub fn into_holder(self) -> Holder
         ensures { result ≡ holder_of self }
     {
@@ -182,10 +183,10 @@ impl Receiver {
     }
 }
 
-/// Gives a caller's proof the law of a mailbox with one receiver: the places that it got and those that are still in the mailbox are the places that
-/// were sent, each once, and those of each sender in the order in which it sent them.
+/// States, for use in a caller's proof, the law of a mailbox with one receiver. The places that the receiver got and those that are still in the
+/// mailbox are the places that were sent, each once. The places of each sender are in the order in which it sent them.
 ///
-/// An `audit` of all holders gives the history.
+/// An `audit` of all holders gives the history, to which this law applies.
 pub fn mail_comes_in_order()
     ensures { (order : List Entry) (parties : List Party) (mailbox : ℕ) (x : Party) → IsHistory order parties
         → Contains parties x → IsOnlyReceiver mailbox x.name parties

@@ -1,4 +1,4 @@
-//! Places that one thread gives out and any thread frees: the list of remote frees of an allocator.
+//! Places that one thread lends and any thread frees, as in an allocator's list of remote frees.
 //!
 //! ```text
 //! let mut owner = Owner::new(&stacks, holder, 0);
@@ -9,7 +9,7 @@
 //! free(&stacks, &mut worker, 0, place);          // back to the owner, with no lock; `free_all` frees many at once
 //! ```
 //!
-//! The owner takes from a chain of its own, by one load a place. Only if that chain is empty, it takes all freed places with one swap.
+//! The owner takes places from a chain of its own, with one load for each place. Only if this chain is empty, it takes all freed places with one swap.
 
 ghost use Rattle.std.specs.Prelude.{◌≡◌, ◌<◌, ◌≤◌, ◌+◌, ℕ, true, false, [], ◌∷◌, reverse, List, Some, IfSome, IfNone};
 ghost use Rattle.std.specs.Bool.{OnTrue, OnFalse};
@@ -25,7 +25,7 @@ use ic_lock_free_stack::{Chain, Holder, Stacks};
 use ic_unsafe_ref::Place;
 use std::alloc::Allocator;
 
-/// An owner, which gives out places, and takes back those that were freed to the stack with this number.
+/// An owner of places, which lends them to other threads, and takes back the places that were freed to the stack with the number `stack`.
 #[derive(Drop)]
 pub struct Owner {
     holder: Holder,
@@ -35,7 +35,7 @@ pub struct Owner {
 
 /// Frees a place from any thread, so that its owner can take it back. It waits for nobody.
 ///
-/// Every chain of the user that does not contain the place stays as it is, so the user may free a chain place by place.
+/// Every chain of the user that does not contain the place stays unchanged, so that the user may free a chain place by place.
 pub fn free<A: Allocator>(stacks: &Stacks<A>, user: &mut Holder, stack: usize, place: Place)
     requires stack { stack < stacks_of stacks.now }
     requires place { index_of place < places_of stacks.now }
@@ -68,7 +68,7 @@ pub fn free_all<A: Allocator>(stacks: &Stacks<A>, user: &mut Holder, stack: usiz
 }
 
 impl Owner {
-    /// Makes an owner with no place to give out.
+    /// Makes an owner that has no free place yet.
     pub fn new<A: Allocator>(stacks: &Stacks<A>, holder: Holder, stack: usize) -> Owner
         requires stack { stack < stacks_of stacks.now }
         requires made { IsOf stacks.now holder }
@@ -84,8 +84,8 @@ impl Owner {
         }
     }
 
-    /// Claims a place to give it out, and returns whether it did, which it does not if somebody holds the place. It makes one compare-exchange and
-    /// one store.
+    /// Claims a place, so that the owner can lend it, and returns whether the claim succeeded. It fails if somebody holds the place. It makes one
+    /// compare-exchange and one store.
     pub fn own<A: Allocator>(&mut self, stacks: &Stacks<A>, place: Place) -> bool
         requires place { index_of place < places_of stacks.now }
         requires kept { (s : List Place) × HasFree stacks.now self.old s }
@@ -102,10 +102,11 @@ impl Owner {
         is_claimed
     }
 
-    /// Returns a free place, which the owner then holds but no longer counts as free, or `None` if all are given out. It waits for nobody.
+    /// Returns a free place, which the owner then holds but no longer counts as free, or returns `None` if the owner has no free place. It waits for
+    /// nobody.
     ///
     /// It requires that its holder has made fewer than 281,474,976,710,656 pushes and calls that take all. It makes one load. If the owner's chain is
-    /// empty, it also makes one swap, for all freed places. O(1).
+    /// empty, the call also makes one swap, which takes all freed places. O(1).
     pub fn take<A: Allocator>(&mut self, stacks: &Stacks<A>) -> Option<Place>
         requires kept { (s : List Place) × HasFree stacks.now self.old s }
         requires room { spent_by (user_of self.old) < most_steps }
@@ -122,7 +123,7 @@ impl Owner {
         stacks.next(&mut self.holder, &mut self.free)
     }
 
-    // Takes the freed places, if the owner's chain is empty.
+    // Takes all freed places into the owner's chain, if the chain is empty.
     fn refill<A: Allocator>(&mut self, stacks: &Stacks<A>)
         requires kept { (s : List Place) × HasFree stacks.now self.old s }
         requires room { spent_by (user_of self.old) < most_steps }
@@ -138,7 +139,7 @@ impl Owner {
         }
     }
 
-    /// Frees a place that the owner holds and has given out, with one store.
+    /// Puts a place that the owner holds, but does not count as free, back into its own free places. It makes one store.
     pub fn give_back<A: Allocator>(&mut self, stacks: &Stacks<A>, place: Place)
         requires place { index_of place < places_of stacks.now }
         requires held { holds place (record_of (user_of self.old)) ≡ true }

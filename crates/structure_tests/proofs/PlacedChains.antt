@@ -1,4 +1,4 @@
--- Lists of objects, all of which are placed; and an empty list, which is represented beside another.
+-- Lemmas on lists at each of whose members there is an object, and on an empty list beside a second list.
 use Rattle.std.proofs.Common.{◌≡◌, ◌<◌, ℕ, Option, [], refl, ap, ◌∙◌, subst}
 use Rattle.ic_link_ops.specs.Prelude.{Place, index_of, Objects, Extent, Table, IsCovered, RepresentsPlaced}
 use Rattle.ic_link_ops.specs.Chains.{ListHead, RepresentsChain, RepresentsSomeChain, empty_list}
@@ -9,11 +9,11 @@ use Rattle.ic_list_algorithms.proofs.WholeLists.{members_placed}
 use Rattle.structure_tests.specs.OfEight.{HoldsOfEight}
 
 module _ {E W : Type 0} {between : E → Option Place → Option Place → Type 0} {kept : Option Place → W} {t : Table E} where
-  -- an empty list is represented
+  -- the table represents the empty sequence for an empty list
   nothing : {other : ListHead W} → other ≡ empty_list kept → RepresentsChain between kept t other []
   nothing none = rw none (record { distinct = tt; chain = tt; head = refl; tail = refl })
 
-  -- beside a list that is represented and placed, and beside one that is represented
+  -- an empty list and a list that is represented share no member, and if the list has an object at each member, then both lists have
   pub two_placed : {list other : ListHead W} {objects : Objects ℕ} → other ≡ empty_list kept → RepresentsPlaced (RepresentsChain between kept t list) objects
       → TwoRepresented (RepresentsChain between kept) objects t list other
   two_placed none p = record {
@@ -29,7 +29,7 @@ module _ {E W : Type 0} {between : E → Option Place → Option Place → Type 
   pub two_lists : {list other : ListHead W} → other ≡ empty_list kept → RepresentsSomeChain between kept t list → TwoLists (RepresentsChain between kept) t list other
   two_lists none s = record { first = s.0; second = []; shown = s.1; other = nothing none; apart = tt }
 
-  -- the members of a list of some of eight objects are placed: each of them is covered
+  -- there is an object at each member of a list of some of eight objects, because the table covers each member
   pub placed_members : {list : ListHead W} {objects : Objects ℕ} → ((q : Place) (b a : Option Place) → between (t.entry q) b a → IsCovered t q)
       → HoldsOfEight between kept t list objects → RepresentsPlaced (RepresentsChain between kept t list) objects
   placed_members {objects = objects} covered h = record {
@@ -38,7 +38,7 @@ module _ {E W : Type 0} {between : E → Option Place → Option Place → Type 
     placed = members_placed between objects t (λ q b a k. h.placed q (subst (λ places. index_of q < places) h.covers (covered q b a k))) h.shown.0 h.shown.1;
   }
 
-  -- and after a call that moved or unlinked members it is a list of some of them again
+  -- after a call that keeps the extent of the table, a list that is represented is again a list of some of the eight objects
   pub still_of_eight : {new : Table E} {list after : ListHead W} {objects : Objects ℕ} → HoldsOfEight between kept t list objects → new.extent ≡ t.extent
       → RepresentsSomeChain between kept new after → HoldsOfEight between kept new after objects
   still_of_eight h same shown = record { covers = ap (λ (e : Extent). e.places) same ∙ h.covers; shown = shown; placed = h.placed }

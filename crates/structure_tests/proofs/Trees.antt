@@ -1,4 +1,4 @@
--- Where an object stands at each covered place, one stands at each member of a tree.
+-- If there is an object at each covered place, then there is an object at each member of a tree.
 use Rattle.std.proofs.Common.{◌≡◌, true, Option, None, List, [], ◌∷◌, refl}
 use Rattle.std.specs.List.{AllByRecursion}
 use Rattle.ic_link_ops.specs.Prelude.{Place, index_of, Objects, is_placed, IsCovered, ArePlaced, RepresentsPlaced}

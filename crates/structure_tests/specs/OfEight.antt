@@ -1,9 +1,9 @@
--- What the tests of algorithms maintain: a list of some of eight objects.
+-- Each call in the tests of algorithms maintains these facts about a list of some of eight objects.
 use Rattle.std.specs.Prelude.{◌≡◌, ◌<◌, ℕ, true, Option}
 use Rattle.ic_link_ops.specs.Prelude.{Place, index_of, Objects, is_placed, Table}
 use Rattle.ic_link_ops.specs.Chains.{ListHead, RepresentsSomeChain}
 
--- the table covers eight places and represents the list, and there is an object at each of these places
+-- the table `t` covers eight places and represents the list `list`, and `objects` has an object at each of the eight places
 pub record HoldsOfEight {E W : Type 0} (between : E → Option Place → Option Place → Type 0) (kept : Option Place → W) (t : Table E) (list : ListHead W) (objects : Objects ℕ) : Type 0 where
   pub covers : t.extent.places ≡ 8
   pub shown : RepresentsSomeChain between kept t list

@@ -1,10 +1,10 @@
--- What the rows of the tests of rings maintain: eight places, and two rings that share no place.
+-- Each call in the tests of rings maintains these facts: a table covers eight places, and represents two rings that share no place.
 use Rattle.std.specs.Prelude.{◌≡◌, List, ◌∷◌}
 use Rattle.ic_link_ops.specs.Prelude.{Place, IsAbsent, Table}
 use Rattle.ic_link_ops.specs.LinkedList.{Neighbors}
 use Rattle.ic_ring.specs.Rings.{InRing, Represents}
 
--- the table covers eight places, and represents two rings with these heads
+-- the table `t` covers eight places, and represents two rings with the heads `ring` and `other`, which share no place
 pub record TwoRings {E : Type 0} (n : E → Neighbors) (t : Table E) (ring other : Place) : Type 0 where
   pub covers : t.extent.places ≡ 8
   pub shown : InRing n t ring

@@ -1,4 +1,4 @@
-//! The algorithms over lists: each is called at a list of eight objects, of every kind of list that has it.
+//! Tests of the algorithms over lists. Each algorithm is called on a list of eight objects, for every kind of list that has the algorithm.
 
 ghost use Rattle.std.specs.Prelude.{◌≡◌, ◌<◌, ◌≤◌, List, length, true};
 ghost use Rattle.ic_link_ops.specs.Prelude.{Place, index_of, is_placed};
@@ -7,7 +7,7 @@ ghost use Rattle.ic_list_algorithms.specs.Runs.{WithinComparisonBound};
 ghost use Rattle.structure_tests.specs.OfEight.{HoldsOfEight};
 
 use crate::asserts::{assert_same, assert_true};
-use ic_chain::{Chain, DoubleEnded, ForwardLinks, ListKind, SingleEnded};
+use ic_chain::{DoubleEnded, ForwardLinks, LinkList, ListKind, SingleEnded};
 use ic_link_ops::linked_list::{LinkOpsWith, TwoWords};
 use ic_link_ops::singly_linked_list::Singly;
 use ic_link_ops::{LinkOps, LinkValues, OneWord, PlainTable};
@@ -19,14 +19,14 @@ use ic_test_support::objects::{TENS, eight_objects, place_at};
 use ic_unsafe_ref::{Objects, Place, UnsafeRef};
 use std::process::Abort;
 
-// Inserts the objects at the first places into a new list, as many as that and in their order.
-fn filled<K: ForwardLinks<L>, L: LinkOps>(links: &mut L, members: usize) -> Chain<K, u64>
+// Inserts the objects at the first `members` places into a new list, in the order of their places.
+fn filled<K: ForwardLinks<L>, L: LinkOps>(links: &mut L, members: usize) -> LinkList<K, u64>
     requires covered { (L.table links.old).extent.places ≡ 8 }
     requires few { members ≤ 8 }
     ensures covers { (L.table links.new).extent.places ≡ 8 }
     ensures shown { RepresentsSomeChain K.Between K.kept (L.table links.new) result }
 {
-    let mut list = Chain::new();
+    let mut list = LinkList::new();
     for given in 0..members {
         let place = Place::new(members - 1 - given).unwrap();
         let _ = list.push_front(links, UnsafeRef::new(place));
@@ -36,7 +36,7 @@ fn filled<K: ForwardLinks<L>, L: LinkOps>(links: &mut L, members: usize) -> Chai
 
 // Sorts a list of numbers, the largest first.
 fn sort_down<K: Following<L>, L: LinkOps>(
-    list: &mut Chain<K, u64>,
+    list: &mut LinkList<K, u64>,
     links: &mut L,
     objects: &Objects<u64>,
 )
@@ -47,9 +47,9 @@ fn sort_down<K: Following<L>, L: LinkOps>(
     algorithms::sort_by(list, links, objects, &mut largest_first);
 }
 
-// Sorts a list of numbers, and returns how often two of them were compared.
+// Sorts a list of numbers, and returns how often two numbers were compared.
 fn sort_and_count<K: Following<L>, L: LinkOps>(
-    list: &mut Chain<K, u64>,
+    list: &mut LinkList<K, u64>,
     links: &mut L,
     objects: &Objects<u64>,
 ) -> u64
@@ -62,9 +62,9 @@ fn sort_and_count<K: Following<L>, L: LinkOps>(
     order.looks()
 }
 
-// Sorts a list by the numbers beside its links, the largest first, and returns the member that is then first.
+// Sorts a list by the numbers beside its links, the largest first, and returns the first member of the sorted list.
 fn sorted_down_keyed<K: Following<L>, L: LinkValues<u64>>(
-    list: &mut Chain<K, u64>,
+    list: &mut LinkList<K, u64>,
     links: &mut L,
 ) -> Option<usize>
     requires shown { RepresentsSomeChain K.Between K.kept (L.table links.old) list.old }
@@ -76,9 +76,9 @@ fn sorted_down_keyed<K: Following<L>, L: LinkValues<u64>>(
     index_of_first(list)
 }
 
-// Sorts a list by the numbers beside its links, the smallest first, merges an empty list into it, and returns its first member.
+// Sorts a list by the numbers beside its links, the smallest first, merges an empty list into the list, and returns the first member of the list.
 fn merged_keyed<K: Following<L>, L: LinkValues<u64>>(
-    list: &mut Chain<K, u64>,
+    list: &mut LinkList<K, u64>,
     links: &mut L,
 ) -> Option<usize>
     requires shown { RepresentsSomeChain K.Between K.kept (L.table links.old) list.old }
@@ -86,13 +86,13 @@ fn merged_keyed<K: Following<L>, L: LinkValues<u64>>(
     ensures values { L.values links.new ≡ L.values links.old }
 {
     algorithms::sort_keyed(list, links, &mut Natural);
-    algorithms::merge_keyed(list, links, &mut Natural, Chain::new());
+    algorithms::merge_keyed(list, links, &mut Natural, LinkList::new());
     index_of_first(list)
 }
 
-// Returns whether a list is in order, and how many members it has, which is the fourth, and which is the first above 40.
+// Returns whether the list is in order, its length, its fourth member, and the position and the place of its first member above 40.
 fn walked<K: ForwardLinks<L>, L: LinkOps>(
-    list: &Chain<K, u64>,
+    list: &LinkList<K, u64>,
     links: &L,
     objects: &Objects<u64>,
 ) -> (bool, usize, Option<usize>, Option<usize>, Option<usize>)
@@ -107,7 +107,7 @@ fn walked<K: ForwardLinks<L>, L: LinkOps>(
     )
 }
 
-// The index of a member's place.
+// Returns the index of an object's place, or `None` if there is no object.
 fn index(object: Option<UnsafeRef<u64>>) -> Option<usize> {
     match object {
         Some(object) => Some(object.place().index()),
@@ -115,21 +115,25 @@ fn index(object: Option<UnsafeRef<u64>>) -> Option<usize> {
     }
 }
 
-// Merges an empty list into a list, appends an empty list, and rotates the list by its first two members. It returns the member that is then first.
+// Merges an empty list into a list, appends an empty list, and rotates the list by its first two members. The call returns the first member of the
+// rotated list.
 fn merged<K: Following<L>, L: LinkOps>(
-    list: &mut Chain<K, u64>,
+    list: &mut LinkList<K, u64>,
     links: &mut L,
     objects: &Objects<u64>,
 ) -> Option<usize>
     requires held { HoldsOfEight K.Between K.kept (L.table links.old) list.old objects.now }
     ensures held { HoldsOfEight K.Between K.kept (L.table links.new) list.new objects.now }
 {
-    algorithms::merge_by(list, links, objects, &mut Natural, Chain::new());
+    algorithms::merge_by(list, links, objects, &mut Natural, LinkList::new());
     turned(list, links)
 }
 
-// Turns a list after its first two members, and returns the member that is then first.
-fn turned<K: ForwardLinks<L>, L: LinkOps>(list: &mut Chain<K, u64>, links: &mut L) -> Option<usize>
+// Rotates a list by its first two members, and returns the first member of the rotated list.
+fn turned<K: ForwardLinks<L>, L: LinkOps>(
+    list: &mut LinkList<K, u64>,
+    links: &mut L,
+) -> Option<usize>
     requires shown { RepresentsSomeChain K.Between K.kept (L.table links.old) list.old }
     ensures shown { RepresentsSomeChain K.Between K.kept (L.table links.new) list.new }
     ensures extent { (L.table links.new).extent ≡ (L.table links.old).extent }
@@ -138,9 +142,9 @@ fn turned<K: ForwardLinks<L>, L: LinkOps>(list: &mut Chain<K, u64>, links: &mut 
     index_of_first(list)
 }
 
-// Keeps the numbers above 30, and returns the first member.
+// Removes all members except the numbers above 30, and returns the first remaining member.
 fn sifted<K: ForwardLinks<L>, L: LinkOps>(
-    list: &mut Chain<K, u64>,
+    list: &mut LinkList<K, u64>,
     links: &mut L,
     objects: &Objects<u64>,
 ) -> Option<usize>
@@ -151,9 +155,9 @@ fn sifted<K: ForwardLinks<L>, L: LinkOps>(
     index_of_first(list)
 }
 
-// Keeps the first of the numbers that have the same hundreds, and returns how many members are left.
+// Removes each member that has the same hundreds as the member before it, and returns how many members are left.
 fn deduped<K: ForwardLinks<L>, L: LinkOps>(
-    list: &mut Chain<K, u64>,
+    list: &mut LinkList<K, u64>,
     links: &mut L,
     objects: &Objects<u64>,
 ) -> usize
@@ -169,49 +173,49 @@ fn deduped<K: ForwardLinks<L>, L: LinkOps>(
     algorithms::len(list, links)
 }
 
-// Inserts an empty list after this one.
+// Appends an empty list to the list, and returns whether the appended list is empty afterwards.
 fn appended<K: DoubleEnded + ForwardLinks<L>, L: LinkOps>(
-    list: &mut Chain<K, u64>,
+    list: &mut LinkList<K, u64>,
     links: &mut L,
 ) -> bool
     requires shown { RepresentsSomeChain K.Between K.kept (L.table links.old) list.old }
 {
-    let mut other = Chain::new();
+    let mut other = LinkList::new();
     algorithms::append(list, links, &mut other);
     other.is_empty()
 }
 
-// The same, by a walk.
+// Appends an empty list to the list by a walk to its last member, and returns whether the appended list is empty afterwards.
 fn appended_walking<K: SingleEnded + ForwardLinks<L>, L: LinkOps>(
-    list: &mut Chain<K, u64>,
+    list: &mut LinkList<K, u64>,
     links: &mut L,
 ) -> bool
     requires shown { RepresentsSomeChain K.Between K.kept (L.table links.old) list.old }
 {
-    let mut other = Chain::new();
+    let mut other = LinkList::new();
     algorithms::append_walking(list, links, &mut other);
     other.is_empty()
 }
 
-// The index of the first member's place.
-fn index_of_first<K: ListKind>(list: &Chain<K, u64>) -> Option<usize> {
+// Returns the index of the first member's place, or `None` if the list is empty.
+fn index_of_first<K: ListKind>(list: &LinkList<K, u64>) -> Option<usize> {
     match list.first() {
         Some(place) => Some(place.index()),
         None => None,
     }
 }
 
-// Makes each call that all kinds of lists have, on a list of all eight objects.
+// Calls each algorithm that all kinds of lists have, on a list of all eight objects, and returns the list.
 fn play<K: Following<L>, L: LinkOps>(
     rt: &impl Abort,
     links: &mut L,
     objects: &Objects<u64>,
-) -> Chain<K, u64>
+) -> LinkList<K, u64>
     requires covered { (L.table links.old).extent.places ≡ 8 }
     requires placed { (q : Place) → index_of q < 8 → is_placed objects.now q ≡ true }
     ensures held { HoldsOfEight K.Between K.kept (L.table links.new) result objects.now }
 {
-    let mut list: Chain<K, u64> = filled(links, 8);
+    let mut list: LinkList<K, u64> = filled(links, 8);
     let found = walked(&list, &*links, objects);
     assert_same(rt, found, (true, 8, Some(3), Some(4), Some(4)));
     assert_same(rt, sort_and_count(&mut list, links, objects), 12);
@@ -222,12 +226,12 @@ fn play<K: Following<L>, L: LinkOps>(
     let _ = sort_and_count(&mut list, links, objects);
     assert_same(rt, sifted(&mut list, links, objects), Some(3));
     list.clear(links);
-    let mut list: Chain<K, u64> = filled(links, 8);
+    let mut list: LinkList<K, u64> = filled(links, 8);
     assert_same(rt, deduped(&mut list, links, objects), 1);
     list
 }
 
-// Makes the calls on a list that keeps its last member.
+// Calls the algorithms of a list that keeps its last member.
 fn play_double_ended<K: DoubleEnded + Following<L>, L: LinkOps>(
     rt: &impl Abort,
     links: &mut L,
@@ -236,11 +240,11 @@ fn play_double_ended<K: DoubleEnded + Following<L>, L: LinkOps>(
     requires covered { (L.table links.old).extent.places ≡ 8 }
     requires placed { (q : Place) → index_of q < 8 → is_placed objects.now q ≡ true }
 {
-    let mut list: Chain<K, u64> = play(rt, links, objects);
+    let mut list: LinkList<K, u64> = play(rt, links, objects);
     assert_true(rt, appended(&mut list, links));
 }
 
-// Makes the calls on a list that keeps its first member alone.
+// Calls the algorithms of a list that keeps only its first member.
 fn play_single_ended<K: SingleEnded + Following<L>, L: LinkOps>(
     rt: &impl Abort,
     links: &mut L,
@@ -249,18 +253,18 @@ fn play_single_ended<K: SingleEnded + Following<L>, L: LinkOps>(
     requires covered { (L.table links.old).extent.places ≡ 8 }
     requires placed { (q : Place) → index_of q < 8 → is_placed objects.now q ≡ true }
 {
-    let mut list: Chain<K, u64> = play(rt, links, objects);
+    let mut list: LinkList<K, u64> = play(rt, links, objects);
     assert_true(rt, appended_walking(&mut list, links));
 }
 
-// Makes the calls of a list by numbers beside the links: 30, 10 and 20.
+// Calls the algorithms that sort by the numbers beside the links, on a list with the numbers 30, 10 and 20.
 fn play_keyed<K: Following<L>, L: LinkValues<u64>>(rt: &impl Abort, links: &mut L)
     requires covered { (L.table links.old).extent.places ≡ 8 }
 {
     links.set_value(place_at(0), 30);
     links.set_value(place_at(1), 10);
     links.set_value(place_at(2), 20);
-    let mut list: Chain<K, u64> = filled(links, 3);
+    let mut list: LinkList<K, u64> = filled(links, 3);
     assert_same(rt, sorted_down_keyed(&mut list, links), Some(0));
     assert_same(rt, merged_keyed(&mut list, links), Some(1));
     assert_same(rt, turned(&mut list, links), Some(0));

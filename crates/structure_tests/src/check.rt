@@ -1,5 +1,5 @@
-//! Checks of collections: what calls have made is accepted, and is refused once a member's link is gone. A list whose neighbors a file
-//! named is used once it is checked.
+//! Tests of the checks of collections. A check must accept a collection that calls have made, and must refuse it after a member's link is removed. A
+//! list that is read from a file is used only after a check has accepted it.
 
 ghost use Rattle.std.specs.Prelude.{◌≡◌, ◌<◌, ◌≤◌, length, IfSome};
 ghost use Rattle.ic_link_ops.specs.Prelude.{index_of, IsNameable};
@@ -10,7 +10,7 @@ ghost use Rattle.ic_rbtree.specs.PlainTrees.{PlainRepresentsSome};
 ghost use Rattle.ic_rbtree.specs.Tree.{root_of};
 
 use crate::asserts::assert_true;
-use ic_chain::Chain;
+use ic_chain::LinkList;
 use ic_check::{
     NamesItsNext, TellsLinks, TellsNeighbors, check, check_all, check_both, check_marking,
     check_tree, is_sorted,
@@ -30,7 +30,7 @@ use ic_xor_linked_list::XorLinkedList;
 use std::alloc::Global;
 use std::process::Abort;
 
-// The place of that index.
+// Returns the place with this index.
 fn place(index: usize) -> Place
     requires { index < 4 }
     ensures { index_of result ≡ index }
@@ -38,7 +38,7 @@ fn place(index: usize) -> Place
     Place::new(index).unwrap()
 }
 
-// Notes how many members a check has found.
+// Notes how many members a check has found, or that it has refused the collection.
 fn write_found(notes: &mut Text, found: Option<usize>) {
     let answer = match found {
         Some(count) => Answer::Number(count as u64),
@@ -47,21 +47,21 @@ fn write_found(notes: &mut Text, found: Option<usize>) {
     notes.add(answer, " ");
 }
 
-// A list of the objects at the first three places.
+// Returns a list of the objects at the first three places, the last of which is its first member.
 fn list_of_three<K: TellsNeighbors<PlainTable<W>>, W: Words>(
     links: &mut PlainTable<W>,
-) -> Chain<K, u64>
+) -> LinkList<K, u64>
     requires covered { (table W.width W.unlinked links.old).extent.places ≡ 3 }
     ensures covers { (table W.width W.unlinked links.new).extent.places ≡ 3 }
 {
-    let mut list = Chain::new();
+    let mut list = LinkList::new();
     for index in 0..3 {
         let _ = list.push_front(links, UnsafeRef::new(place(index)));
     }
     list
 }
 
-// Notes the result of a check of a list of three members, and the result after the second of them was unlinked.
+// Notes the result of a check of a list of three members, and the result of a check after the second member is unlinked by force.
 fn write_list<K: NamesItsNext<PlainTable<W>>, W: Words>(
     rt: &impl Abort,
     alloc: Global,
@@ -70,7 +70,7 @@ fn write_list<K: NamesItsNext<PlainTable<W>>, W: Words>(
     let mut links = PlainTable::new(alloc);
     let _ = links.cover(3);
     assert!(rt; links.covers() == 3);
-    let list: Chain<K, u64> = list_of_three(&mut links);
+    let list: LinkList<K, u64> = list_of_three(&mut links);
     write_found(notes, check(&list, &links));
     links.force_unlink(place(1));
     notes.add(Answer::Truth(links.tells_linked(place(1))), " ");
@@ -109,8 +109,8 @@ fn a_whole_table_is_checked(rt: HostRuntime) {
     assert_true(&rt, notes.has_words("3 none"));
 }
 
-// The second of three members leaves an XOR list, whose other entries still lead to it. The marks are set before each check, which does not depend on
-// them.
+// The check must refuse an XOR list of three members after the second one is unlinked by force, because the other entries still lead to it. The marks
+// are true before the first check, and a check does not depend on them.
 #[test]
 fn an_xor_list_is_checked(rt: HostRuntime) {
     let alloc = rt.alloc();
@@ -142,7 +142,7 @@ impl KeyAdapter for OwnKey {
     }
 }
 
-// A tree of the objects at the first three places.
+// Returns a tree of the objects at the first three places, in the order of their places.
 fn tree_of_three(links: &mut rbtree::LinkOps) -> RBTree<OwnKey>
     ensures shown { PlainRepresentsSome links.new (root_of result) }
 {
@@ -170,8 +170,9 @@ fn a_tree_is_checked(rt: HostRuntime) {
     assert_true(&rt, notes.has_words("3 none"));
 }
 
-// A list of the fourth place and a tree of the other three share a table of tree links. Without the list a linked place is left over, and with
-// the tree twice each of its places is.
+// A list of the fourth place and a tree of the first three places share a table of tree links, and the check must accept both together. The check must
+// refuse the tree alone, because the place of the list is linked in no collection. The check must refuse the tree given twice, because each of its
+// places is then in two collections.
 #[test]
 fn a_table_of_a_list_and_a_tree_is_checked(rt: HostRuntime) {
     let alloc = rt.alloc();
@@ -191,7 +192,7 @@ fn a_table_of_a_list_and_a_tree_is_checked(rt: HostRuntime) {
     assert_true(&rt, notes.has_words("4 none none"));
 }
 
-// Notes whether a tree of three objects with these keys is in their order.
+// Notes whether a check finds the keys of a tree of three objects in order. The objects have the given keys, in the order of their places.
 fn write_sorted(rt: &impl Abort, alloc: Global, notes: &mut Text, keys: &[u64]) {
     let mut objects = Objects::new(alloc);
     for key in keys {
@@ -213,7 +214,7 @@ fn the_order_of_a_tree_is_checked(rt: HostRuntime) {
     assert_true(&rt, notes.has_words("yes no"));
 }
 
-// The end that a file names: 0 for none, else one more than the place's index.
+// Returns the place that a word of a file names: none for 0, or else the place whose index is one less than the word.
 fn end_of(word: usize) -> Option<Place>
     ensures named { IsNameable (HasRoom wide) result }
 {
@@ -224,7 +225,7 @@ fn end_of(word: usize) -> Option<Place>
     Some(place)
 }
 
-// Links each place between the two neighbors that a file names for it.
+// Links each place between its two neighbors, which a file names in a pair of words.
 fn read_links(links: &mut linked_list::LinkOps, words: &[(usize, usize)])
     requires covered { length words.now ≤ (doubly.plain_table links.old).extent.places }
 {
@@ -236,7 +237,7 @@ fn read_links(links: &mut linked_list::LinkOps, words: &[(usize, usize)])
     }
 }
 
-// Returns the list with these ends, if the words represent one.
+// Returns the list with these ends, if the words of the table represent such a list.
 fn list_from_file(
     links: &linked_list::LinkOps,
     first: Option<Place>,
@@ -251,7 +252,7 @@ fn list_from_file(
     Some(list)
 }
 
-// Notes the member that is removed a list of two, whose words are these.
+// Notes the first member of a list of two members that is read from these words, or none if the check refuses the list.
 fn write_from_file(rt: &impl Abort, alloc: Global, notes: &mut Text, words: &[(usize, usize)])
     requires { length words.now ≡ 2 }
 {

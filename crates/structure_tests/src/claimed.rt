@@ -1,4 +1,4 @@
-//! Rings over places that are claimed.
+//! A test of rings over places that several parties claim.
 
 ghost use Rattle.std.specs.Prelude.{◌≡◌, [], All};
 ghost use Rattle.ic_link_ops.specs.DoublyEntries.{plain_table};
@@ -14,7 +14,7 @@ use ic_test_support::objects::{TENS, eight_objects};
 use std::alloc::Global;
 use std::process::Abort;
 
-// Makes links for the last of these holders, none of which has made a step, over the places 0 to 7.
+// Makes links over the places 0 to 7, for the last of these holders. No holder has made a step yet.
 fn claimed_links<'c>(
     rt: &impl Abort,
     alloc: Global,

@@ -1,4 +1,4 @@
-//! A container with several lists of one table: a job queue with four priorities. A job can be cancelled by its reference.
+//! A container that has several lists over one table of links: a job queue with four priorities. A job can be canceled by its reference.
 //!
 //! ```text
 //! let mut queue = JobQueue::new(rt.alloc());

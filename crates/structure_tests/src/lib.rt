@@ -1,4 +1,5 @@
-//! The structures over lists: what a user builds of them, with contracts, and each call of them as a caller makes it. Each is run by a test.
+//! Tests of the structures over lists. The tests make each call of these structures as a user's program does, and build a container with contracts out
+//! of lists.
 #![tactic(auto)]
 
 #[cfg(test)]

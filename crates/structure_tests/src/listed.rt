@@ -1,4 +1,5 @@
-//! Objects that are all in one list, by a caller that keeps the numbers that it has met, the newest first, over links of either width.
+//! A test of objects that are all in one list. The caller keeps the numbers that it has met, the newest first, over links of 8-byte and of 4-byte
+//! words.
 
 ghost use Rattle.std.specs.Prelude.{◌≡◌, IfSome, Some};
 ghost use Rattle.ic_unsafe_ref.specs.Objects.{object_at};
@@ -10,7 +11,8 @@ use ic_unsafe_ref::UnsafeRef;
 use std::alloc::Allocator;
 use std::process::Abort;
 
-// Inserts a number that was met before at the front again, and another one in its place. It returns the old one, if the number is there still.
+// Moves a number that was met before to the front, and replaces it by the new number. Returns the old number, or `None` if the number is no longer in
+// the list.
 fn renew<A: Allocator, W: PrevPlace>(
     numbers: &mut Listed<u64, A, W>,
     met: &UnsafeRef<u64>,
@@ -26,13 +28,13 @@ fn renew<A: Allocator, W: PrevPlace>(
     Some(numbers.replace(met.place(), number))
 }
 
-// Removes the oldest number, if there is one.
+// Removes the oldest number, if there is one, and returns it.
 fn forget_oldest<A: Allocator, W: PrevPlace>(numbers: &mut Listed<u64, A, W>) -> Option<u64> {
     let oldest = numbers.last()?;
     Some(numbers.remove(oldest))
 }
 
-// Inserts the newest number at the back, removes the first number, and then the newest one.
+// Moves the newest number to the back, then removes the first number and the last one, and returns both.
 fn take_ends<A: Allocator, W: PrevPlace>(
     numbers: &mut Listed<u64, A, W>,
 ) -> (Option<u64>, Option<u64>) {
@@ -57,19 +59,19 @@ fn meet_numbers<A: Allocator, W: PrevPlace>(rt: &impl Abort, numbers: &mut Liste
     assert_same(rt, forget_oldest(numbers), Some(11));
 }
 
-// Meets a number for the first time.
+// Inserts a number at the front, which the caller has met for the first time.
 fn meet<A: Allocator, W: PrevPlace>(rt: &impl Abort, numbers: &mut Listed<u64, A, W>, number: u64) {
     assert_true(rt, numbers.place_front(number).is_ok());
 }
 
-// Returns whether that is the only number.
+// Returns whether `number` is the only number in the list.
 fn is_only<A: Allocator, W: PrevPlace>(numbers: &Listed<u64, A, W>, number: u64) -> bool {
     let mut walk = numbers.iter();
     let is_first = walk.next().copied() == Some(number);
     is_first & walk.next().is_none()
 }
 
-// Meets three numbers, of which the newest but one and then the newest are taken out.
+// Inserts three numbers, and removes the second newest and then the newest one. The oldest number must be the only one left.
 fn take_two<A: Allocator, W: PrevPlace>(rt: &impl Abort, numbers: &mut Listed<u64, A, W>) {
     assert_true(rt, numbers.is_empty());
     meet(rt, numbers, 10);

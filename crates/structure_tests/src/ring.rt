@@ -1,4 +1,4 @@
-//! Rings, by rows of calls. Each row expects what Linux's own tests of its lists (`lib/list-test.c`) expect of the corresponding
+//! A test of rings by rows of calls. Each row expects the result that Linux's own test of its lists (`lib/list-test.c`) expects of the corresponding
 //! call.
 
 ghost use Rattle.std.specs.Prelude.{◌≡◌, ◌<◌, List, [], true};
@@ -25,7 +25,7 @@ pub(crate) use rows::ROWS;
 use std::alloc::Global;
 use std::process::Abort;
 
-// A ring with no members, whose head is the place of that index.
+// Returns a ring with no members, whose head is the place with the index `head`.
 fn opened<L: LinkedListOps>(rt: &impl Abort, links: &mut L, head: usize) -> Ring<u64>
     requires few { head < 8 }
     requires covers { (L.table links.old).extent.places ≡ 8 }
@@ -40,7 +40,7 @@ fn opened<L: LinkedListOps>(rt: &impl Abort, links: &mut L, head: usize) -> Ring
     Ring::from_head(ring.head())
 }
 
-// Turns the neighbors of the first member to each other, and to it again, and notes which member is the first each time.
+// Links the two neighbors of the first member to each other, and then to the first member again. Each time it notes which member is the first.
 fn write_bypassed<L: LinkedListOps>(notes: &mut Text, links: &mut L, ring: &Ring<u64>)
     requires { InRing L.neighbors (L.table links.old) ring.now }
 {
@@ -54,7 +54,7 @@ fn write_bypassed<L: LinkedListOps>(notes: &mut Text, links: &mut L, ring: &Ring
     write_places(notes, &[links.next(head)]);
 }
 
-/// Notes the objects of the ring, from the front on, and the one at the back.
+/// Notes all objects of the ring, from the front on, and then the object at the back.
 pub(crate) fn write_members<L: LinkedListOps>(
     notes: &mut Text,
     links: &L,
@@ -87,7 +87,7 @@ fn write_rings<L: LinkedListOps>(
     write_members(notes, links, objects, other);
 }
 
-// Notes whether the ring is empty, its ends, and the places beside its head.
+// Notes whether the ring is empty, its first and its last member, and the places before and after its head.
 fn write_ends<L: LinkedListOps>(notes: &mut Text, links: &L, ring: &Ring<u64>)
     requires { InRing L.neighbors (L.table links.now) ring.now }
 {
@@ -98,8 +98,8 @@ fn write_ends<L: LinkedListOps>(notes: &mut Text, links: &L, ring: &Ring<u64>)
     write_places(notes, &beside);
 }
 
-// Notes whether a cursor at the head is on no member, the second member, by a cursor that moves on twice, the last one, by a cursor that moves back, and
-// the object of the second one.
+// Notes whether a cursor at the head is on no member. Then it notes the second member, which a cursor finds by two steps from the head, and the last
+// one, which a cursor finds by a step back. At last it notes the object of the second member.
 fn write_second<L: LinkedListOps>(
     notes: &mut Text,
     links: &L,
@@ -120,7 +120,7 @@ fn write_second<L: LinkedListOps>(
     notes.add(number, " ");
 }
 
-// Notes what the ring prints.
+// Notes the text that the ring prints.
 fn write_printed<L: LinkedListOps>(
     notes: &mut Text,
     alloc: Global,
@@ -138,8 +138,8 @@ fn write_printed<L: LinkedListOps>(
     }
 }
 
-/// Plays the rows on two new rings, and fails the test unless each call has the outcome in its row. Then the heads are exchanged, and the first ring
-/// is served, as the queue of a server's connections, and printed, and its first member is bypassed.
+/// Makes the calls of the rows on two new rings, and fails the test unless each call has the result in its row. Then the successors of the two heads
+/// are exchanged. The first ring is used as the queue of a server's connections, it is printed, and its first member is bypassed.
 pub(crate) fn play<L: LinkedListOps>(
     rt: &impl Abort,
     alloc: Global,

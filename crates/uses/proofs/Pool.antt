@@ -1,4 +1,4 @@
--- One place after the other is claimed, and refused.
+-- Lemmas about a call that claims one place after the other, where each claim is refused.
 use Rattle.std.proofs.Common.{◌≡◌, ◌+◌, ℕ, List, [], ◌∷◌, ◌++◌, length, refl, sym, ap, ◌∙◌, arith, append_assoc, append-nil}
 use Rattle.std.proofs.lemmas.List.{length_push}
 use Rattle.ic_link_ops.specs.Prelude.{Place, index_of}
@@ -15,11 +15,11 @@ refusals_more : (ps : List Place) (p : Place) → refusals (ps ++ p ∷ []) ≡ 
 refusals_more [] p = refl
 refusals_more (q ∷ ps) p = ap (λ (es : List Event). event (Claim q) 1 ∷ es) (refusals_more ps p)
 
--- none at first
+-- at first, 0 places were claimed, and the record has not changed
 pub refused_none : (r : List Event) → WereRefused 0 r r
 refused_none r = record { tried = []; row = tt; count_is = refl; gained = sym (append-nil r) }
 
--- and one more
+-- if the first `count` places were refused, and then the place with the index `count` is refused, then `count + 1` places were refused
 pub refused_more : {count : ℕ} {old now new : List Event} → WereRefused count old now → (p : Place) → index_of p ≡ count → new ≡ now ++ event (Claim p) 1 ∷ [] → WereRefused (count + 1) old new
 refused_more {old} were p is gained = record {
   tried = were.tried ++ p ∷ [];
@@ -28,6 +28,6 @@ refused_more {old} were p is gained = record {
   gained = gained ∙ rw (were.gained, refusals_more were.tried p) (append_assoc old (refusals were.tried) (event (Claim p) 1 ∷ []));
 }
 
--- who held the same and then one more holds one more
+-- if a holder held the same places from `old` to `now`, and then the place `p` in addition, then it held `p` in addition from `old` to `new`
 pub also : {old now new : List Event} {p : Place} → HoldsTheSame old now → HoldsAlso now new p → HoldsAlso old new p
 also {p} same more = record { was = sym (same p) ∙ more.was; is = more.is; others = λ q apart. more.others q apart ∙ same q }

@@ -1,4 +1,4 @@
--- Of two claims of one place just one is answered true, where the two holders are all and neither held the place.
+-- Exactly one of two claims of one place returns true, if there are only two holders and neither of them held the place.
 use Rattle.std.proofs.Common.{◌≡◌, ℕ, zero, suc, Bool, true, false, true≢false, not, cond, ◌||◌, List, [], ◌∷◌, ◌++◌, map, length, refl, sym, ap, ◌∙◌, subst, arith}
 use Rattle.std.proofs.lemmas.List.{length-map}
 use Rattle.ic_unsafe_ref.specs.declared.place.Place.{Place}
@@ -13,21 +13,21 @@ use Rattle.uses.specs.Race.{HasClaimed}
 use Rattle.ic_atomic.proofs.RecordLemmas.{holds_at}
 use Rattle.ic_atomic.proofs.LastStepLemmas.{same_last, snoc_not_nil, last_step}
 
--- a record, and after it a claim of the place that was answered so
+-- the record `r`, followed by a claim of the place `p` that returned `answer`
 abbrev pub with_claim : List Event → Place → Bool → List Event
 with_claim r p answer = r ++ event (Claim p) (cond answer 0 1) ∷ []
 
--- who did not hold the place holds it exactly if it was told so
+-- a holder that did not hold the place `p` holds it after its claim exactly if the claim returned true
 pub told_is_held : (r : List Event) (p : Place) (answer : Bool) → holds p r ≡ false → holds p (with_claim r p answer) ≡ answer
 told_is_held r p true free = holds_at r (event (Claim p) 0) ∙ ap (λ b. b || true) free
 told_is_held r p false free = holds_at r (event (Claim p) 1) ∙ ap (λ b. b || false) free
 
--- the records of two holders that claimed the place last
+-- the records `a` and `b` of two holders, each followed by a claim of the place `p`, which returned `x` and `y`
 abbrev both : Place → List Event → List Event → Bool → Bool → List (List Event)
 both p a b x y = with_claim a p x ∷ with_claim b p y ∷ []
 
 module _ (words : List ℕ) (p : Place) (a b : List Event) (a_free : holds p a ≡ false) (b_free : holds p b ≡ false) where
-  -- where both were refused, nobody holds the place, and each record ends with a claim that was refused
+  -- if the claims of both holders were refused, then no holder holds the place, and each record ends with a refused claim
   nobody : (h : ℕ) → holds p (record_at (both p a b false false) h) ≡ false
   nobody zero = told_is_held a p false a_free
   nobody (suc zero) = told_is_held b p false b_free
@@ -49,7 +49,7 @@ module _ (words : List ℕ) (p : Place) (a b : List Event) (a_free : holds p a �
       let held = last.refused p (sym (ap (λ (e : Event). e.step) is)) (sym (ap (λ (e : Event). e.found) is)) in
       absurd (true≢false (sym held.1 ∙ nobody held.0))
 
--- two holders of the claims, before and after their claims, and all holders as an audit leaves them
+-- two holders before their claims (`a` and `b`) and after them (`a'` and `b'`), and the list `items` of all holders after an audit
 module _ {A : Type 0} {claims : Claims A} {p : Place} {a b a' b' : Holder} {x y : Bool} (one : HasClaimed claims p a a' x) (two : HasClaimed claims p b b' y)
     (a_free : holds p (record_of a) ≡ false) (b_free : holds p (record_of b) ≡ false) (items : List Holder) (same : map record_of items ≡ record_of a' ∷ record_of b' ∷ []) where
   records : map record_of items ≡ both p (record_of a) (record_of b) x y

@@ -1,4 +1,4 @@
--- One turn of a walk that keeps what passes a test, and its end.
+-- Lemmas about a walk that keeps the members that pass a test: one turn of its loop, and its end.
 use Rattle.std.proofs.Common.{◌≡◌, ◌<◌, ◌∙◌, sym, ap, inl, inr, Bool, true, false, true≢false, is_some, Option, Some, None, List, [], ◌∷◌, ◌++◌, length, refl, arith, append-nil, append_assoc}
 use Rattle.ic_link_ops.specs.Prelude.{Place, Objects, Cut, join, IsAfter, Table, IsCovered, CursorState, site, MovesOn, object_there, ArePlaced, LinkStep, releases_each}
 use Rattle.ic_link_ops.specs.Chains.{Ends}
@@ -10,7 +10,8 @@ use Rattle.ic_link_ops.proofs.EditingWalks.{Walked, walk_leaves, walk_takes}
 use Rattle.uses.specs.Retain.{Parts, TellsOf}
 
 module _ {L E T : Type 0} (n : E → Neighbors) (table : L → Table E) (Trace : L → L → List LinkStep → Type 0) (objects : Objects T) (tells : T → Bool → Type 0) where
-  -- the walk from a table that showed s is here, with these members ahead, and has kept and let go as the test told
+  -- The walk began at the table `start`, which represented `s`, and has the members `ahead` still before it. It has kept the members `after` and
+  -- removed the members `gone`, as the test returned for each of them
   pub record Retains (start : L) (s : List Place) (now : CursorState L Ends) (ahead : List Place) : Type 0 where
     pub after : List Place
     pub gone : List Place
@@ -18,7 +19,7 @@ module _ {L E T : Type 0} (n : E → Neighbors) (table : L → Table E) (Trace :
     pub parted : (k g : List Place) → Parts (TellsOf objects tells) ahead k g → Parts (TellsOf objects tells) s (after ++ k) (gone ++ g)
     pub placed : ArePlaced objects ahead
 
-  -- a turn has led on, and less is ahead
+  -- one turn of the loop has led the walk from `now` to `new`, and fewer members are ahead of it
   abbrev pub Turns : L → List Place → CursorState L Ends → CursorState L Ends → Type 0
   Turns start s now new = (rest : List Place) × Retains start s new rest
       × (length (members_between n (table new.links) new.position None) < length (members_between n (table now.links) now.position None))
@@ -41,7 +42,7 @@ module _ {L E T : Type 0} {n : E → Neighbors} {table : L → Table E} {Trace :
       ),
     )
 
-    -- the member ahead was kept
+    -- if the test returns true for the first member ahead and the cursor moves on, then a turn is made, which keeps this member
     pub retains_kept : {x : T} (ahead : List Place) → Retains n table Trace objects tells start s now ahead → object_there objects now.position ≡ Some x → tells x true
         → {position : Option Place} → MovesOn (Represents n) table now position → Turns n table Trace objects tells start s now (site now.links now.head position)
     retains_kept {x} [] h there answered moves = absurd (none_not x (sym (ap (object_there objects) h.walked.here) ∙ there))
@@ -53,7 +54,7 @@ module _ {L E T : Type 0} {n : E → Neighbors} {table : L → Table E} {Trace :
       placed = h.placed.1;
     })
 
-    -- or it was taken off
+    -- if the test returns false for the first member ahead and it is removed, then a turn is made, which adds this member to the removed ones
     pub retains_gone : ((a b c : L) (u v : List LinkStep) → Trace a b u → Trace b c v → Trace a c (u ++ v))
         → {x : T} (ahead : List Place) → Retains n table Trace objects tells start s now ahead → object_there objects now.position ≡ Some x → tells x false
         → {new : CursorState L Ends} {r : Option Place} → RemovesThere (Represents n) table Trace now r new → Turns n table Trace objects tells start s now new
@@ -66,7 +67,7 @@ module _ {L E T : Type 0} {n : E → Neighbors} {table : L → Table E} {Trace :
       placed = h.placed.1;
     })
 
-  -- at its end all of s is parted
+  -- if the cursor is on no object, the walk is at its end, and all of `s` is divided into kept members and removed members
   pub retains_all : (ahead : List Place) → Retains n table Trace objects tells start s now ahead → object_there objects now.position ≡ None
       → (kept gone : List Place) × Parts (TellsOf objects tells) s kept gone × Represents n (table now.links) now.head kept × Trace start now.links (releases_each gone)
   retains_all [] h over =

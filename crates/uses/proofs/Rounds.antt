@@ -1,9 +1,11 @@
--- Round a ring: the first that passes a test or the first of all, and the last that passes or the last of all.
+-- Lemmas about searches on a ring. Each finds the first place that passes a test or else the first of all places, or the last that passes or else the
+-- last of all.
 use Rattle.std.proofs.Common.{◌≡◌, true, false, Option, None, Some, is_some, List, [], ◌∷◌, sym, ap, ◌∙◌, arith, true≢false}
 use Rattle.ic_link_ops.specs.Prelude.{Place, first, first_or, last, last_or}
 use Rattle.ic_link_ops.proofs.SequenceLemmas.{last_some}
 
--- where one passes, it is there
+-- `t` lists the places that pass a test. If the search found the first of them (or the last), then it found the first (or last) of `t`, or `a` if `t`
+-- is empty
 pub first_here : (t : List Place) (a o : Option Place) → o ≡ first t → is_some o ≡ true → o ≡ first_or t a
 first_here t a o e h = grind arith
 
@@ -11,7 +13,7 @@ pub last_here : (t : List Place) (a o : Option Place) → o ≡ last t → is_so
 last_here [] a o e h = absurd (true≢false (sym h ∙ ap is_some e))
 last_here (x ∷ s) a o e h = e
 
--- and where none does, it is where the next move leads
+-- `t` lists the places that pass a test. If it is empty, then the next move of the cursor leads to `a`, which is where the search on the ring ends
 pub first_next : (t : List Place) (a o : Option Place) → o ≡ first t → is_some o ≡ false → {next : Option Place} → (o ≡ None → next ≡ a) → next ≡ first_or t a
 first_next t a o e h leads = grind arith
 

@@ -1,4 +1,4 @@
--- A job that is linked in a worker's table, and what is left without it.
+-- A job that is linked in a worker's table is removed from the worker's list.
 use Rattle.std.proofs.Common.{◌≡◌, List, ◌∷◌, ◌++◌, sym, ◌∙◌, subst, true≢false}
 use Rattle.ic_link_ops.specs.Prelude.{Place, Cut, join, insert, IsAbsent, IsMember, IsLinked, IsUnlinked, Unlinks}
 use Rattle.ic_link_ops.specs.Chains.{Ends}
@@ -8,11 +8,11 @@ use Rattle.ic_link_ops.proofs.SequenceLemmas.{absent_with, member_split}
 use Rattle.uses.specs.SharedJobs.{HasAll}
 
 module _ {A : Type 0} {links : DoublyLinkOps A} {jobs : Ends} {s : List Place} (all : HasAll links jobs s) (p : Place) (linked : IsLinked is_linked (plain_table links) p) where
-  -- it is on the list
+  -- if the place `p` is linked in the table, then it is a member of the list
   pub is_listed : IsMember p s
   is_listed out = true≢false (sym linked ∙ all.only p out)
 
-  -- and what is left has all that is linked then
+  -- if the place `p` is removed from the list and unlinked, then the list has all other linked places of the table
   pub all_but : {new : DoublyLinkOps A} {after : Ends} → ((front back : List Place) → PlainRepresents links jobs (front ++ p ∷ back) → PlainRepresents new after (front ++ back))
       → Unlinks is_linked (plain_table links) (plain_table new) p → (gap : Cut) × (s ≡ insert gap p) × HasAll new after (join gap)
   all_but {new} removed off =

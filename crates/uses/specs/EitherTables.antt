@@ -1,4 +1,4 @@
--- One of two tables, as a table of links.
+-- What contracts see of a value that contains one of two tables: a table of links.
 use Rattle.std.specs.Prelude.{◌≡◌, Bool, List, [], ◌∷◌, ◌++◌, ℕ}
 use Rattle.std.proofs.Common.{ap}
 use Rattle.ic_link_ops.specs.Prelude.{Place, Extent, Table, IsLinked, IsCovered, with_extent, LinkStep, TraceIs}
@@ -6,24 +6,24 @@ use Rattle.ic_link_ops.specs.StepLaws.{trace_within}
 use Rattle.uses.specs.declared.either_table.EitherTable.{EitherTable}
 use Rattle.uses.specs.declared.either_table.EitherTable.TheVariants.{First, Second}
 
--- the number of the variant distinguishes the two
+-- the number `n` of the variant is added to the extent `e`, so that the first table and the second one have different extents
 abbrev pub numbered : ℕ → Extent → Extent
 numbered n e = record { places = e.places; identity = n ∷ e.identity }
 
--- what holds of two tables that are both the first, or both the second
+-- `a` and `b` have the same variant, both `First` or both `Second`, and the relation `R` holds of the two tables in them and of `x`
 abbrev pub Alike : {L X : Type 0} → (L → L → X → Type 0) → EitherTable L → EitherTable L → X → Type 0
 Alike R (First a) (First b) x = R a b x
 Alike R (First a) (Second b) x = ⊥
 Alike R (Second a) (First b) x = ⊥
 Alike R (Second a) (Second b) x = R a b x
 
--- which of the two tables it is
+-- the number of the variant: 0 for the first table, and 1 for the second
 abbrev pub variant : {L : Type 0} → EitherTable L → ℕ
 variant (First t) = 0
 variant (Second t) = 1
 
 module _ {L E : Type 0} (table : L → Table E) where
-  -- its entries are those of the variant that it contains
+  -- the value as a table of links: its entries are those of the table that it contains
   abbrev pub one_of : EitherTable L → Table E
   one_of (First t) = with_extent (numbered 0 (table t).extent) (table t)
   one_of (Second t) = with_extent (numbered 1 (table t).extent) (table t)

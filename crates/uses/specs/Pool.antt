@@ -1,16 +1,16 @@
--- A pool that threads share: what a call that takes an object adds to a holder's record.
+-- A pool that threads share: what the record of a holder gains by a call that takes an object.
 use Rattle.std.specs.Prelude.{◌≡◌, ℕ, ◌+◌, ◌<◌, List, [], ◌∷◌, ◌++◌, length}
 use Rattle.ic_link_ops.specs.Prelude.{Place, index_of}
 use Rattle.ic_atomic.specs.declared.step.Step.TheVariants.{Claim}
 use Rattle.ic_atomic.specs.declared.step.Event.{Event}
 use Rattle.ic_atomic.specs.Records.{event, HoldsAlso, HoldsTheSame}
 
--- one claim of each of these places, which found the word 1, so that it was refused
+-- the events of one claim of each place of the list, in order: each claim found that the word of its place was 1, so that the claim was refused
 abbrev pub refusals : List Place → List Event
 refusals [] = []
 refusals (p ∷ ps) = event (Claim p) 1 ∷ refusals ps
 
--- the places have these indices: the first `from`, and each other one more than the one before it
+-- the first place of the list has the index `from`, and the index of each later place is one more than that of the place before it
 abbrev pub IsRow : ℕ → List Place → Type 0
 IsRow from [] = Unit {0}
 IsRow from (p ∷ ps) = (index_of p ≡ from) × IsRow (from + 1) ps
@@ -22,7 +22,8 @@ pub record WereRefused (count : ℕ) (old new : List Event) : Type 0 where
   pub count_is : length tried ≡ count
   pub gained : new ≡ old ++ refusals tried
 
--- A PLACE WAS TAKEN: the claims of all places before it were refused, its own succeeded, and the holder holds this place in addition
+-- A PLACE WAS TAKEN: the claims of all places with smaller indices were refused, and then the claim of `place` succeeded. The holder holds this place
+-- in addition to what it held before
 pub record TakesOut (places : ℕ) (old new : List Event) (place : Place) : Type 0 where
   pub inside : index_of place < places
   pub refused : List Event

@@ -4,10 +4,10 @@ use Rattle.uses.specs.declared.recorded_table.Note.{Note}
 use Rattle.uses.specs.declared.recorded_table.RecordedTable.{RecordedTable}
 
 module _ {L R : Type 0} where
-  -- the table whose steps are noted
+  -- the inner table, whose link steps the recorded table notes
   abbrev pub links_of : RecordedTable L R → L
   links_of t = t.links
 
-  -- the notes so far
+  -- the notes that the recorder of the table has stored so far
   abbrev pub notes_of : (R → List Note) → RecordedTable L R → List Note
   notes_of notes t = notes t.recorder

@@ -1,10 +1,10 @@
--- A worker's list over a table whose places it claims.
+-- The list of a worker, which claims the place of a job when it links the job.
 use Rattle.std.specs.Prelude.{List}
 use Rattle.ic_link_ops.specs.Prelude.{Place, IsAbsent, IsUnlinked}
 use Rattle.ic_link_ops.specs.Chains.{Ends}
 use Rattle.ic_link_ops.specs.DoublyEntries.{DoublyLinkOps, is_linked, plain_table, PlainRepresents}
 
--- THE LIST HAS ALL linked places of the table: the table represents s for it, and no other place is linked
+-- THE LIST HAS ALL LINKED PLACES of the table: the table represents the sequence `s` for the list `jobs`, and no place outside `s` is linked
 pub record HasAll {A : Type 0} (links : DoublyLinkOps A) (jobs : Ends) (s : List Place) : Type 0 where
   pub shown : PlainRepresents links jobs s
   pub only : (p : Place) → IsAbsent p s → IsUnlinked is_linked (plain_table links) p

@@ -1,4 +1,4 @@
-//! A table that is borrowed: a view of it that has the same link traits.
+//! A view of a borrowed table of links. The view implements the link traits, so that a list works over the view as over the table.
 //!
 //! ```text
 //! let mut view = BorrowedTable::new(&mut links);
@@ -14,7 +14,7 @@ use ic_link_ops::{AlreadyLinked, LinkOps};
 use ic_linked_list::LinkedList;
 use ic_unsafe_ref::{Place, UnsafeRef};
 
-/// A view of a table, for as long as it is borrowed. No call makes it a view of another table.
+/// A view of a table of links, which exists while the table is borrowed. No call makes it a view of another table.
 pub struct BorrowedTable<'a, L> {
     links: &'a mut L,
 }

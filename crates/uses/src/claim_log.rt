@@ -1,4 +1,4 @@
-//! A check of a log of claims: it finds out whether the recorded results are those that claims return.
+//! Checks a log of claims: whether the recorded results are the results that the claims return.
 //!
 //! ```text
 //! let mut core = Core::new(alloc, 100)?; // nobody holds any of the places
@@ -13,10 +13,12 @@ ghost use Rattle.ic_atomic.specs.LastChange.{answers_read_off, map_read_off};
 use ic_atomic::{Core, Step};
 use std::alloc::{AllocError, Allocator};
 
-/// Returns whether a log is right: for each call, a party and what it did, the recorded result is the one that the claims return. O(calls).
+/// Returns whether a log is right: for each logged call, the recorded result is the one that the claims return. O(calls).
 ///
-/// It requires that each call is on one of the core's places. The core has the holders before the first call, and afterwards those after the last
-/// call. `Err` means that there was not enough memory for the results, and then the core is as it was.
+/// A logged call is the number of a party, and the step that this party made.
+///
+/// It requires that each logged call is on one of the core's places. At first, the core has the holders before the first logged call. Afterwards it
+/// has the holders after the last logged call. `Err` means that there was not enough memory for the results, and then the core has not changed.
 pub fn is_right<A: Allocator>(
     alloc: A,
     core: &mut Core,

@@ -1,4 +1,4 @@
-//! One of two tables, for a program that chooses between them when it runs.
+//! A table of links that is one of two tables, for a program that chooses between the two when it runs.
 //!
 //! ```text
 //! let mut links = EitherTable::Second(large);
@@ -14,12 +14,12 @@ use ic_link_ops::{AlreadyLinked, LinkOps};
 use ic_linked_list::LinkedList;
 use ic_unsafe_ref::{Place, UnsafeRef};
 
-/// One of two tables of links. No call changes which one it is.
+/// One of two tables of links. No call changes which of the two it is.
 #[derive(Drop)]
 pub enum EitherTable<L> {
-    /// The first of the two.
+    /// The first of the two tables.
     First(L),
-    /// The second of the two.
+    /// The second of the two tables.
     Second(L),
 }
 
@@ -108,7 +108,7 @@ impl<L: LinkedListOps> LinkedListOps for EitherTable<L> {
 impl<L: LinkedListOps> EitherTable<L> {
     ghost use Rattle.uses.specs.EitherTables.{one_of, variant, Alike};
 
-    /// Inserts an unlinked object at the back of a list whose links this table has. Afterwards it is still the same one of the two.
+    /// Inserts an unlinked object at the back of a list whose links this table has. Afterwards the table is still the same variant, `First` or `Second`.
     ///
     /// It requires that the table covers the object's place and represents a sequence for the list. If the object is already linked, the caller gets
     /// it back, and no entry has changed. O(1).

@@ -1,4 +1,4 @@
-//! A first example: it places two values, links them into a list, walks over them, and removes the first again.
+//! A first example, which places two values, links them into a list, walks over the list, and removes its first member.
 //!
 //! ```text
 //! let (seen, taken, left) = first_objects(rt.alloc(), 10, 20)?; // [10, 20], 10, Some(20)
@@ -13,7 +13,7 @@ use ic_pool::{PlaceError, Pool};
 use std::alloc::{AllocError, Allocator};
 use thiserror::Error;
 
-/// Why an object was not placed.
+/// The reason why the example failed.
 #[derive(Clone, Copy, PartialEq, Eq, Debug, Error)]
 pub enum ObjectsError {
     /// There was not enough memory for the object, for its link or for the values that were read.
@@ -45,11 +45,11 @@ impl<T: Drop> From<PlaceError<T>> for ObjectsError {
     }
 }
 
-/// Places two values and links them into a list. It returns the values that a walk sees there, the value that it then removes, and the one that is
-/// first afterwards.
+/// Places two values and links them into a list. It returns the values that a walk over the list returns, the value that it then removes from the
+/// front, and the value that is first afterwards.
 ///
-/// It makes the objects, the table and the list, and drops them when it returns. If memory runs out or all places are in use, it returns that, and
-/// nothing remains either. No link is refused. O(1).
+/// It makes the objects, the table and the list, and drops them when it returns. If memory runs out or all places are in use, it returns the error,
+/// and nothing that it made remains. No link is refused. O(1).
 #[tactic(auto, using(ic_linked_list::proofs::ListedValues::has_placed))]
 pub fn first_objects<A: Allocator + Copy>(
     alloc: A,

@@ -1,4 +1,4 @@
-//! A free list of objects that are not in use. The one that was given back last is taken first.
+//! A free list of objects that are not in use. The object that was given back last is taken first.
 //!
 //! ```text
 //! free_list::give_back(&mut free, &mut links, object)?;
@@ -14,10 +14,10 @@ use ic_link_ops::{AlreadyLinked, LinkOps};
 use ic_singly_linked_list::SinglyLinkedList;
 use ic_unsafe_ref::{Place, UnsafeRef};
 
-/// Gives an object back, so that it is the next to be taken, unless its link is refused. O(1), and it takes no memory.
+/// Gives an object back to the list, so that it is the next object to be taken, unless its link is refused. O(1), and it takes no memory.
 ///
 /// It requires that the table covers the object's place, and that the table represents a sequence for the list. If the link is refused, the caller
-/// gets the object back, and the list is as it was. No other list of the table changes.
+/// gets the object back, and the list has not changed. No other list of the table changes.
 #[inline]
 pub fn give_back<T, L: SinglyLinkedListOps>(
     free: &mut SinglyLinkedList<T>,
@@ -39,9 +39,9 @@ pub fn give_back<T, L: SinglyLinkedListOps>(
     free.push_front(links, object)
 }
 
-/// Takes the object that was given back last, or `None` if there is none. O(1), and it takes no memory.
+/// Removes and returns the object that was given back last, or returns `None` if the list is empty. O(1), and it takes no memory.
 ///
-/// It requires that the table represents a sequence for the list. If there is none, nothing has changed. No other list of the table changes.
+/// It requires that the table represents a sequence for the list. If the list is empty, nothing has changed. No other list of the table changes.
 #[inline]
 pub fn take<T, L: SinglyLinkedListOps>(
     free: &mut SinglyLinkedList<T>,
@@ -61,9 +61,10 @@ pub fn take<T, L: SinglyLinkedListOps>(
     free.pop_front(links)
 }
 
-/// Gives an object back and immediately takes one: unless the link is refused, it gets the same object, and the list is as it was. O(1).
+/// Gives an object back and immediately takes an object. Unless the link is refused, it takes the object that it gave back, and the list has not
+/// changed. O(1).
 ///
-/// It requires what [`give_back`] requires, and returns a refused object as that call does.
+/// It requires what [`give_back`] requires. If the link is refused, the caller gets the object back.
 pub fn give_and_take<T, L: SinglyLinkedListOps>(
     free: &mut SinglyLinkedList<T>,
     links: &mut L,

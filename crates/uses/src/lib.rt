@@ -1,4 +1,4 @@
-//! Uses of the collections and of claims, as a caller writes them: each with a contract, and a test that runs it.
+//! Examples of how a caller uses the collections and the claims. Each example has a contract, and a test runs it.
 #![tactic(auto)]
 
 pub mod borrowed_table;

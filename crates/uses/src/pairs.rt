@@ -1,4 +1,4 @@
-//! Lists of two, read and taken from both ends, and two places in order.
+//! Calls that read or take the members of a list of two from both ends, and a call that returns two places in order.
 //!
 //! ```text
 //! let (left, right) = pairs::both(&list, &links, &objects)?;
@@ -53,7 +53,7 @@ pub fn both<'a, T, L: LinkedListOps, A: Allocator>(
 
 /// Returns the larger of the two numbers of a list of two, or `None` if the list has another number of members. O(1).
 ///
-/// It requires what [`both`] does.
+/// It requires what [`both`] requires.
 pub fn larger<L: LinkedListOps>(
     list: &LinkedList<u64>,
     links: &L,
@@ -71,8 +71,8 @@ pub fn larger<L: LinkedListOps>(
 
 /// Removes and returns the two members of a list of two, or returns `None` if the list has another number of members. O(1).
 ///
-/// It requires that the table represents a sequence for the list. If the list has another number of members, it has removed and unlinked at most
-/// three of them, and the others stay linked.
+/// It requires that the table represents a sequence for the list. If the list has another number of members, the call removes and unlinks at most
+/// three of them, and the other members stay linked.
 pub fn take_both<T, L: LinkedListOps>(
     list: LinkedList<T>,
     links: &mut L,

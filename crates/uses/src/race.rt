@@ -16,7 +16,7 @@ use ic_unsafe_ref::Place;
 use std::thread;
 use std::thread::Threads;
 
-// A claim by a holder, which a thread takes along and returns.
+// Claims the place for a holder, and returns the holder and whether the claim succeeded. A thread owns the holder during the call.
 fn claim_by(claims: &Claims, mut holder: Holder, place: Place) -> (Holder, bool)
     requires { CanClaim claims.now place holder }
     ensures { HasClaimed claims.now place holder result.0 result.1 }
@@ -25,15 +25,17 @@ fn claim_by(claims: &Claims, mut holder: Holder, place: Place) -> (Holder, bool)
     (holder, is_claimed)
 }
 
-/// Lets two threads claim the same place, each with its own holder, and returns the results of both claims. Exactly one of them is true: that holder
-/// now holds the place.
+/// Lets two threads claim the same place, each with its own holder, and returns the results of both claims. Exactly one of the results is true, and
+/// the holder with this result now holds the place.
 ///
-/// This holds in whatever order the threads come to the place, and it is left open which of the two gets it. The contract of `claim` alone does not
-/// state it, since each call only speaks of its own caller: `audit` brings both records together. If both results were true, both holders would hold
-/// the place, but no place has two holders. If both were false, another holder would hold it, but nobody does.
+/// Exactly one claim succeeds, in whatever order the threads reach the place. The contract leaves open which claim succeeds. The contract of `claim`
+/// alone does not say that exactly one does, because it speaks only of its own holder. `audit` brings the records of both holders together. If both
+/// results were true, both holders would hold the place, but no place has two holders. If both results were false, another holder would hold the
+/// place, but there is no other holder.
 ///
-/// It requires that the two are the only holders of the claims, and that neither holds the place. Afterwards each holder holds the place exactly if
-/// its result is true. O(1). It takes no memory except that of one more thread. If that thread cannot be started, this thread makes both claims.
+/// It requires that `holders` has two holders, which are the only holders of the claims, and that neither of them holds the place. Afterwards each
+/// holder holds the place exactly if its result is true. O(1). It takes no memory except that of one more thread. If that thread cannot be started,
+/// this thread makes both claims.
 pub fn race<R: Threads + Sync>(
     rt: &R,
     claims: &Claims,

@@ -18,7 +18,7 @@ use ic_link_ops::{AlreadyLinked, LinkOps};
 use ic_linked_list::LinkedList;
 use ic_unsafe_ref::{Place, UnsafeRef};
 
-/// A link step of a table, or an attempt that was refused.
+/// A note of a link step of a table, or of an attempt to link a place that was refused.
 #[derive(Clone, Copy, PartialEq, Eq, Debug)]
 pub enum Note {
     /// The place was linked.
@@ -31,15 +31,15 @@ pub enum Note {
 
 /// Something that stores notes.
 pub trait Recorder {
-    // The notes so far.
+    // The notes that the recorder has stored so far, in order.
     ghost notes: { Self → List Note };
 
-    /// Adds a note.
+    /// Adds a note after all stored notes.
     fn add(&mut self, note: Note)
         ensures { notes self.new ≡ notes self.old ++ note ∷ [] };
 }
 
-/// A table of links that records each link step, and each refused one, in order.
+/// A table of links that records each link step, and each refused attempt to link a place, in order.
 #[derive(Drop)]
 pub struct RecordedTable<L, R> {
     links: L,
@@ -117,7 +117,7 @@ impl<L: LinkedListOps, R: Recorder> LinkedListOps for RecordedTable<L, R> {
 impl<L: LinkedListOps, R: Recorder> RecordedTable<L, R> {
     ghost use Rattle.uses.specs.RecordedTables.{links_of, notes_of};
 
-    /// Makes a table that records its steps from now on.
+    /// Makes a recorded table over `links`, which adds a note of each of its link steps to `recorder` from now on.
     pub fn new(links: L, recorder: R) -> RecordedTable<L, R>
         ensures links { links_of result ≡ links }
         ensures notes { notes_of R.notes result ≡ R.notes recorder }
@@ -132,7 +132,7 @@ impl<L: LinkedListOps, R: Recorder> RecordedTable<L, R> {
         &self.recorder
     }
 
-    /// Removes the first object of a list, and adds one note, that this object was released. If it returns `None`, it adds no note. O(1).
+    /// Removes the first object of a list, and adds one note, which says that this object was released. If it returns `None`, it adds no note. O(1).
     ///
     /// It requires that the table represents a sequence for the list.
     pub fn pop_front<T>(&mut self, list: &mut LinkedList<T>) -> Option<UnsafeRef<T>>
@@ -147,7 +147,7 @@ impl<L: LinkedListOps, R: Recorder> RecordedTable<L, R> {
         list.pop_front(self)
     }
 
-    /// Inserts an object at the back of a list, and adds one note, that its link was acquired or refused. O(1).
+    /// Inserts an object at the back of a list, and adds one note, which says whether its link was acquired or refused. O(1).
     ///
     /// It requires that the table covers the object's place and represents a sequence for the list.
     pub fn push_back<T>(
@@ -167,7 +167,8 @@ impl<L: LinkedListOps, R: Recorder> RecordedTable<L, R> {
         list.push_back(self, object)
     }
 
-    /// Clears a list, and adds a note for each member that it was released, in order, and no other note. It takes one step for each member.
+    /// Clears a list, and adds one note for each member, in order, which says that the member was released. It adds no other note. It takes one step
+    /// for each member.
     ///
     /// It requires that the table represents a sequence for the list.
     pub fn clear<T>(&mut self, list: &mut LinkedList<T>)

@@ -1,4 +1,4 @@
-//! A list that keeps the members that pass a test. One walk removes the others on its way.
+//! Keeps the members of a list that pass a test, and removes all other members in one walk.
 //!
 //! ```text
 //! retain::retain(&mut sessions, &mut links, &objects, |session| session.is_alive());
@@ -15,7 +15,7 @@ use ic_linked_list::LinkedList;
 use ic_unsafe_ref::Objects;
 use std::alloc::Allocator;
 
-/// Removes each member whose object fails the test. The others stay, in their order.
+/// Removes each member whose object fails the test. The other members stay, in their order.
 ///
 /// It requires that the table represents a sequence for the list, whose members are placed. It calls the test once for each member, from the front.
 /// The removed objects are unlinked, but keep their places. It takes one step for each member, and no memory.

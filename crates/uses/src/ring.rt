@@ -1,5 +1,5 @@
-//! A ring of nodes that share out keys by consistent hashing: a key belongs to the first node whose point is at least its hash. After the last node
-//! the ring continues with the first.
+//! A ring of nodes that divide the keys among themselves by consistent hashing: a key belongs to the first node whose point is at least its hash.
+//! After the last node the ring continues with the first.
 //!
 //! ```text
 //! let mut hand = ring::owner_of(ring, &links, &objects, hash); // on the node that the key belongs to
@@ -7,7 +7,7 @@
 //! let (left, hand) = ring::leave(hand.into_inner(), &mut links, &objects, 70); // and on the node that gets its keys
 //! ```
 //!
-//! Each call takes the ring and returns a hand, which is a cursor on a node that owns the ring.
+//! Each call takes the ring and returns a hand, which is a cursor that owns the ring and is on one of its nodes.
 
 ghost use Rattle.std.specs.Prelude.{◌≡◌, List, filter};
 ghost use Rattle.ic_link_ops.specs.Prelude.{Place, first, site, IsValidCursor};
@@ -28,7 +28,7 @@ use ic_unsafe_ref::{Objects, UnsafeRef};
 pub struct Node {
     /// The point of the node on the ring. A server may have several nodes, each with its own point.
     pub point: u64,
-    /// The number of its server, as the caller numbers them.
+    /// The number of the node's server. The caller numbers the servers.
     pub server: u64,
 }
 
@@ -49,7 +49,7 @@ impl KeyAdapter for ByPoint {
     }
 }
 
-/// Returns the ring, with its hand on the node to which a key with this hash belongs, or at null in an empty ring. O(log n).
+/// Returns a hand of the ring that is on the node to which a key with this hash belongs, or at null if the ring is empty. O(log n).
 ///
 /// It requires that the nodes are objects, and sorted by their points.
 pub fn owner_of<L: RBTreeOps>(
@@ -72,9 +72,9 @@ pub fn owner_of<L: RBTreeOps>(
     hand
 }
 
-/// Returns the ring, with its hand on the last node before this hash, or at null in an empty ring. O(log n).
+/// Returns a hand of the ring that is on the last node before this hash, or at null if the ring is empty. O(log n).
 ///
-/// A node that joins at the hash gets the keys between the two. It requires what [`owner_of`] requires.
+/// If a new node joins at the hash, it gets the keys between the returned node and the hash. It requires what [`owner_of`] requires.
 pub fn node_before<L: RBTreeOps>(
     ring: RBTree<ByPoint>,
     links: &L,
@@ -95,10 +95,11 @@ pub fn node_before<L: RBTreeOps>(
     hand
 }
 
-/// Removes the first node at this hash from the ring, and returns the node with the ring. O(log n).
+/// Removes the first node at this hash from the ring, and returns the node and a hand of the ring. O(log n).
 ///
-/// It requires what [`owner_of`] requires. The node is then unlinked, but keeps its place. The hand is on the node after it, which gets its keys, or
-/// at null if it was the last in the order of points. `None` means that there is no such node: then the hand is at null, and nothing has changed.
+/// It requires what [`owner_of`] requires. The removed node is unlinked, but keeps its place. The hand is on the node after it, which gets its keys,
+/// or at null if the removed node was the last in the order of points. `None` means that no node is at this hash. Then the hand is at null, and
+/// nothing has changed.
 pub fn leave<L: RBTreeOps>(
     ring: RBTree<ByPoint>,
     links: &mut L,

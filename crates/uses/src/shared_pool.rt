@@ -18,10 +18,10 @@ use ic_atomic::{Claims, Holder};
 use ic_unsafe_ref::Place;
 use std::alloc::Allocator;
 
-/// Takes an object from the pool: the first of its places that nobody holds when this holder tries it. `None` means that each place was held by
-/// somebody when it was tried.
+/// Takes an object from the pool, at the first place that nobody holds when this holder tries it. `None` means that each place was held by somebody
+/// when it was tried.
 ///
-/// The pool consists of the claims' places. It requires that there are at most 4,294,967,296 of them, and that the holder was made with the claims.
+/// The pool consists of the claims' places. It requires that there are at most 4,294,967,296 places, and that the holder was made with the claims.
 /// Nobody else takes the object until this holder gives it back. It makes one claim for each place that it tries, in O(places). It takes no memory,
 /// and waits for nobody.
 pub fn take<A: Allocator>(claims: &Claims<A>, holder: &mut Holder) -> Option<Place>
@@ -43,7 +43,7 @@ pub fn take<A: Allocator>(claims: &Claims<A>, holder: &mut Holder) -> Option<Pla
 
 /// Gives an object back, so that any thread may take it.
 ///
-/// It requires that this holder has taken it. It makes one release, in O(1), and takes no memory.
+/// It requires that this holder has taken the object. It makes one release, in O(1), and takes no memory.
 pub fn give_back<A: Allocator>(claims: &Claims<A>, holder: &mut Holder, place: Place)
     requires place { index_of place < places_of claims.now }
     requires made { IsOf claims.now holder.old }

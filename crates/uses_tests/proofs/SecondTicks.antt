@@ -1,14 +1,14 @@
--- What a second tick at the same time finds: nothing that is due.
+-- A second tick at the time of the first tick finds no task that is due.
 use Rattle.std.proofs.Common.{◌≡◌, Bool, not, List, [], ◌∷◌, filter, refl, eq-eqb, arith}
 use Rattle.scheduler.specs.declared.task.Task.{Task}
 use Rattle.scheduler.specs.Schedule.{IsByDeadline}
 
--- of what fails a test nothing passes it
+-- if only the items that fail a test are kept, then no item passes the test
 pub none_of_others : {X : Type 0} (test : X → Bool) (xs : List X) → filter test (filter (λ x. not (test x)) xs) ≡ []
 none_of_others test [] = refl
 none_of_others test (x ∷ xs) = let rest = none_of_others test xs in grind (arith, rest)
 
--- what is by deadline as nothing is nothing
+-- if the items of `tasks`, ordered by deadline, are the empty sequence, then `tasks` is empty
 pub nothing_by_deadline : {V : Type 0} (tasks : List (Task V)) → IsByDeadline tasks [] → tasks ≡ []
 nothing_by_deadline [] is = refl
 nothing_by_deadline (task ∷ tasks) is = absurd (let e = rw (eq-eqb task.deadline task.deadline refl) at (is.alike task.deadline) in cc e)

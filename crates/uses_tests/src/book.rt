@@ -1,4 +1,4 @@
-//! The phone book: each call once.
+//! A test of the phone book that makes each of its calls at least once.
 
 use phone_book::{Entry, InsertError, PhoneBook};
 

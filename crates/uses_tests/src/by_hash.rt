@@ -1,11 +1,12 @@
-//! Connections that are found by a hash table. The program over them finds them by a tree.
+//! A test of connections that are found by a hash table. The program with connections finds them by a tree instead.
 
 use crate::fixtures::check;
 use connections::{ConnectionTable, OpenError};
 use ic_hash_index::{HashIndex, empty_buckets};
 use ic_test_support::rationed::Rationed;
 
-// Two connections in two chains. An id that is already open is refused, and so is a connection for which there is no memory.
+// Two connections are opened, and the oldest one is closed. An id that is already open must be refused, and a connection for which there is no memory
+// must be refused.
 #[test]
 fn connections_by_a_hash_table(rt: HostRuntime) {
     let buckets = empty_buckets(rt.alloc(), 2).expect(&rt, "memory for buckets");

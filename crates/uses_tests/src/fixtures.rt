@@ -1,4 +1,4 @@
-//! What the tests share: tables of a few places, objects, and the comparison of places.
+//! The functions that the tests share. The functions make tables of a few places and objects, and return the indices of places.
 
 ghost use Rattle.std.specs.Prelude.{◌≡◌, true};
 ghost use Rattle.ic_link_ops.specs.Prelude.{index_of, is_placed, IsCovered};
@@ -18,15 +18,15 @@ pub(crate) const UNLINKED: &str = "objects that are linked nowhere";
 /// The message of an assertion that a test has enough memory.
 pub(crate) const MEMORY: &str = "memory";
 
-// The index that stands for no object: no place has it.
+// The number that means that there is no object. No place has this index.
 const NONE: usize = Place::COUNT;
 
-/// Asserts that it is so.
+/// Ends the test with a failure unless `is_so` is true.
 pub(crate) fn check(rt: &impl Abort, is_so: bool) {
     assert!(rt; is_so);
 }
 
-/// The index of a place, or `NONE`.
+/// Returns the index of a place, or `NONE` if there is no place.
 pub(crate) fn index(place: Option<Place>) -> usize {
     match place {
         Some(place) => place.index(),
@@ -34,7 +34,7 @@ pub(crate) fn index(place: Option<Place>) -> usize {
     }
 }
 
-/// Returns the index of an object's place, or `NONE`.
+/// Returns the index of an object's place, or `NONE` if there is no object.
 pub(crate) fn index_of_object<T>(object: Option<UnsafeRef<T>>) -> usize {
     match object {
         Some(object) => object.place().index(),
@@ -42,7 +42,7 @@ pub(crate) fn index_of_object<T>(object: Option<UnsafeRef<T>>) -> usize {
     }
 }
 
-/// A table that covers five places.
+/// Returns a table of links that covers five places.
 pub(crate) fn covering<W: Words>(rt: &impl Abort, alloc: Global) -> PlainTable<W>
     ensures { (table W.width W.unlinked result).extent.places ≡ 5 }
 {
@@ -58,7 +58,7 @@ pub(crate) fn reference(rt: &impl Abort, index: usize) -> UnsafeRef<u64>
     UnsafeRef::new(Place::new(index).expect(rt, "the index of a place"))
 }
 
-/// A table, and two objects that are linked nowhere, at the places 2 and 0.
+/// Returns a table of links, and two unlinked objects, at the places 2 and 0.
 pub(crate) fn two(rt: &impl Abort, alloc: Global) -> (LinkOps, UnsafeRef<u64>, UnsafeRef<u64>)
     ensures covers { (plain_table result.0).extent.places ≡ 5 }
     ensures first { index_of result.1 ≡ 2 }
@@ -67,7 +67,7 @@ pub(crate) fn two(rt: &impl Abort, alloc: Global) -> (LinkOps, UnsafeRef<u64>, U
     (covering(rt, alloc), reference(rt, 2), reference(rt, 0))
 }
 
-/// These objects, at the places from 0 on.
+/// Returns these values as objects at the places from 0 on.
 pub(crate) fn placed<T: Copy + Debug>(rt: &impl Abort, alloc: Global, values: &[T]) -> Objects<T> {
     let mut objects = Objects::new(alloc);
     for value in values {
@@ -77,7 +77,7 @@ pub(crate) fn placed<T: Copy + Debug>(rt: &impl Abort, alloc: Global, values: &[
     objects
 }
 
-/// The object at the place with that index, which the table covers.
+/// Returns the reference to the object at the place with this index, which the table covers.
 pub(crate) fn object<T, W: Words>(
     rt: &impl Abort,
     links: &PlainTable<W>,

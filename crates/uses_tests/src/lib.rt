@@ -1,4 +1,4 @@
-//! The uses: the scheduler, the cache and the allocator by worked rows of calls, and each smaller use once.
+//! Tests of the uses of the collections. The scheduler, the cache and the allocator are tested by rows of calls, and each smaller use is tested once.
 #![tactic(auto)]
 
 #[cfg(test)]

@@ -1,4 +1,4 @@
-//! The first steps, a free list, pairs, walks, and tables of a caller's own, over tables of a few places.
+//! Tests of the first steps, a free list, pairs, walks, and tables of a caller's own. Their tables cover a few places.
 
 ghost use Rattle.ic_link_ops.specs.DoublyEntries.{PlainRepresents};
 ghost use Rattle.ic_link_ops.specs.PlacedObjects.{RepresentsPlaced};
@@ -22,7 +22,7 @@ use uses::{borrowed_table, deal, pairs};
 
 #[test]
 fn the_first_objects_need_memory(rt: HostRuntime) {
-    // The objects and the links need at least two requests for memory. The list of seen values makes one more, for no more than it needs.
+    // The objects and the links need at least two requests for memory. The list of seen values makes one more request, for no more bytes than it needs.
     for request in 0..3 {
         let short = Rationed::new(rt.alloc(), request);
         let is_so = match first_objects(&short, 10, 20) {
@@ -100,7 +100,7 @@ fn two_numbers_are_read(rt: HostRuntime) {
     check(&rt, pairs::larger(&list, &links, &objects).is_none());
 }
 
-// Notes in a vector, for which a test has memory.
+// A log that stores notes in a vector. A test has enough memory for the vector.
 #[derive(Drop)]
 struct Log<'r, R: Abort> {
     rt: &'r R,

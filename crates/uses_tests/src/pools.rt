@@ -33,7 +33,7 @@ fn an_object_has_room_in_both_tables(rt: HostRuntime) {
 
 #[test]
 fn an_old_handle_names_nothing(rt: HostRuntime) {
-    // The table and the objects are one request each. A slot that is vacant again needs none.
+    // The table and the objects each make one request for memory. A slot that is vacant again needs no request.
     for request in 0..3 {
         let short = Rationed::new(rt.alloc(), request);
         let mut slots = Slots::new(&short);
@@ -58,7 +58,7 @@ fn an_old_handle_names_nothing(rt: HostRuntime) {
 
 #[test]
 fn timers_are_taken_by_deadline_and_called_off(rt: HostRuntime) {
-    // The table and the objects are one request each.
+    // The table and the objects each make one request for memory.
     for request in 0..3 {
         let short = Rationed::new(rt.alloc(), request);
         let mut timers = Timers::new(&short);
@@ -82,7 +82,7 @@ fn timers_are_taken_by_deadline_and_called_off(rt: HostRuntime) {
 
 #[test]
 fn all_timers_that_are_due_are_taken_in_order(rt: HostRuntime) {
-    // The first request for more room is refused, so the caller gets the earliest timer back.
+    // The first request for memory for the vector is refused, so the caller gets the earliest timer back.
     let short = Rationed::new(rt.alloc(), 0);
     let mut due = Vec::new(&short);
     let mut timers = Timers::new(rt.alloc());

@@ -1,4 +1,4 @@
-//! The allocator of addresses: its worked rows, with ample memory and with each request refused in turn.
+//! The tests of the allocator of addresses. Its rows of calls are made with enough memory, and with each request for memory refused in turn.
 
 mod calls;
 mod rows;

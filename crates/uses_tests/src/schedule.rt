@@ -1,5 +1,5 @@
-//! The scheduler: its worked rows, with ample memory and with each request refused in turn, and calls that look random beside a plain
-//! scheduler.
+//! The tests of the scheduler. Its rows of calls are made with enough memory, and with each request for memory refused in turn. Calls that look random
+//! are compared with a plain scheduler.
 
 mod calls;
 mod plain;

@@ -1,4 +1,4 @@
-//! Threads that claim places, a job that is given up, and a log of claims.
+//! Tests of threads that claim places, of a job that is given up, and of a log of claims.
 
 ghost use Rattle.std.specs.Prelude.{◌≡◌, ◌≤◌, [], All};
 ghost use Rattle.ic_link_ops.specs.Prelude.{Place, IsUnlinked};
@@ -23,7 +23,7 @@ use uses::shared_pool::{give_back, take};
 
 const ROUNDS: usize = 1000;
 
-// Takes an object and gives it back, once for each round. Each time there must be one to take.
+// Takes an object and gives it back, once for each round. In each round there must be an object to take.
 fn visit(rt: &impl Abort, claims: &Claims, holder: &mut Holder)
     requires small { places_of claims.now ≤ 4294967296 }
     requires made { IsOf claims.now holder.old }
@@ -51,7 +51,7 @@ fn threads_claim_a_place_and_share_the_others(rt: HostRuntime) {
     check(&rt, first != second);
 }
 
-// Makes links for the last of these holders, none of which has made a step, over all places of the claims.
+// Makes links over all places of the claims, for the last of these holders. No holder has made a step yet.
 fn next_links<'c>(
     rt: &impl Abort,
     alloc: Global,

@@ -1,4 +1,4 @@
-//! Timers that are scheduled in a mixed order, and a ring of nodes by their points.
+//! Tests of timers that are scheduled in a mixed order, and of a ring of nodes that are in the order of their points.
 
 use crate::fixtures::{UNLINKED, check, covering, index, index_of_object, object, placed};
 use ic_link_ops::rbtree::LinkOps;
@@ -34,7 +34,7 @@ fn the_earliest_timer_is_taken_first(rt: HostRuntime) {
     let objects = placed(&rt, rt.alloc(), &TIMERS);
     let mut links: LinkOps = covering(&rt, rt.alloc());
     let mut timers = RBTree::new(ByDeadline::new());
-    // their order is 1, 3, 4, 2, 0: of the two at 20 the last place is scheduled first
+    // the order of the timers is 1, 3, 4, 2, 0, because of the two timers with the deadline 20 the one at place 4 is scheduled first
     for index in [4, 1, 0, 3, 2] {
         let timer = object(&rt, &links, &objects, index);
         schedule(&mut timers, &mut links, &objects, timer).expect(&rt, UNLINKED);
@@ -58,7 +58,7 @@ fn the_earliest_timer_is_taken_first(rt: HostRuntime) {
     );
 }
 
-// NodeStore at 70, 10 and 40.
+// Three nodes, at the points 70, 10 and 40.
 const NODES: [Node; 3] = [
     Node {
         point: 70,
@@ -74,7 +74,7 @@ const NODES: [Node; 3] = [
     },
 ];
 
-// Hashes, the places of the nodes to which their keys belong, and the places of the nodes before these.
+// A row has a hash, the place of the node to which a key with this hash belongs, and the place of the node before that node.
 const OWNERS: [(u64, usize, usize); 8] = [
     (0, 1, 0),
     (10, 1, 0),

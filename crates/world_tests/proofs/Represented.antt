@@ -1,4 +1,4 @@
--- What a tree shows after calls that were orderly for it.
+-- After calls that are orderly for a tree, the members that the tree shows are in the right order.
 use Rattle.std.proofs.Common.{◌≡◌, ℕ, List, Some, ap, sym, ◌∙◌, subst}
 use Rattle.std.specs.declared.cmp.Ordering.{Ordering}
 use Rattle.ic_unsafe_ref.specs.declared.place.Place.{Place}

@@ -1,4 +1,4 @@
--- How many looks are few in a small tree.
+-- The number of looks that the bound allows in a small tree.
 use Rattle.std.proofs.Common.{ℕ, ◌+◌, ◌^◌, ◌≤◌, List, length, inl, inr, arith}
 use Rattle.std.proofs.Math.Pow.{pow_mono}
 use Rattle.std.proofs.Math.Nat.{pow-le-pow_left}
@@ -6,7 +6,7 @@ use Rattle.std.proofs.lemmas.Bool.{cases_lt}
 use Rattle.ic_unsafe_ref.specs.declared.place.Place.{Place}
 use Rattle.ic_rbtree.specs.Comparing.{WithinComparisonBound}
 
--- four at most are, in a tree of at most three members
+-- if the number of looks is within the bound, and the tree has at most three members, then there are at most four looks
 pub four_in_three : (looks : ℕ) (s : List Place) → WithinComparisonBound looks s → length s ≤ 3 → looks ≤ 4
 four_in_three looks s few small = elim (cases_lt looks 5) [
   | inl less ↦ omega (arith, less)

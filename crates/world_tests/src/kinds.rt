@@ -1,11 +1,11 @@
-//! Tables whose kind is chosen when a program runs.
+//! A test of tables whose kind is chosen when a program runs.
 
 use ic_any_collection::AnyTable;
 use ic_unsafe_ref::Place;
 use ic_world::Kind;
 use std::alloc::Global;
 
-// Returns how many of the first four places are unlinked in a new table of this kind that covers three.
+// Makes a table of this kind that covers three places, and returns how many of the first four places are covered and unlinked.
 fn unlinked_of_three(alloc: Global, kind: Kind) -> usize {
     let mut links = AnyTable::new(alloc, kind);
     let _ = links.cover(3);

@@ -1,4 +1,4 @@
-//! Uses of the laws of a world: the proof of each function needs one of them.
+//! Functions that use the laws of a world. The proof of each function needs one of the laws.
 
 ghost use Rattle.std.specs.Prelude.{◌≡◌, ◌≢◌, ◌≤◌, ◌++◌, [], ◌∷◌, List, true, Some, IfSome, IsTrue, length};
 ghost use Rattle.std.specs.FinSet as set;
@@ -14,7 +14,7 @@ use ic_unsafe_ref::Place;
 use ic_world::{Answer, Call, Command, Gap, Insertion, Kind, Refusal, Search, World};
 use std::alloc::Allocator;
 
-/// Makes a call, and if it is refused makes it again, as if the first had not been made.
+/// Makes a call, and makes it again if it is refused. The result is as if the refused call had not been made.
 fn made_again<A: KeyAdapter, M: Allocator + Copy>(
     world: &mut World<A, M>,
     command: Command<A::Value, A::Key>,
@@ -30,7 +30,7 @@ where
     }
 }
 
-/// Inserts an object after all members of a list. `true`: it was linked in the list's field already, and all is as it was.
+/// Inserts an object after all members of a list. The result is `true` if the object was linked in the list's field already. Then nothing has changed.
 fn was_linked<A: KeyAdapter, M: Allocator + Copy>(
     world: &mut World<A, M>,
     collection: usize,
@@ -49,7 +49,8 @@ where
     }
 }
 
-/// Inserts an object into a tree by its key, and returns whether it is after all members with the same key that were inserted before.
+/// Inserts an object into a tree by its key, and returns whether it was inserted. If it was, it comes after all members with the same key that were
+/// inserted before.
 fn put_last<A: KeyAdapter, M: Allocator + Copy>(
     world: &mut World<A, M>,
     tree: usize,
@@ -70,7 +71,8 @@ where
     }
 }
 
-/// Returns how many members of a tree a `find` compares: by the law, at most four for three members.
+/// Returns with how many members of a tree a `find` compares the key. By a law of the world, there are at most four comparisons in a tree of at most
+/// three members.
 fn looks_of_find<A: KeyAdapter, M: Allocator + Copy>(
     world: &mut World<A, M>,
     collection: usize,
@@ -90,7 +92,7 @@ where
     }
 }
 
-/// The members of two collections: of one field, they share none.
+/// Returns the members of two collections. If both collections use one field, they share no member.
 fn both_represented<A: KeyAdapter, M: Allocator + Copy>(
     world: &World<A, M>,
     first: usize,
@@ -106,7 +108,7 @@ fn both_represented<A: KeyAdapter, M: Allocator + Copy>(
     }
 }
 
-/// Returns the members of a collection, each of which is an object.
+/// Returns the members of a collection. There is an object at each of these places.
 fn members_placed<A: KeyAdapter, M: Allocator + Copy>(
     world: &World<A, M>,
     collection: usize,
@@ -133,7 +135,7 @@ fn has_values_from_0(world: &World<OwnKey>, tree: usize) -> bool {
     as_wanted
 }
 
-// The first thing that is not as it should be in a new world, to which come three objects, a tree and a list. Nothing: the empty text.
+// Adds three objects, a tree and a list to a new world. Returns the name of the first result that is wrong, or the empty text if all are right.
 fn first_wrong(world: &mut World<OwnKey>) -> &'static str {
     let (Ok(field), Ok(keyed)) = (world.add_field(Kind::Tree), world.open(0, Kind::Tree)) else {
         return "the tree";
@@ -156,7 +158,7 @@ fn first_wrong(world: &mut World<OwnKey>) -> &'static str {
     else {
         return "a refused call, made again";
     };
-    // The search goes on below the root, where the first member with the key may be.
+    // The search compares two members, because it continues below the root, where the first member with the key may be.
     let Some(2) = looks_of_find(world, keyed, 1) else {
         return "a find of the root";
     };

@@ -1,5 +1,6 @@
-//! Tests of what no session of the program covers: faults of reading and writing, the texts of all refusals, lists of commands one after the other,
-//! laws at work, what is known after any list of calls, a key adapter, calls by their methods, and tables of each kind.
+//! Tests of what no session of the program covers. The tests check faults of reading and writing, the texts of all refusals, lists of commands one
+//! after the other, and uses of laws. The tests also check what is known after any list of calls, a key adapter, calls by their methods, and tables of
+//! each kind.
 #![tactic(auto)]
 
 #[cfg(test)]

@@ -1,4 +1,4 @@
-//! Commands that a world runs as lists, one list after the other, with requests for memory refused.
+//! A test of commands that a world runs as lists, one list after the other. Some requests for memory are refused.
 
 use ic_program::{Line, OwnKey, push_answer};
 use ic_test_support::rationed::Rationed;
@@ -6,10 +6,10 @@ use ic_unsafe_ref::Place;
 use ic_world::{Answer, Command, Refusal, World};
 use std::alloc::{Allocator, Global};
 
-// The number of the request to refuse if none is refused.
+// The number of a request that never comes, so that no request is refused.
 const NONE: u64 = u64::MAX;
 
-// Rows: which of a run's requests for memory is refused, the commands of the run, and the answers.
+// A row has the number of the request for memory that is refused in a run, the commands of the run, and the expected answers.
 type List = (u64, &'static str, &'static str);
 
 const COMMANDS: &str = "\
@@ -20,7 +20,7 @@ const ANSWERS: &str = "\
 field 0\ncollection 0\nobject 0\nobject 1\nobject 2\nok\nitems 0\nok\nitems 1 0\nok\nitems 1 0 2\nobject 1\nitems 0 2\nobject 2\n\
 items 0\nobject 0\nitems\nnone\nnone\ncollection 1\n";
 
-// The first request of a run is for its answers: if it is refused, so is the run, which then has changed nothing.
+// The first request of a run is for its answers. If the first request is refused, the run must be refused and must change nothing.
 const LISTS: &[List] = &[
     (0, COMMANDS, "no memory"),
     (NONE, COMMANDS, ANSWERS),
@@ -49,7 +49,7 @@ pub(crate) fn lines_of<M: Allocator>(alloc: Global, answers: &[Answer<M>]) -> Ve
     lines
 }
 
-// Returns whether the world answers the list like this.
+// Runs the commands of the row, and returns whether the world answers them as the row says.
 fn is_answered<'r>(
     alloc: Global,
     rationed: &'r Rationed,
@@ -68,7 +68,7 @@ fn is_answered<'r>(
     }
 }
 
-// Returns whether the world answers these lists like this, one after the other.
+// Runs the rows one after the other, and returns whether the world answers each of them as the row says.
 fn are_answered<'r>(
     alloc: Global,
     rationed: &'r Rationed,
@@ -82,12 +82,12 @@ fn are_answered<'r>(
     as_wanted
 }
 
-// The value of object 1, as the world lends its objects.
+// Returns the value of object 1, which is read from the objects that the world lends.
 fn second_value(world: &World<OwnKey, &Rationed>) -> Option<u64> {
     world.objects().get(Place::new(1)?).copied()
 }
 
-// Returns whether a new world gives a refused value back, and then answers the lists.
+// Returns whether a new world gives a value back that is refused for want of memory, and then answers the rows as they say.
 fn is_right(alloc: Global, lists: &[List]) -> bool {
     let rationed = Rationed::new(alloc, 0);
     let mut world = World::new(&rationed, OwnKey);
@@ -95,6 +95,7 @@ fn is_right(alloc: Global, lists: &[List]) -> bool {
     is_back && are_answered(alloc, &rationed, &mut world, lists) && second_value(&world) == Some(2)
 }
 
+// The test runs lists of commands in a world. Each run must give the expected answers, or must be refused and change nothing if there is no memory.
 // Promise: a list of calls as one, a run without memory, always-out-of-memory in a run.
 #[test]
 fn lists_of_commands(rt: HostRuntime) {

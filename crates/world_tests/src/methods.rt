@@ -1,10 +1,10 @@
-//! Calls of a world by the methods that have their names. The program makes all calls as commands.
+//! A test of the calls of a world by the methods that have the names of the calls. The program itself makes all calls as commands.
 
 use ic_program::OwnKey;
 use ic_unsafe_ref::Place;
 use ic_world::{Bound, Kind, Refusal, World};
 
-// Returns whether the call found this place with this many key comparisons.
+// Returns whether a search found this place with this many comparisons of keys.
 fn is_found(
     found: Result<(Option<Place>, u64), Refusal>,
     place: Option<Place>,
@@ -13,7 +13,7 @@ fn is_found(
     matches!(found, Ok((at, looked)) if at == place && looked == looks)
 }
 
-// Returns whether the entry is at that place, and whether a member had the key before.
+// Returns whether the entry is at this place, and whether `had_key` says correctly if a member had the key before.
 fn is_entry(entry: Result<(bool, Place, u64), Refusal>, had_key: bool, place: Place) -> bool {
     matches!(entry, Ok((had, at, _)) if had == had_key && at == place)
 }
@@ -51,7 +51,7 @@ fn first_wrong_in_tree(world: &mut World<OwnKey>, tree: usize, places: [Place; 4
     ""
 }
 
-// The same for an XOR list, with the first three of the objects.
+// Inserts the first three of the objects into an XOR list, and returns the first result that is wrong, or the empty text.
 fn first_wrong_in_xor(world: &mut World<OwnKey>, list: usize, places: [Place; 4]) -> &'static str {
     let [first, second, third, _] = places;
     for place in [first, second, third] {

@@ -1,4 +1,4 @@
-//! What is known of a world after any list of calls: the proof of each function uses only the contract of `ic_world_laws::run`.
+//! Functions that state what is known of a world after any list of calls. The proof of each function uses only the contract of `ic_world_laws::run`.
 
 ghost use Rattle.std.specs.Prelude.{List, map as map_list, IfSome};
 ghost use Rattle.ic_unsafe_ref.specs.declared.place.Place.{Place as AnyPlace};
@@ -13,8 +13,8 @@ use ic_unsafe_ref::Place;
 use ic_world::{Answer, Command, World};
 use std::alloc::{Allocator, Global};
 
-/// Makes any calls, and returns their answers and the members of a tree afterwards. If the calls are orderly for the tree, it is sorted, and members
-/// with equal keys are in the order of their insertion.
+/// Makes any calls, and returns their answers and the members of a tree afterwards. If the calls are orderly for the tree, the tree is sorted, and
+/// members with equal keys are in the order of their insertion.
 fn represented_after<A: KeyAdapter, M: Allocator + Copy>(
     alloc: M,
     world: &mut World<A, M>,
@@ -38,8 +38,8 @@ where
     Some((answers, shown))
 }
 
-/// Makes any calls: whatever they are, afterwards no object is in two collections of one field, or twice in one. It returns whether there was memory
-/// for the answers.
+/// Makes any calls. Afterwards no object is in two collections of one field, or twice in one collection, whatever the calls are. The result is whether
+/// there was memory for the answers.
 fn are_apart_after<A: KeyAdapter, M: Allocator + Copy>(
     world: &mut World<A, M>,
     commands: &[Command<A::Value, A::Key>],
@@ -59,14 +59,15 @@ const OPENED: &str =
 const OPENED_ANSWERS: &str = "\
 field 0\ncollection 0\ncollection 1\nobject 0\nobject 1\nobject 2\nobject 3\nok\nrefused 10 AlreadyLinked\n";
 
-// The first member with the key is removed, and inserted again after the others.
+// The commands insert four objects, find and remove the first member with the key 5, and insert it again, so that it comes after the others with this
+// key.
 const INSERTED: &str = "\
 pop_front 1; insert 0 0; insert 0 1; insert 0 2; insert 0 3; find 0 5; remove 0; insert 0 0; show 0";
 
 const INSERTED_ANSWERS: &str = "\
 object 3\nok looks 0\nok looks 1\nok looks 1\nok looks 2\nobject 0 looks 2\nobject 0\nok looks 2\nitems 1 2 3 0\n";
 
-// Returns whether a new world answers these lists like this, and has the members of the tree in order afterwards.
+// Returns whether a new world gives the expected answers to both lists of commands, and its tree has four members afterwards.
 fn is_right(alloc: Global) -> bool {
     let mut world = World::new(alloc, OwnKey);
     let mut answers = Vec::new(alloc);

@@ -1,4 +1,4 @@
-//! Trees whose keys are beside the links of their members.
+//! Tests of trees whose keys are stored beside the links of their members.
 
 ghost use Rattle.std.specs.Prelude.{◌≡◌};
 ghost use Rattle.ic_link_ops.specs.Prelude.{IsCovered, RepresentsPlaced};
@@ -16,7 +16,7 @@ use ic_test_support::notes::{Answer, Text};
 use ic_test_support::objects::{place_at, reference};
 use ic_unsafe_ref::{UnsafeRef, Values};
 
-// Inserts the object where its key belongs, and notes the first member.
+// Inserts the object at the position of its key, and notes the first member of the tree.
 fn write_inserted<L: RBTreeOps + LinkValues<u64>>(
     notes: &mut Text,
     tree: &mut RBTree<OwnKey>,
@@ -32,7 +32,7 @@ fn write_inserted<L: RBTreeOps + LinkValues<u64>>(
     write_places(notes, &[tree.front(&*links).get_ptr()]);
 }
 
-// Inserts the object where a probe for the key finds its position, and notes how many members the probe compared.
+// Inserts the object at the position that a probe for the key finds, and notes with how many members the probe compared the key.
 fn write_looks<L: RBTreeOps + LinkValues<u64>>(
     notes: &mut Text,
     tree: &mut RBTree<OwnKey>,
@@ -48,7 +48,7 @@ fn write_looks<L: RBTreeOps + LinkValues<u64>>(
     notes.add(Answer::Number(probe.looks()), " ");
 }
 
-// Inserts the object where its key belongs in a tree that keeps its ends, and notes both.
+// Inserts the object at the position of its key into a tree that keeps its first and last member, and notes both of them.
 fn write_inserted_cached<K: KeyAdapter, L: RBTreeOps + LinkValues<K::Value>>(
     notes: &mut Text,
     tree: &mut RBTreeCached<K>,
@@ -83,7 +83,7 @@ fn keys_beside_links(rt: HostRuntime) {
     assert_words(&rt, &notes, "0 1 2 2 3 2");
 }
 
-// A key that is less than those of the root and of the member on its left is compared with both.
+// A probe for a key that is less than the root's key and less than the key of its left child must compare two members.
 #[test]
 fn probe_beside_links(rt: HostRuntime) {
     let mut notes = Text::new(rt.alloc());
@@ -99,7 +99,7 @@ fn probe_beside_links(rt: HostRuntime) {
     assert_words(&rt, &notes, "0 1 2");
 }
 
-// A link of 4-byte words takes 12 bytes, and 16 with a key of 4 bytes beside it.
+// A tree link of 4-byte words takes 12 bytes, and 16 bytes with a key of 4 bytes beside it.
 const _: () = prove!(size_of::<Link<ThreeNarrowWords, u32>>() == 16);
 
 /// Says that a number of 4 bytes is its own key.
@@ -118,8 +118,8 @@ impl KeyAdapter for OwnNarrowKey {
     }
 }
 
-// Puts the objects at the first three places in, whose keys are 20, 10 and 30, and notes the ends each time. Then notes the members with the
-// keys 20 and 30, and that none has the key 0.
+// Inserts the objects at the first three places, whose keys are 20, 10 and 30, and notes the first and the last member each time. Then it notes the
+// members with the keys 20, 30 and 0, of which the last does not exist.
 fn write_three<L: RBTreeOps + LinkValues<u32>>(notes: &mut Text, links: &mut L)
     requires covers { (L.table links.old).extent.places ≡ 4 }
 {
@@ -139,7 +139,7 @@ fn write_three<L: RBTreeOps + LinkValues<u32>>(notes: &mut Text, links: &mut L)
     write_places(notes, &found);
 }
 
-// A tree over links of 4-byte words, with keys of 4 bytes beside them.
+// A tree over links of 4-byte words, with keys of 4 bytes beside the links, must have the right ends after each insert and find members by their keys.
 // Promise: keys beside 4-byte words.
 #[test]
 fn keys_beside_narrow_links(rt: HostRuntime) {

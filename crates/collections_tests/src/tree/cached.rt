@@ -1,4 +1,4 @@
-//! A tree that keeps its ends, as a queue.
+//! A test of a tree that keeps its first and its last member, as a queue needs.
 
 ghost use Rattle.std.specs.Prelude.{◌≡◌, true};
 ghost use Rattle.ic_link_ops.specs.Prelude.{is_placed, IsCovered, RepresentsPlaced};
@@ -15,7 +15,7 @@ use ic_test_support::notes::{Answer, Text};
 use ic_test_support::objects::{TENS, eight_objects, reference};
 use ic_unsafe_ref::{Objects, UnsafeRef};
 
-// Inserts the object where its key belongs, and notes the first member and the last one.
+// Inserts the object at the position of its key, and notes the first and the last member of the tree.
 fn write_inserted<L: RBTreeOps>(
     notes: &mut Text,
     tree: &mut RBTree<OwnKey, WithEnds>,
@@ -33,7 +33,7 @@ fn write_inserted<L: RBTreeOps>(
     write_places(notes, &[tree.first(links), tree.last(links)]);
 }
 
-// Removes the first object and the last one, and notes them and the ends that are left, and whether the tree is empty.
+// Removes the first and the last member, and notes both. Then it notes the first and the last of the remaining members, and whether the tree is empty.
 fn write_taken<L: RBTreeOps>(notes: &mut Text, tree: &mut RBTree<OwnKey, WithEnds>, links: &mut L)
     requires shown { RepresentsKeptSome ended L.node (L.table links.old) (ends_of tree.old) }
 {
@@ -48,7 +48,8 @@ fn write_taken<L: RBTreeOps>(notes: &mut Text, tree: &mut RBTree<OwnKey, WithEnd
     notes.add(Answer::Truth(tree.is_empty()), " ");
 }
 
-// Splits the tree before its last member, and appends the rest again, and notes the ends of both parts and of the whole.
+// Splits the tree before its last member, and notes the ends of both parts. Then it appends the second part again, and notes the ends of the whole
+// tree.
 fn write_split<L: RBTreeOps>(notes: &mut Text, tree: &mut RBTree<OwnKey, WithEnds>, links: &mut L)
     requires shown { RepresentsKeptSome ended L.node (L.table links.old) (ends_of tree.old) }
     ensures shown { RepresentsKeptSome ended L.node (L.table links.new) (ends_of tree.new) }

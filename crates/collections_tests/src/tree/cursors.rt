@@ -1,4 +1,4 @@
-//! The positions at which cursors of a tree begin, and inserts by a cursor that borrows the tree and by one that owns it.
+//! Tests of the positions at which cursors of a tree begin, and of inserts by a cursor that borrows the tree and by a cursor that owns the tree.
 
 ghost use Rattle.std.specs.Prelude.{◌≡◌, ◌<◌, true};
 ghost use Rattle.ic_link_ops.specs.Prelude.{Place, index_of, is_placed, RepresentsPlaced};
@@ -16,8 +16,8 @@ use ic_test_support::objects::reference;
 use ic_test_support::tables::write_linked;
 use std::process::Abort;
 
-// Notes where cursors begin: at null and at the back, and for those that own the tree at null, at the front and at the back. Then it empties the
-// tree.
+// Notes the positions of cursors that borrow the tree, at null and at the back, and of cursors that own the tree, at null, at the front and at the
+// back. Then it empties the tree.
 fn write_ends<L: RBTreeOps>(notes: &mut Text, tree: RBTree<OwnKey>, links: &L)
     requires shown { RepresentsSome L.node (L.table links.now) (root_of tree) }
 {
@@ -35,7 +35,7 @@ fn write_ends<L: RBTreeOps>(notes: &mut Text, tree: RBTree<OwnKey>, links: &L)
     notes.add(Answer::Truth(tree.is_empty()), " ");
 }
 
-// Inserts the object at 3 by a cursor on the last of the members 0, 1 and 2, and notes what is then after it.
+// Inserts the object at 3 by a cursor on the last of the members 0, 1 and 2, and notes the member after the cursor.
 fn write_inserted(notes: &mut Text, fixture: &mut TreeFixture)
     requires covers { (plain_table fixture.old.links).extent.places ≡ 8 }
     requires placed { (q : Place) → index_of q < 8 → is_placed fixture.old.objects q ≡ true }
@@ -47,7 +47,7 @@ fn write_inserted(notes: &mut Text, fixture: &mut TreeFixture)
     write_places(notes, &[cursor.get_ptr()]);
 }
 
-// Does the same with a cursor that owns the tree and is made on that member by its reference.
+// Inserts the object at 3 by a cursor that owns the tree and is made on the member 2 by its reference. Notes the member after the cursor.
 fn write_kept(rt: &impl Abort, notes: &mut Text, fixture: &mut TreeFixture)
     requires covers { (plain_table fixture.old.links).extent.places ≡ 8 }
     requires placed { (q : Place) → index_of q < 8 → is_placed fixture.old.objects q ≡ true }

@@ -1,4 +1,4 @@
-//! Searches by keys that borrow the tree, the entry of a key, and keys in an array.
+//! Tests of searches by keys, with cursors that borrow the tree, of the entry of a key, and of keys in an array.
 
 ghost use Rattle.std.specs.Prelude.{◌≡◌, ◌<◌, length};
 ghost use Rattle.ic_link_ops.specs.Prelude.{index_of, RepresentsPlaced};
@@ -15,14 +15,15 @@ use ic_test_support::objects::{place_at, reference};
 use ic_test_support::tables::write_linked;
 use ic_unsafe_ref::{Objects, Place, Values};
 
-// The key of a place in an array of keys.
+// Returns the key of a place, which is the item of the array with the place's index.
 fn key_at(keys: &[u64], place: Place) -> u64
     requires in_range { index_of place < length keys.now }
 {
     *keys.value(place)
 }
 
-// Notes where searches of 40 lead: to the first member of it, to the first one from it on, and to the last one below it.
+// Notes the results of three searches: the first member with the key 40, the first member whose key is at least 40, and the last member whose key is
+// below 40.
 fn write_searches<L: RBTreeOps>(
     notes: &mut Text,
     tree: &mut RBTree<OwnKey>,
@@ -42,8 +43,8 @@ fn write_searches<L: RBTreeOps>(
     write_values(notes, &[found]);
 }
 
-// Puts the object at 7 in at the entry of the key, if it has no member. Notes whether the object was made, and which member the cursor is on
-// then.
+// Inserts the object at 7 at the entry of the key, if no member has the key. Notes whether the closure that makes the object was called, and the member
+// on which the cursor then is.
 fn write_entry<L: RBTreeOps>(
     notes: &mut Text,
     tree: &mut RBTree<OwnKey>,
@@ -66,7 +67,8 @@ fn write_entry<L: RBTreeOps>(
     write_places(notes, &[at]);
 }
 
-// The searches in a tree of seven members. Of 10, 20 and 30, the entry of a key that none of them has, and that of the last one's.
+// The test makes the searches in a tree of seven members. In a tree of 10, 20 and 30, the entry of the key 25 must insert an object, and the entry of
+// the key 30 must find its member.
 // Promise: a closure that is not called.
 #[test]
 fn searches_and_entries(rt: HostRuntime) {

@@ -1,4 +1,5 @@
-//! How often the calls that take a key read a value: once for each look, and an insert once more, for the object's own key.
+//! A test of how often the calls that take a key read a value. A call reads one value for each member that it looks at, and an insert reads one more,
+//! for the key of the inserted object.
 
 ghost use Rattle.std.specs.Prelude.{◌≡◌, true};
 ghost use Rattle.ic_link_ops.specs.Prelude.{is_placed, IsCovered, RepresentsPlaced};
@@ -17,7 +18,7 @@ use ic_unsafe_ref::{Objects, Place, UnsafeRef, Values};
 use std::cell::Cell;
 use std::process::Abort;
 
-// Values that count how often one is read.
+// The values of objects, with a count of how often a value was read.
 #[derive(Drop)]
 struct Counted<'o> {
     objects: &'o Objects<u64>,
@@ -25,7 +26,7 @@ struct Counted<'o> {
 }
 
 impl<'o> Counted<'o> {
-    // These objects, of which none was read.
+    // Returns values over these objects, with a count of 0 reads.
     fn of(objects: &'o Objects<u64>) -> Counted<'o>
         ensures { result.objects.now ≡ objects.now }
     {
@@ -35,7 +36,7 @@ impl<'o> Counted<'o> {
         }
     }
 
-    // Notes how often one was read.
+    // Notes how often a value was read.
     fn write_reads(&self, notes: &mut Text) {
         notes.add(Answer::Number(self.reads.get()), " ");
     }
@@ -50,7 +51,7 @@ impl Values<u64> for Counted<'_> {
     }
 }
 
-// Inserts the object where its key belongs, and notes how often a value was read.
+// Inserts the object at the position of its key, and notes how often a value was read.
 fn write_insert<E: TreeHead, L: RBTreeOps>(
     notes: &mut Text,
     tree: &mut RBTree<OwnKey, E>,
@@ -67,7 +68,7 @@ fn write_insert<E: TreeHead, L: RBTreeOps>(
     counted.write_reads(notes);
 }
 
-// Searches the entry of 80, and notes how often a value was read.
+// Searches the entry of the key 80, and notes how often a value was read.
 fn write_entry(notes: &mut Text, fixture: &mut TreeFixture)
     requires placed { RepresentsPlaced (PlainRepresents fixture.old.links (root_of fixture.old.tree)) fixture.old.objects }
 {
@@ -81,7 +82,7 @@ fn write_entry(notes: &mut Text, fixture: &mut TreeFixture)
     counted.write_reads(notes);
 }
 
-// Puts the object in with the member at the position as the hint, and notes how often a value was read for that.
+// Inserts the object with the member at the given position as the hint, and notes how often a value was read.
 fn write_insert_with_hint<E: TreeHead, L: RBTreeOps>(
     rt: &impl Abort,
     notes: &mut Text,
@@ -101,13 +102,14 @@ fn write_insert_with_hint<E: TreeHead, L: RBTreeOps>(
     counted.write_reads(notes);
 }
 
-// Seven numbers that rise, and one that belongs before the fourth.
+// Seven numbers in rising order, and an eighth number that belongs before the fourth one.
 const SEVEN_AND_ONE: [u64; 8] = [10, 20, 30, 50, 60, 70, 80, 40];
 
-// Seven members that came in rising order have the second at the root, and the fourth, the sixth and the last below each other on its right. So
-// an insert after all makes four looks, and one where the last member is kept, and an entry of a greater key makes four. An insert before the
-// fourth makes two looks where that is the hint. It makes four where the hint is the second, which is less, and five where it is the
-// last, since the one before that is greater, too.
+// The calls must look at exactly as many members as follows from the shape of the tree. If seven members are inserted in rising order, the second is
+// the root, and the fourth, the sixth and the seventh are below each other on its right. An insert after all members must look at four members, and at
+// one member if the tree keeps its last member. A search of the entry of a greater key must look at four members. An insert before the fourth member
+// must look at two members if the fourth is the hint, and at four if the hint is the second member, which is less. If the hint is the last member, the
+// insert must look at five members, because the member before the last is greater than the new one.
 // Promise: looks of plain calls.
 #[test]
 fn plain_calls_look_once(rt: HostRuntime) {

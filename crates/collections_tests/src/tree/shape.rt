@@ -1,4 +1,4 @@
-//! The shape of a tree, as the table of its links has it.
+//! A test of the shape of a tree, which is read from the table of its links.
 
 ghost use Rattle.std.specs.Prelude.{◌≡◌, ◌<◌};
 ghost use Rattle.ic_rbtree.specs.PlainTrees.{plain_table, PlainRepresentsSome};
@@ -13,8 +13,8 @@ use ic_test_support::notes::{Answer, Text};
 use ic_test_support::objects::reference;
 use ic_unsafe_ref::Place;
 
-// Notes what the table has at each place: `3b 1 none 19` for a black 3 with 1 on the left, nothing on the right, and 19 as its third word. For a
-// place that is not linked it notes only the word.
+// Notes the entry of the table at each place. For example, `3b 1 none 19` means that the member 3 is black, that its left child is 1, that it has no
+// right child, and that its third word is 19. If a place is not linked, only its third word is noted.
 fn write_links(notes: &mut Text, links: &LinkOps) {
     for index in 0..links.covers() {
         let Some(place) = Place::new(index) else {
@@ -32,7 +32,7 @@ fn write_links(notes: &mut Text, links: &LinkOps) {
     }
 }
 
-// Removes the member, if it is one, and notes where the cursor goes, and the shape.
+// Removes the object with this number, if it is a member, and notes the position of the cursor after the removal. Then it notes the shape of the tree.
 fn write_without(notes: &mut Text, fixture: &mut TreeFixture, leaving: usize)
     requires few { leaving < 8 }
     requires covers { (plain_table fixture.old.links).extent.places ≡ 8 }
@@ -47,11 +47,12 @@ fn write_without(notes: &mut Text, fixture: &mut TreeFixture, leaving: usize)
     write_links(notes, &fixture.links);
 }
 
-// Which of the seven members leaves, and 7 if none does.
+// The member that is removed in each round of the test, or 7 if no member is removed.
 const LEAVING: &[usize] = &[7, 0, 3, 1, 6];
 
-// Seven members that came in rising order, all of them and without the first, the root's right child, the root and a red leaf; and seven
-// that came in falling order.
+// The test compares the shape of a tree of seven members, which are inserted in rising order, with the expected one. Then it compares the shapes after
+// the removal of the first member, of the root's right child, of the root, and of a red leaf. At last it compares the shape of seven members that are
+// inserted in falling order.
 // Promise: shape of seven members in order, shape without the first, shape without the fourth, shape of seven members from the back.
 // Promise: third words of seven members.
 #[test]

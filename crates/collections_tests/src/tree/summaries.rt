@@ -1,17 +1,18 @@
-//! Summaries over the edits of a tree: after each edit and a `refresh` they are right for the members, in a tree with any head and over any sums.
+//! Tests of the summaries of a tree. After each edit and a `refresh`, the summaries are right for the members, whatever the kind of the tree's head and
+//! of the summaries is.
 
 ghost use Rattle.std.specs.Prelude.{◌≡◌, ◌<◌, true, List};
 ghost use Rattle.ic_link_ops.specs.Prelude.{Place, index_of, is_placed, HasMember};
 ghost use Rattle.ic_rbtree.specs.Kept.{IsEmptied, RepresentsKept, RepresentsKeptSome};
 ghost use Rattle.ic_rbtree.specs.Tree.{head_of, root_in};
-ghost use Rattle.ic_augmented.specs.Consistent.{RepresentsSummed};
-ghost use Rattle.ic_augmented.specs.Summed.{links_of, summaries_of};
+ghost use Rattle.ic_augmented.specs.Consistent.{RepresentsAugmented};
+ghost use Rattle.ic_augmented.specs.Augmented.{links_of, summaries_of};
 ghost use Rattle.collections_tests.specs.Ready.{IsReady};
 
 use crate::notes::assert_words;
 use crate::tree::trees::OwnKey;
 use ic_augmented::{
-    Counts, Greatest, RecomputeSummaries, Summaries, Summed, first_greater, first_overlap,
+    Augmented, Counts, Greatest, RecomputeSummaries, Summaries, first_greater, first_overlap,
     index_of, len, nth, refresh, set_value,
 };
 use ic_link_ops::rbtree::{self, RBTreeOps};
@@ -23,23 +24,23 @@ use ic_unsafe_ref::{Objects, UnsafeRef};
 use std::alloc::Global;
 use std::process::Abort;
 
-// What a test reads of a tree with summaries.
+// The kinds of summaries that the tests use, each with what a test reads of a tree with such summaries.
 trait Readings: RecomputeSummaries {
-    // Notes it.
+    // Notes what the test reads of the summaries of this tree.
     fn note<E: TreeHead, L: RBTreeOps>(
         notes: &mut Text,
         tree: &RBTree<OwnKey, E>,
-        summed: &Summed<L, Self>,
+        summed: &Augmented<L, Self>,
     )
-        requires shown { (s : List Place) × RepresentsSummed L.node (Self.summaries (summaries_of summed.now)) (L.table (links_of summed.now)) (root_in E.kept tree.now) s };
+        requires shown { (s : List Place) × RepresentsAugmented L.node (Self.summaries (summaries_of summed.now)) (L.table (links_of summed.now)) (root_in E.kept tree.now) s };
 }
 
-// Notes how many members there are, and each of them by its position, which a search from the member must find, too.
+// Notes the number of members, and the member at each position. The position that is computed from that member must be the same position.
 impl Readings for Counts {
     fn note<E: TreeHead, L: RBTreeOps>(
         notes: &mut Text,
         tree: &RBTree<OwnKey, E>,
-        summed: &Summed<L, Counts>,
+        summed: &Augmented<L, Counts>,
     ) {
         let count = len(tree, summed);
         notes.add(Answer::Number(count), " ");
@@ -55,12 +56,12 @@ impl Readings for Counts {
     }
 }
 
-// The first members whose numbers are greater than 25, than 45 and than 65.
+// Notes the first member whose number is greater than 25, the first whose number is greater than 45, and the first whose number is greater than 65.
 impl Readings for Greatest {
     fn note<E: TreeHead, L: RBTreeOps>(
         notes: &mut Text,
         tree: &RBTree<OwnKey, E>,
-        summed: &Summed<L, Greatest>,
+        summed: &Augmented<L, Greatest>,
     ) {
         write_places(
             notes,
@@ -73,11 +74,11 @@ impl Readings for Greatest {
     }
 }
 
-// Updates the summaries, and notes what they are.
+// Updates the summaries, and notes what the test reads of them.
 fn write_summaries<E: TreeHead, L: RBTreeOps, M: Readings>(
     notes: &mut Text,
     tree: &RBTree<OwnKey, E>,
-    summed: &mut Summed<L, M>,
+    summed: &mut Augmented<L, M>,
 )
     requires ready { IsReady E.kept L.node L.table M.summaries M.Covers tree.now summed.old }
     ensures ready { IsReady E.kept L.node L.table M.summaries M.Covers tree.now summed.new }
@@ -86,7 +87,7 @@ fn write_summaries<E: TreeHead, L: RBTreeOps, M: Readings>(
     M::note(notes, tree, summed);
 }
 
-/// Returns the member at this position. The test fails if there is none.
+/// Returns the member at this position. The test fails if the tree has no member there.
 pub(crate) fn member_at<E: TreeHead, L: RBTreeOps>(
     rt: &impl Abort,
     tree: &RBTree<OwnKey, E>,
@@ -103,11 +104,11 @@ pub(crate) fn member_at<E: TreeHead, L: RBTreeOps>(
     UnsafeRef::new(cursor.get_ptr().expect(rt, "a member"))
 }
 
-// Inserts the object where its key belongs.
+// Inserts the object into the tree at the position of its key.
 fn put_by_key<E: TreeHead, L: RBTreeOps, M: RecomputeSummaries>(
     rt: &impl Abort,
     tree: &mut RBTree<OwnKey, E>,
-    summed: &mut Summed<L, M>,
+    summed: &mut Augmented<L, M>,
     objects: &Objects<u64>,
     object: UnsafeRef<u64>,
 )
@@ -120,11 +121,11 @@ fn put_by_key<E: TreeHead, L: RBTreeOps, M: RecomputeSummaries>(
     assert!(rt; inserted.is_ok());
 }
 
-// Puts the object in at the entry of the key, if no member has that.
+// Inserts the object at the entry of its key, if no member has the key.
 fn put_at_entry<E: TreeHead, L: RBTreeOps, M: RecomputeSummaries>(
     rt: &impl Abort,
     tree: &mut RBTree<OwnKey, E>,
-    summed: &mut Summed<L, M>,
+    summed: &mut Augmented<L, M>,
     objects: &Objects<u64>,
     key: u64,
     object: UnsafeRef<u64>,
@@ -148,11 +149,11 @@ fn put_at_entry<E: TreeHead, L: RBTreeOps, M: RecomputeSummaries>(
     }
 }
 
-// Inserts the object where its key belongs, with the member at the position as the hint.
+// Inserts the object at the position of its key, with the member at the given position as the hint.
 fn put_with_hint<E: TreeHead, L: RBTreeOps, M: RecomputeSummaries>(
     rt: &impl Abort,
     tree: &mut RBTree<OwnKey, E>,
-    summed: &mut Summed<L, M>,
+    summed: &mut Augmented<L, M>,
     objects: &Objects<u64>,
     position: usize,
     object: UnsafeRef<u64>,
@@ -167,11 +168,11 @@ fn put_with_hint<E: TreeHead, L: RBTreeOps, M: RecomputeSummaries>(
     assert!(rt; inserted.is_ok());
 }
 
-// Inserts the object before the member at the position, by a cursor.
+// Inserts the object before the member at the given position, by a cursor.
 fn put_before<E: TreeHead, L: RBTreeOps, M: RecomputeSummaries>(
     rt: &impl Abort,
     tree: &mut RBTree<OwnKey, E>,
-    summed: &mut Summed<L, M>,
+    summed: &mut Augmented<L, M>,
     position: usize,
     object: UnsafeRef<u64>,
 )
@@ -185,11 +186,11 @@ fn put_before<E: TreeHead, L: RBTreeOps, M: RecomputeSummaries>(
     assert!(rt; inserted.is_ok());
 }
 
-// Replaces the member at the position by the object, with a cursor.
+// Replaces the member at the given position by the object, with a cursor.
 fn replace_at<E: TreeHead, L: RBTreeOps, M: RecomputeSummaries>(
     rt: &impl Abort,
     tree: &mut RBTree<OwnKey, E>,
-    summed: &mut Summed<L, M>,
+    summed: &mut Augmented<L, M>,
     position: usize,
     object: UnsafeRef<u64>,
 )
@@ -203,11 +204,11 @@ fn replace_at<E: TreeHead, L: RBTreeOps, M: RecomputeSummaries>(
     assert!(rt; replaced.is_ok());
 }
 
-// Removes the member at the position, by a cursor.
+// Removes the member at the given position, by a cursor.
 fn remove_at<E: TreeHead, L: RBTreeOps, M: RecomputeSummaries>(
     rt: &impl Abort,
     tree: &mut RBTree<OwnKey, E>,
-    summed: &mut Summed<L, M>,
+    summed: &mut Augmented<L, M>,
     position: usize,
 )
     requires ready { IsReady E.kept L.node L.table M.summaries M.Covers tree.old summed.old }
@@ -218,11 +219,11 @@ fn remove_at<E: TreeHead, L: RBTreeOps, M: RecomputeSummaries>(
     let _ = cursor.remove();
 }
 
-// Removes the member at the position, by its reference.
+// Removes the member at the given position, by its reference.
 fn remove<E: TreeHead, L: RBTreeOps, M: RecomputeSummaries>(
     rt: &impl Abort,
     tree: &mut RBTree<OwnKey, E>,
-    summed: &mut Summed<L, M>,
+    summed: &mut Augmented<L, M>,
     position: usize,
 )
     requires ready { IsReady E.kept L.node L.table M.summaries M.Covers tree.old summed.old }
@@ -235,7 +236,7 @@ fn remove<E: TreeHead, L: RBTreeOps, M: RecomputeSummaries>(
 // Removes the first member, if there is one.
 fn pop_front<E: TreeHead, L: RBTreeOps, M: RecomputeSummaries>(
     tree: &mut RBTree<OwnKey, E>,
-    summed: &mut Summed<L, M>,
+    summed: &mut Augmented<L, M>,
 )
     requires ready { IsReady E.kept L.node L.table M.summaries M.Covers tree.old summed.old }
     ensures ready { IsReady E.kept L.node L.table M.summaries M.Covers tree.new summed.new }
@@ -246,7 +247,7 @@ fn pop_front<E: TreeHead, L: RBTreeOps, M: RecomputeSummaries>(
 // Removes the last member, if there is one.
 fn pop_back<E: TreeHead, L: RBTreeOps, M: RecomputeSummaries>(
     tree: &mut RBTree<OwnKey, E>,
-    summed: &mut Summed<L, M>,
+    summed: &mut Augmented<L, M>,
 )
     requires ready { IsReady E.kept L.node L.table M.summaries M.Covers tree.old summed.old }
     ensures ready { IsReady E.kept L.node L.table M.summaries M.Covers tree.new summed.new }
@@ -254,12 +255,12 @@ fn pop_back<E: TreeHead, L: RBTreeOps, M: RecomputeSummaries>(
     let _ = tree.pop_back(summed);
 }
 
-// Splits the tree before the member at the position, notes the summaries of both parts, and joins the second to the end of the first again.
+// Splits the tree before the member at the given position, notes the summaries of both parts, and appends the second part to the first one again.
 fn write_parts<E: TreeHead, L: RBTreeOps, M: Readings>(
     rt: &impl Abort,
     notes: &mut Text,
     tree: &mut RBTree<OwnKey, E>,
-    summed: &mut Summed<L, M>,
+    summed: &mut Augmented<L, M>,
     position: usize,
 )
     requires ready { IsReady E.kept L.node L.table M.summaries M.Covers tree.old summed.old }
@@ -274,11 +275,11 @@ fn write_parts<E: TreeHead, L: RBTreeOps, M: Readings>(
     tree.append(summed, &mut rest);
 }
 
-// Splits the tree before the member at the position, and joins the second part to the end of the first again, with the object between both.
+// Splits the tree before the member at the given position, and appends the second part to the first one again, with the object between both parts.
 fn join_with<E: TreeHead, L: RBTreeOps, M: RecomputeSummaries>(
     rt: &impl Abort,
     tree: &mut RBTree<OwnKey, E>,
-    summed: &mut Summed<L, M>,
+    summed: &mut Augmented<L, M>,
     position: usize,
     object: UnsafeRef<u64>,
 )
@@ -292,10 +293,10 @@ fn join_with<E: TreeHead, L: RBTreeOps, M: RecomputeSummaries>(
     assert!(rt; joined.is_ok());
 }
 
-// Removes all members.
+// Removes all members of the tree.
 fn clear<E: TreeHead, L: RBTreeOps, M: RecomputeSummaries>(
     tree: &mut RBTree<OwnKey, E>,
-    summed: &mut Summed<L, M>,
+    summed: &mut Augmented<L, M>,
 )
     requires ready { IsReady E.kept L.node L.table M.summaries M.Covers tree.old summed.old }
     ensures ready { IsReady E.kept L.node L.table M.summaries M.Covers tree.new summed.new }
@@ -303,7 +304,7 @@ fn clear<E: TreeHead, L: RBTreeOps, M: RecomputeSummaries>(
     tree.clear(summed);
 }
 
-// One edit, of the object at a place, and at the member at a position.
+// One edit of a tree. Its numbers are the place of the object that is inserted, and the position of the member at which the edit is made.
 enum Edit {
     ByKey(usize),
     AtEntry(u64, usize),
@@ -319,19 +320,19 @@ enum Edit {
     Clear,
 }
 
-// The object at one of the eight places.
+// Returns the reference to the object at one of the eight places.
 fn eighth(place: usize) -> UnsafeRef<u64>
     ensures { index_of result < 8 }
 {
     reference(place % 8)
 }
 
-// Makes the edit.
+// Makes the edit in the tree.
 fn make<E: TreeHead, L: RBTreeOps, M: Readings>(
     rt: &impl Abort,
     notes: &mut Text,
     tree: &mut RBTree<OwnKey, E>,
-    summed: &mut Summed<L, M>,
+    summed: &mut Augmented<L, M>,
     objects: &Objects<u64>,
     edit: &Edit,
 )
@@ -359,7 +360,7 @@ fn make<E: TreeHead, L: RBTreeOps, M: Readings>(
     }
 }
 
-// The edits of a test. With each edit are the members that the tree has afterwards.
+// The edits of a test. The comment of each edit lists the members that the tree has after the edit.
 const EDITS: &[Edit] = &[
     Edit::ByKey(3), // 3
     Edit::WithHint(0, 1), // 1 3: before the hint
@@ -384,12 +385,12 @@ const EDITS: &[Edit] = &[
     Edit::AtEntry(30, 5), // 0 2 3: the member at 2 has that key
 ];
 
-// Makes all edits, and notes the summaries after each.
+// Makes all edits in the tree, and notes the summaries after each edit.
 fn play<E: TreeHead, L: RBTreeOps, M: Readings>(
     rt: &impl Abort,
     notes: &mut Text,
     tree: &mut RBTree<OwnKey, E>,
-    summed: &mut Summed<L, M>,
+    summed: &mut Augmented<L, M>,
     objects: &Objects<u64>,
 )
     requires placed { (q : Place) → index_of q < 8 → is_placed objects.now q ≡ true }
@@ -402,11 +403,12 @@ fn play<E: TreeHead, L: RBTreeOps, M: Readings>(
     }
 }
 
-// Notes the first member, from the value of its object to its number, that overlaps 15 to 35, 45 to 50, and 20 to 30.
+// Notes the first member that overlaps 15 to 35, the first that overlaps 45 to 50, and the first that overlaps 20 to 30. The interval of a member goes
+// from the value of its object to its number.
 fn write_overlaps<E: TreeHead, L: RBTreeOps>(
     notes: &mut Text,
     tree: &RBTree<OwnKey, E>,
-    summed: &Summed<L, Greatest>,
+    summed: &Augmented<L, Greatest>,
     objects: &Objects<u64>,
 )
     requires placed { (q : Place) → index_of q < 8 → is_placed objects.now q ≡ true }
@@ -417,7 +419,7 @@ fn write_overlaps<E: TreeHead, L: RBTreeOps>(
     }
 }
 
-// Counts of the tree that has no members: how many it has after each edit, and which are at each position.
+// Makes all edits in an empty tree with counts. After each edit, the number of members and the member at each position must be right.
 fn play_counts<E: TreeHead>(rt: &impl Abort, alloc: Global, tree: RBTree<OwnKey, E>)
     requires empty { IsEmptied (E.kept (head_of tree)) }
 {
@@ -427,7 +429,7 @@ fn play_counts<E: TreeHead>(rt: &impl Abort, alloc: Global, tree: RBTree<OwnKey,
     let mut summaries = Counts::new(alloc);
     let covered = summaries.cover(8);
     assert!(rt; covered.is_ok());
-    let mut summed = Summed { links, summaries };
+    let mut summed = Augmented { links, summaries };
     play(rt, &mut notes, &mut tree, &mut summed, &objects);
     assert_words(
         rt,
@@ -459,8 +461,8 @@ fn play_counts<E: TreeHead>(rt: &impl Abort, alloc: Global, tree: RBTree<OwnKey,
 // The numbers at the places 0 to 7.
 const NUMBERS: [u64; 8] = [20, 40, 30, 60, 80, 70, 50, 10];
 
-// Numbers beside the tree that has no members: which member is the first, after each edit, with more than 25, with more than 45 and with
-// more than 65.
+// Makes all edits in an empty tree whose places have numbers. After each edit, the first members with a number above 25, above 45 and above 65 must be
+// right.
 fn play_greatest<E: TreeHead>(rt: &impl Abort, alloc: Global, tree: RBTree<OwnKey, E>)
     requires empty { IsEmptied (E.kept (head_of tree)) }
 {
@@ -470,7 +472,7 @@ fn play_greatest<E: TreeHead>(rt: &impl Abort, alloc: Global, tree: RBTree<OwnKe
     let mut summaries = Greatest::new(alloc);
     let covered = summaries.cover(8);
     assert!(rt; covered.is_ok());
-    let mut summed = Summed { links, summaries };
+    let mut summed = Augmented { links, summaries };
     for index in 0..8 {
         set_value(&mut summed, place_at(index), NUMBERS[index]);
     }
@@ -504,6 +506,7 @@ fn play_greatest<E: TreeHead>(rt: &impl Abort, alloc: Global, tree: RBTree<OwnKe
     );
 }
 
+// The test makes all edits in trees with and without kept ends, and after each edit the counts of the members must be right.
 // Promise: counts after each edit.
 #[test]
 fn counts_after_each_edit(rt: HostRuntime) {
@@ -512,6 +515,7 @@ fn counts_after_each_edit(rt: HostRuntime) {
     play_counts(&rt, alloc, RBTree::with_ends(OwnKey));
 }
 
+// The test makes all edits in trees with and without kept ends, and after each edit the first members with a greater number must be right.
 // Promise: greatest numbers after each edit.
 #[test]
 fn greatest_after_each_edit(rt: HostRuntime) {

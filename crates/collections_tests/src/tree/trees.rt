@@ -1,4 +1,4 @@
-//! Trees of objects that are their own keys.
+//! Fixtures for tests of trees of objects that are their own keys.
 
 ghost use Rattle.std.specs.Prelude.{◌≡◌, ◌<◌, ◌≤◌, true};
 ghost use Rattle.ic_link_ops.specs.Prelude.{Place, index_of, is_placed, RepresentsPlaced};
@@ -36,7 +36,8 @@ pub(crate) struct TreeFixture {
     pub(crate) tree: RBTree<OwnKey>,
 }
 
-// Not derived: so a function that lets a fixture go has one call of this to prove, and not the drop of each part.
+// The `Drop` of a fixture is not derived. The reason is that the proof of a function that drops a fixture then covers one call of this `drop`, and not
+// the drop of each part.
 impl Drop for TreeFixture {
     fn drop(self) {
         let TreeFixture {
@@ -47,7 +48,7 @@ impl Drop for TreeFixture {
     }
 }
 
-// Inserts the object at the place of that index before all members of the tree, or after them.
+// Inserts the object at the place with this index, before all members of the tree if `in_front` is true, or else after all members.
 fn put(tree: &mut RBTree<OwnKey>, links: &mut LinkOps, index: usize, in_front: bool)
     requires few { index < 8 }
     requires covered { index < (plain_table links.old).extent.places }
@@ -62,7 +63,7 @@ fn put(tree: &mut RBTree<OwnKey>, links: &mut LinkOps, index: usize, in_front: b
     }
 }
 
-/// Inserts the objects at the first places into a new tree, each at the back, or each at the front.
+/// Inserts the objects at the first `members` places into a new tree, each at the front if `in_front` is true, or else each at the back.
 pub(crate) fn filled(links: &mut LinkOps, members: usize, in_front: bool) -> RBTree<OwnKey>
     requires { members ≤ 8 }
     ensures shown { PlainRepresentsSome links.new (root_of result) }
@@ -76,7 +77,7 @@ pub(crate) fn filled(links: &mut LinkOps, members: usize, in_front: bool) -> RBT
     tree
 }
 
-/// A tree of the objects at the first places, as many as that, in their order. These numbers are the eight objects.
+/// Returns a tree of the objects at the first `members` places, in the order of their places. The numbers are the eight objects.
 pub(crate) fn tree_over(
     rt: &impl Abort,
     alloc: Global,
@@ -99,7 +100,7 @@ pub(crate) fn tree_over(
     }
 }
 
-/// A tree of the objects at the first places, as many as that, in their order. The objects are 10 to 80.
+/// Returns a tree of the objects at the first `members` places, in the order of their places. The objects are 10 to 80.
 pub(crate) fn tree_of(rt: &impl Abort, alloc: Global, members: usize) -> TreeFixture
     requires { members ≤ 8 }
     ensures covers { (plain_table result.links).extent.places ≡ 8 }

@@ -1,15 +1,15 @@
-//! Two trees in one table of summaries: what comes into one of them, and leaves it, leaves the other one summed.
+//! Tests of two trees in one table of summaries. If a member is inserted into one tree or removed from it, all summaries of the second tree stay fresh.
 
 ghost use Rattle.std.specs.Prelude.{◌≡◌, ◌<◌, ◌≤◌, None};
 ghost use Rattle.ic_link_ops.specs.Prelude.{Place, index_of, IsCovered};
 ghost use Rattle.ic_rbtree.specs.Tree.{root_of};
 ghost use Rattle.ic_augmented.specs.Counts.{counts};
-ghost use Rattle.ic_augmented.specs.Summed.{links_of, summaries_of};
-ghost use Rattle.ic_augmented.specs.SumTables.{room_of};
+ghost use Rattle.ic_augmented.specs.Augmented.{links_of, summaries_of};
+ghost use Rattle.ic_augmented.specs.AugmentedTables.{room_of};
 
 use crate::notes::assert_words;
 use crate::tree::trees::OwnKey;
-use ic_augmented::{Counts, Summed, insert_fresh, nth, remove_fresh};
+use ic_augmented::{Augmented, Counts, insert_fresh, nth, remove_fresh};
 use ic_link_ops::LinkValues;
 use ic_link_ops::rbtree::{LinkOpsWith, RBTreeOps};
 use ic_rbtree::RBTree;
@@ -19,13 +19,14 @@ use ic_test_support::objects::reference;
 use std::alloc::Global;
 use std::process::Abort;
 
-// Inserts a member into each of two trees, and notes the first tree's member at position 0. No call renews the first tree's counts after its insert.
+// Inserts a member into each of two trees, and notes the first tree's member at position 0. No call computes the counts of the first tree again after
+// the insert into the second tree.
 fn play<L: RBTreeOps + LinkValues<u64>>(
     rt: &impl Abort,
     notes: &mut Text,
     first: &mut RBTree<OwnKey>,
     second: &mut RBTree<OwnKey>,
-    summed: &mut Summed<L, Counts>,
+    summed: &mut Augmented<L, Counts>,
 )
     requires covers { (L.table (links_of summed.old)).extent.places ≡ 4 }
     requires empty { (root_of first.old ≡ None) × (root_of second.old ≡ None) }
@@ -39,13 +40,13 @@ fn play<L: RBTreeOps + LinkValues<u64>>(
     write_places(notes, &[nth(&*first, &*summed, 0)]);
 }
 
-// Does the same, and removes the second tree's member again before it looks.
+// Inserts a member into each of two trees, and removes the second tree's member again. Then it notes the first tree's member at position 0.
 fn play_and_leave<L: RBTreeOps + LinkValues<u64>>(
     rt: &impl Abort,
     notes: &mut Text,
     first: &mut RBTree<OwnKey>,
     second: &mut RBTree<OwnKey>,
-    summed: &mut Summed<L, Counts>,
+    summed: &mut Augmented<L, Counts>,
 )
     requires covers { (L.table (links_of summed.old)).extent.places ≡ 4 }
     requires empty { (root_of first.old ≡ None) × (root_of second.old ≡ None) }
@@ -60,7 +61,7 @@ fn play_and_leave<L: RBTreeOps + LinkValues<u64>>(
     write_places(notes, &[nth(&*first, &*summed, 0)]);
 }
 
-// Counts with room for four places, of which none is fresh.
+// Returns counts with room for four places. The count of each place is still stale.
 fn four_counts(rt: &impl Abort, alloc: Global) -> Counts
     ensures room { 4 ≤ room_of result }
     ensures stale { (q : Place) → (counts result).fresh q ≡ None }
@@ -71,6 +72,7 @@ fn four_counts(rt: &impl Abort, alloc: Global) -> Counts
     summaries
 }
 
+// A member is inserted into the second tree of a table, and the first tree must still find its member by the position 0.
 // Promise: a tree stays summed while another one of its table gets a member.
 #[test]
 fn a_tree_beside_another(rt: HostRuntime) {
@@ -79,13 +81,14 @@ fn a_tree_beside_another(rt: HostRuntime) {
     let _ = links.cover(4);
     assert!(rt; links.covers() == 4);
     let summaries = four_counts(&rt, rt.alloc());
-    let mut summed = Summed { links, summaries };
+    let mut summed = Augmented { links, summaries };
     let mut first = RBTree::new(OwnKey);
     let mut second = RBTree::new(OwnKey);
     play(&rt, &mut notes, &mut first, &mut second, &mut summed);
     assert_words(&rt, &notes, "0");
 }
 
+// A member is inserted into the second tree of a table and removed again, and the first tree must still find its member by the position 0.
 // Promise: a tree stays summed while another one of its table loses a member.
 #[test]
 fn a_removal_beside_another(rt: HostRuntime) {
@@ -94,7 +97,7 @@ fn a_removal_beside_another(rt: HostRuntime) {
     let _ = links.cover(4);
     assert!(rt; links.covers() == 4);
     let summaries = four_counts(&rt, rt.alloc());
-    let mut summed = Summed { links, summaries };
+    let mut summed = Augmented { links, summaries };
     let mut first = RBTree::new(OwnKey);
     let mut second = RBTree::new(OwnKey);
     play_and_leave(&rt, &mut notes, &mut first, &mut second, &mut summed);

@@ -1,4 +1,4 @@
-//! A walk over the objects of a tree whose keys are in a range, and a walk that removes members.
+//! Tests of a walk over the objects of a tree whose keys are in a range, and of a walk that removes members.
 
 ghost use Rattle.ic_link_ops.specs.PlacedObjects.{RepresentsPlaced};
 ghost use Rattle.ic_link_ops.specs.RedBlackTree.{Represents};
@@ -15,7 +15,7 @@ use ic_test_support::notes::Text;
 use ic_test_support::tables::write_linked;
 use ic_unsafe_ref::Objects;
 
-// Notes what the walk from 20 on and below 40 gives: one at the back, one at the front, and none.
+// Notes the objects that a walk over the keys from 20 up to below 40 returns: one at the back, one at the front, and then none at the back.
 fn write_range<'a, L: RBTreeOps>(
     notes: &mut Text,
     tree: &RBTree<OwnKey>,
@@ -31,8 +31,8 @@ fn write_range<'a, L: RBTreeOps>(
     notes.add(value(walk.next_back()), " ");
 }
 
-// Rows for a walk that removes members: how many there are, whether it removes the last one after the first, and whether it is then finished or
-// dropped.
+// The rows for a walk that removes members. A row has the number of members, whether the walk also removes the last member, and whether the walk is
+// then finished or dropped.
 // Promise: the tree iterator, a walk of seven from both ends, a dropped walk of a tree, a finished walk of a tree.
 const TAKEN: &[(usize, bool, bool)] = &[
     (7, true, true),
@@ -42,7 +42,8 @@ const TAKEN: &[(usize, bool, bool)] = &[
     (4, false, false),
 ];
 
-// Removes the first member, and the last one too if the row says so, notes them and what is then linked, and finishes the walk or drops it.
+// Removes the first member, and also the last one if `from_back` is true, by a walk. Notes the removed members and the places that are then linked.
+// Then it finishes the walk if `finishes` is true, or drops it.
 fn write_taken(notes: &mut Text, fixture: &mut TreeFixture, from_back: bool, finishes: bool)
     requires shown { PlainRepresentsSome fixture.old.links (root_of fixture.old.tree) }
 {

@@ -1,10 +1,9 @@
-//! Splits a tree at a hole. On the way up from the hole, each member and its other subtree are joined to one of the two
-//! parts.
+//! Splits a tree at a hole, which is a missing child. On the path up from the hole, each member and its other subtree are joined to one of the two parts.
 //!
-//! Each turn of the loop passes the black heights on to the next. A join takes time proportional to the difference between the heights
-//! of a part and of the subtree that is joined to it. Before the join the part is at most one higher than the subtree, and after it at
-//! least as high. So all joins of a part together take time proportional to its final height, and a constant for each turn: O(log n), as
-//! in Tarjan, Data Structures and Network Algorithms, chapter 4.
+//! Each turn of the loop passes the black heights on to the next turn. A join takes time proportional to the difference between the heights of a part and
+//! of the subtree that is joined to it. Before the join the part is at most one higher than the subtree, and after the join it is at least as high.
+//! Therefore all joins of a part together take time proportional to the final height of the part, and a constant for each turn. This is O(log n), as in
+//! Tarjan, Data Structures and Network Algorithms, chapter 4.
 //!
 //! ```text
 //! let (front, back) = cut_at(nodes, parent, side); // the roots of both parts
@@ -48,8 +47,8 @@ fn detach<N: NodeStore>(links: &mut N, child: Option<Place>, height: u32) -> Mea
     }
 }
 
-// Cuts off the member above the hole with its other subtree, which has this black height, and joins both to the part on their side.
-// The hole is then at the member's old position.
+// Cuts off the member above the hole with its other subtree, which has the black height `height`. Joins both to the part on their side. The hole is then at
+// the member's old position.
 fn cut_off<N: NodeStore>(
     links: &mut N,
     place: Place,
@@ -70,7 +69,7 @@ fn cut_off<N: NodeStore>(
     }
 }
 
-// Splits a tree at a hole, and returns the roots of the part before it and of the part after it.
+// Splits a tree at a hole, and returns the roots of the part before the hole and of the part after the hole.
 pub(crate) fn cut_at<N: NodeStore>(
     links: &mut N,
     parent: Option<Place>,

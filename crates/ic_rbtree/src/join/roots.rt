@@ -31,8 +31,9 @@ pub(crate) struct Measured {
     pub(crate) height: u32,
 }
 
-// Inserts the linked place at the position of `near`, on this side of `parent`, with `near` below it, and with `far`, a tree of its own,
-// as its child on this side. Repairs the colors, and returns whether each path down has one black member more.
+// Inserts the linked place `place` at the position of `near`, on the side `side` of `parent`. `near` becomes the child of `place` on the other side. `far`,
+// which was a tree of its own, becomes the child of `place` on the side `side`. The function repairs the colors, and returns whether each path down has one
+// black member more.
 pub(crate) fn graft<N: NodeStore>(
     links: &mut N,
     root: &mut PlaceWord,
@@ -65,7 +66,7 @@ pub(crate) fn graft<N: NodeStore>(
     }
 }
 
-// 1 for a black member.
+// Returns 1 for a black member, and 0 for a red member.
 pub(crate) fn weight_of<N: NodeStore>(links: &N, place: Place) -> u32
     requires { IsNode N.node (N.table links.now) place }
     ensures { result ≡ weight (node_at N.node (N.table links.now) place).color }
@@ -76,7 +77,7 @@ pub(crate) fn weight_of<N: NodeStore>(links: &N, place: Place) -> u32
     }
 }
 
-// The number of black members on each path down.
+// Returns the number of black members on each path down in the tree with this root.
 pub(crate) fn black_height<N: NodeStore>(links: &N, root: Option<Place>) -> u32
     requires { (t : Tree) × IsRootOf N.node (N.table links.now) root t × (height t < turns) }
     ensures { (t : Tree) → IsRootOf N.node (N.table links.now) root t → height t < turns → result ≡ blacks t }
@@ -93,8 +94,8 @@ pub(crate) fn black_height<N: NodeStore>(links: &N, root: Option<Place>) -> u32
     count
 }
 
-// Goes down along this side to the first black subtree, or missing child, that has `want` black members on each path down; from the root
-// there are `count`. Returns that subtree's root and the member above it.
+// Goes down along this side to the first subtree whose root is black or missing, and which has `want` black members on each path down. The whole tree has
+// `count` on each path. Returns the root of the subtree and the member above the subtree.
 pub(crate) fn descend_spine<N: NodeStore>(
     links: &N,
     root: Option<Place>,
@@ -125,7 +126,8 @@ pub(crate) fn descend_spine<N: NodeStore>(
     (at, above)
 }
 
-// Joins two trees with a linked place between them. The first tree is at least as high, and is on the other side of the place.
+// Joins two trees with a linked place between them. The first tree is at least as high as the second tree. The second tree is on the side `side` of the
+// place.
 pub(crate) fn join_higher<N: NodeStore>(
     links: &mut N,
     tall: Measured,

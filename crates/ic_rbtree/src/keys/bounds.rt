@@ -1,4 +1,4 @@
-//! The first and the last member that meet a bound.
+//! Searches for the first and the last member that meet a bound.
 //!
 //! ```text
 //! let from = tree.lower_bound(&links, &objects, Bound::Included(&5)); // the first with a key of 5 or more
@@ -68,7 +68,8 @@ impl<A: KeyAdapter, E: TreeHead> RBTree<A, E> {
         self.lower_bound_by(links, objects, &mut probe_in_bound(self.adapter, bound))
     }
 
-    /// A cursor that edits, on the first member whose key meets the bound, null if there is none. As `lower_bound`. O(log n).
+    /// A cursor that edits, on the first member whose key meets the bound, null if there is none. The call finds the member as `lower_bound` does. O(log
+    /// n).
     #[inline]
     pub fn lower_bound_mut<'a, L: RBTreeOps, O: Values<A::Value>>(
         &'a mut self,
@@ -87,7 +88,8 @@ impl<A: KeyAdapter, E: TreeHead> RBTree<A, E> {
         CursorMut::new(self, links, current)
     }
 
-    /// A cursor that owns the tree, on the first member whose key meets the bound, null if there is none. As `lower_bound`. O(log n).
+    /// A cursor that owns the tree, on the first member whose key meets the bound, null if there is none. The call finds the member as `lower_bound` does.
+    /// O(log n).
     #[inline]
     pub fn lower_bound_owning<L: RBTreeOps, O: Values<A::Value>>(
         self,
@@ -150,7 +152,7 @@ impl<A: KeyAdapter, E: TreeHead> RBTree<A, E> {
         self.upper_bound_by(links, objects, &mut probe_in_bound(self.adapter, bound))
     }
 
-    /// A cursor that edits, on the last member whose key meets the bound, null if there is none. As `upper_bound`. O(log n).
+    /// A cursor that edits, on the last member whose key meets the bound, null if there is none. The call finds the member as `upper_bound` does. O(log n).
     #[inline]
     pub fn upper_bound_mut<'a, L: RBTreeOps, O: Values<A::Value>>(
         &'a mut self,
@@ -169,7 +171,8 @@ impl<A: KeyAdapter, E: TreeHead> RBTree<A, E> {
         CursorMut::new(self, links, current)
     }
 
-    /// A cursor that owns the tree, on the last member whose key meets the bound, null if there is none. As `upper_bound`. O(log n).
+    /// A cursor that owns the tree, on the last member whose key meets the bound, null if there is none. The call finds the member as `upper_bound` does.
+    /// O(log n).
     #[inline]
     pub fn upper_bound_owning<L: RBTreeOps, O: Values<A::Value>>(
         self,

@@ -16,12 +16,12 @@ use ic_link_ops::{PlaceWord, Side};
 use ic_unsafe_ref::{Place, Values};
 use std::cmp::Ordering;
 
-/// The state of a search from the root: the gap between two members that it has reached.
+/// The state of a search from the root: the gap between two members that the search has reached.
 #[derive(Drop)]
 pub struct Descent {
     /// The member below which the gap is, `None` in an empty tree.
     pub parent: PlaceWord,
-    /// The side of that member.
+    /// The side of the member `parent` on which the gap is.
     pub side: Side,
     /// The member before the gap.
     pub front: PlaceWord,
@@ -31,7 +31,7 @@ pub struct Descent {
     pub(crate) equal: PlaceWord,
 }
 
-// Whether a descent goes left at a member that compares so. At an equal member it goes to the side `equals`.
+// Whether a descent goes left at a member if the searched key compares with the member as `order`. At an equal member it goes to the side `equals`.
 #[inline]
 fn goes_left(order: Ordering, equals: Side) -> bool
     ensures { result ≡ goes_left equals order }
@@ -55,7 +55,7 @@ fn compare_at<V, P: Probe<V>, O: Values<V>>(objects: &O, probe: &mut P, place: P
 }
 
 impl Descent {
-    /// Whether the member after the gap compared equal. One comparison of places. O(1).
+    /// Whether the member after the gap compared equal. The call compares only places. O(1).
     #[inline]
     pub fn is_equal(&self) -> bool
         ensures { result ≡ is_equal self.now }
@@ -66,7 +66,7 @@ impl Descent {
         }
     }
 
-    // The state at the root.
+    // The state of a descent at the root, before it has compared any member.
     #[inline]
     pub(crate) fn new() -> Descent
         ensures { result ≡ at_root }
@@ -80,9 +80,10 @@ impl Descent {
         }
     }
 
-    // Compares the searched key with a member, and goes past it. Returns whether it went left.
+    // Compares the searched key with the member at `place`, and goes down to the left or to the right of this member. Returns whether the descent went
+    // left.
     #[inline]
-    pub(crate) fn look<V, P: Probe<V>, O: Values<V>>(
+    pub(crate) fn compare<V, P: Probe<V>, O: Values<V>>(
         &mut self,
         objects: &O,
         probe: &mut P,
@@ -102,7 +103,7 @@ impl Descent {
         left
     }
 
-    // Goes past the member to one side of it.
+    // Updates the state as the descent goes down from the member at `place`: to the left if `left` is true, otherwise to the right.
     #[inline]
     fn pass(&mut self, place: Place, left: bool, equal: bool)
         ensures { self.new ≡ passed self.old place left equal }
@@ -121,7 +122,7 @@ impl Descent {
     }
 }
 
-// Returns one of two places or none. It selects among the words, which takes no branch.
+// Returns `left` if `takes_left` is true, otherwise `right`. The function selects one of two link words, which takes no branch of the processor.
 #[inline]
 fn pick(takes_left: bool, left: Option<Place>, right: Option<Place>) -> Option<Place>
     ensures { result ≡ cond takes_left left right }
@@ -142,12 +143,12 @@ fn are_some(left: Option<Place>, right: Option<Place>) -> bool
     left.is_some() && right.is_some()
 }
 
-// Goes down from the root to a gap: to the left of members that are greater than the searched key, to the right of
-// those that are less, and past equal ones to the side `equals`.
+// Goes down from the root to a gap. The descent goes left at members that are greater than the searched key, right at members that are less, and to the
+// side `equals` at members that are equal.
 //
-// The loop loads both children and selects one, so the processor has no branch to predict; for random keys it would mispredict half
-// of them. The test of both after the loop never holds. It makes the compiler keep both loads, which it would otherwise merge into
-// one load from a selected address.
+// The loop loads both children and selects one, so the processor has no branch to predict. For random keys the processor would mispredict half of the
+// branches. The test whether both children exist never holds if the selected child is missing. This test makes the compiler keep both loads, which the
+// compiler would otherwise merge into one load from a selected address.
 #[inline]
 pub(crate) fn descend<L: RBTreeOps, V, P: Probe<V>, O: Values<V>>(
     links: &L,
@@ -168,7 +169,7 @@ pub(crate) fn descend<L: RBTreeOps, V, P: Probe<V>, O: Values<V>>(
     while let Some(place) = at {
         let left = links.left(place);
         let right = links.right(place);
-        let goes_left = descent.look(objects, probe, place, equals);
+        let goes_left = descent.compare(objects, probe, place, equals);
         let Some(next) = pick(goes_left, left, right) else {
             if are_some(left, right) {
                 return Descent::new();

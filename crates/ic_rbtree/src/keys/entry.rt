@@ -1,4 +1,4 @@
-//! The member with a key, or the gap where it would be inserted.
+//! An entry is the member with a key, or the gap where the key would be inserted.
 //!
 //! ```text
 //! let cursor = tree.entry(&mut links, &objects, &5).or_insert_with(|| object)?;
@@ -45,16 +45,16 @@ impl<A, L, E> Drop for InsertCursor<'_, A, L, E> {
     }
 }
 
-/// The error of an insert that was refused since the object is linked. It has the gap, as it was, and the object.
+/// The error of an insert that was refused because the object is linked. The error has the gap, as it was, and the object.
 #[derive(Drop)]
 pub struct RefusedInsert<'a, A: KeyAdapter, L, E = Root> {
-    /// The gap. The tree and the table are as they were.
+    /// The gap at which the insert was refused. The tree and the table are as they were.
     pub gap: InsertCursor<'a, A, L, E>,
     /// The object that was refused.
     pub object: UnsafeRef<A::Value>,
 }
 
-/// It prints the place of the object.
+/// Prints the place of the refused object.
 impl<A: KeyAdapter, L, E> fmt::Debug for RefusedInsert<'_, A, L, E> {
     fn fmt<W: fmt::Write>(&self, f: &mut fmt::Formatter<W>) -> fmt::Result {
         f.debug_tuple("RefusedInsert").field(&self.object).finish()
@@ -71,12 +71,12 @@ impl<A: KeyAdapter, L, E> fmt::Display for RefusedInsert<'_, A, L, E> {
 
 impl<A: KeyAdapter, L, E> Error for RefusedInsert<'_, A, L, E> {}
 
-/// The result of `entry`: a cursor on the first member with the key, or the gap where it would be inserted.
+/// The result of `entry`: a cursor on the first member with the key, or the gap where the key would be inserted.
 #[derive(Drop)]
 pub enum Entry<'a, A: KeyAdapter, L, E: TreeHead = Root> {
-    /// A member has the key.
+    /// A member has the key, and the cursor is on the first member with the key.
     Occupied(CursorMut<'a, A, L, E>),
-    /// No member that was compared has it.
+    /// No member that the search compared has the key.
     Vacant(InsertCursor<'a, A, L, E>),
 }
 
@@ -118,7 +118,7 @@ impl<A: KeyAdapter, E: TreeHead> RBTree<A, E> {
         })
     }
 
-    /// The first member with this key, or the gap where it would be inserted: `entry_by` with a `KeyProbe`. O(log n).
+    /// The first member with this key, or the gap where the key would be inserted: `entry_by` with a `KeyProbe`. O(log n).
     pub fn entry<'a, L: RBTreeOps, O: Values<A::Value>>(
         &'a mut self,
         links: &'a mut L,
@@ -144,8 +144,8 @@ impl<A: KeyAdapter, E: TreeHead> RBTree<A, E> {
 impl<'a, A: KeyAdapter, L: RBTreeOps, E: TreeHead> InsertCursor<'a, A, L, E> {
     /// Inserts the object at the gap, whatever its key is, unless its link is refused. Returns a cursor on the object.
     ///
-    /// It requires that the object's place is covered. If the link is refused, the object and the gap are returned, and the tree and
-    /// the table are as they were. O(log n) for the repair. It compares no keys.
+    /// It requires that the object's place is covered. If the link is refused, the object and the gap are returned, and the tree and the table are as they
+    /// were. The repair of the tree takes O(log n). The call compares no keys.
     pub fn insert(
         self,
         object: UnsafeRef<A::Value>,
@@ -177,8 +177,8 @@ impl<'a, A: KeyAdapter, L: RBTreeOps, E: TreeHead> InsertCursor<'a, A, L, E> {
 impl<'a, A: KeyAdapter, L: RBTreeOps, E: TreeHead> Entry<'a, A, L, E> {
     /// Returns the cursor on the member that has the key, or inserts the object at the gap and returns a cursor on it.
     ///
-    /// If the entry is vacant, it requires that the object's place is covered; if the link is refused, the object and the gap are
-    /// returned, and the tree and the table are as they were. If the entry is occupied, nothing is linked. O(log n).
+    /// If the entry is vacant, the call requires that the object's place is covered. If the link is refused, the object and the gap are returned, and the
+    /// tree and the table are as they were. If the entry is occupied, nothing is linked. O(log n).
     pub fn or_insert(
         self,
         object: UnsafeRef<A::Value>,

@@ -1,4 +1,4 @@
-//! The first member with a key.
+//! Searches for the first member with a key.
 //!
 //! ```text
 //! let cursor = tree.find(&links, &objects, &5); // on the first member of key 5, null if there is none
@@ -24,9 +24,9 @@ impl<A: KeyAdapter, E: TreeHead> RBTree<A, E> {
 
     /// A cursor on the first member that compares equal, null if there is none.
     ///
-    /// It requires that all members are placed, and that the probe's count is at most `u64::MAX - 66`. It goes left at a member
-    /// that is greater or equal, and right at one that is less. If the members are not sorted for the probe, it may miss equal
-    /// ones. O(log n): v comparisons in a tree of n members, with `2^v <= (n + 1)^2`, each with one look-up of an object.
+    /// It requires that all members are placed, and that the probe's count is at most `u64::MAX - 66`. The search goes left at a member that is greater
+    /// than the searched key or equal to it, and right at a member that is less. If the members are not sorted for the probe, the search may miss equal
+    /// members. O(log n): v comparisons in a tree of n members, with `2^v <= (n + 1)^2`, each with one look-up of an object.
     #[inline]
     pub fn find_by<'a, L: RBTreeOps, P: Probe<A::Value>, O: Values<A::Value>>(
         &'a self,
@@ -65,7 +65,7 @@ impl<A: KeyAdapter, E: TreeHead> RBTree<A, E> {
         self.find_by(links, objects, &mut KeyProbe::new(self.adapter, key))
     }
 
-    /// A cursor that edits, on the first member of this key, null if there is none. As `find`. O(log n).
+    /// A cursor that edits, on the first member of this key, null if there is none. The call finds the member as `find` does. O(log n).
     #[inline]
     pub fn find_mut<'a, L: RBTreeOps, O: Values<A::Value>>(
         &'a mut self,
@@ -84,7 +84,7 @@ impl<A: KeyAdapter, E: TreeHead> RBTree<A, E> {
         CursorMut::new(self, links, current)
     }
 
-    /// A cursor that owns the tree, on the first member of this key, null if there is none. As `find`. O(log n).
+    /// A cursor that owns the tree, on the first member of this key, null if there is none. The call finds the member as `find` does. O(log n).
     #[inline]
     pub fn find_owning<L: RBTreeOps, O: Values<A::Value>>(
         self,

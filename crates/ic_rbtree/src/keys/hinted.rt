@@ -1,4 +1,4 @@
-//! Inserts that begin at a member before which the object probably goes.
+//! Inserts with a hint, which first try the gap before a member before which the object probably goes.
 //!
 //! ```text
 //! timers.insert_with_hint(&mut links, &objects, &next, timer)?; // two looks where it goes before `next`
@@ -13,15 +13,15 @@ ghost use Rattle.ic_rbtree.specs.Ordered.{InsertsInOrder};
 ghost use Rattle.ic_rbtree.specs.Tree.{head_of, adapter_of};
 
 use crate::head::TreeHead;
-use crate::keys::hole::hole_near;
+use crate::keys::insert_pos::insert_pos_near;
 use crate::{KeyAdapter, KeyProbe, Probe, RBTree};
 use ic_link_ops::rbtree::RBTreeOps;
 use ic_link_ops::{AlreadyLinked, LinkOps};
 use ic_unsafe_ref::{UnsafeRef, Values};
 
 impl<A: KeyAdapter, E: TreeHead> RBTree<A, E> {
-    /// Inserts the object where it belongs by the probe's order, with a hint: the member before which it probably goes. It first
-    /// compares that member and the one before it. If the object does not belong between them, it descends from the root.
+    /// Inserts the object where it belongs by the probe's order, with a hint: the member before which it probably goes. The insert first compares the hint
+    /// and the member before the hint. If the object does not belong between these two, the insert descends from the root.
     ///
     /// It requires that the object's place is covered, that all members are placed, that the hint is a member, and that the probe's count is
     /// at most `u64::MAX - 68`. If the link is refused, no key is compared, the object is returned, and the tree and its links are as they
@@ -55,13 +55,13 @@ impl<A: KeyAdapter, E: TreeHead> RBTree<A, E> {
             return Err(AlreadyLinked(object));
         }
         let root = self.head.root();
-        let (parent, side) = hole_near(&*links, root, hint.place(), objects, probe);
+        let (parent, side) = insert_pos_near(&*links, root, hint.place(), objects, probe);
         self.head.attach(links, parent, side, place);
         Ok(())
     }
 
-    /// Inserts the object where its own key belongs, after members with the same key, with a hint: `insert_with_hint_by` with a
-    /// `KeyProbe`. It requires that the object is placed, too. O(log n), and at most two comparisons if the hint is right.
+    /// Inserts the object where its own key belongs, after members with the same key, with a hint: `insert_with_hint_by` with a `KeyProbe`. The call also
+    /// requires that the object is placed. O(log n), and at most two comparisons if the hint is right.
     #[inline]
     pub fn insert_with_hint<L: RBTreeOps, O: Values<A::Value>>(
         &mut self,

@@ -13,7 +13,7 @@ ghost use Rattle.ic_rbtree.specs.Ordered.{InsertsInOrder};
 ghost use Rattle.ic_rbtree.specs.Tree.{head_of, adapter_of};
 
 use crate::head::TreeHead;
-use crate::keys::hole::hole_for;
+use crate::keys::insert_pos::insert_pos_for;
 use crate::keys::probe::KeyFirst;
 use crate::{KeyAdapter, Probe, RBTree};
 use ic_link_ops::rbtree::RBTreeOps;
@@ -24,9 +24,9 @@ impl<A: KeyAdapter, E: TreeHead> RBTree<A, E> {
     /// Inserts the object where it belongs by the probe's order, after members that compare equal, unless its link is
     /// refused: [`insert_by`](RBTree::insert_by) for a table that stores the values.
     ///
-    /// It requires that the object's place is covered, that the table represents the tree, and that the probe's count is at most `u64::MAX - 66`,
-    /// or one less if the tree stores its ends. If the link is refused, no key is compared, the object is returned, and the tree and its links are
-    /// as they were. O(log n): v comparisons in a tree of n members, with `2^v <= (n + 1)^2`.
+    /// It requires that the object's place is covered, and that the table represents the tree. The probe's count must be at most `u64::MAX - 66`, or one
+    /// less if the tree stores its ends. If the link is refused, no key is compared, the object is returned, and the tree and its links are as they were.
+    /// O(log n): v comparisons in a tree of n members, with `2^v <= (n + 1)^2`.
     #[inline]
     pub fn insert_keyed_by<L: RBTreeOps + LinkValues<A::Value>, P: Probe<A::Value>>(
         &mut self,
@@ -54,7 +54,7 @@ impl<A: KeyAdapter, E: TreeHead> RBTree<A, E> {
             return Err(AlreadyLinked(object));
         }
         let own = &*links;
-        let (parent, side) = hole_for(own, &self.head, own, probe);
+        let (parent, side) = insert_pos_for(own, &self.head, own, probe);
         self.head.attach(links, parent, side, place);
         Ok(())
     }
@@ -88,7 +88,7 @@ impl<A: KeyAdapter, E: TreeHead> RBTree<A, E> {
         }
         let own = &*links;
         let mut probe = KeyFirst::new(self.adapter, self.adapter.get_key(own.value(place)));
-        let (parent, side) = hole_for(own, &self.head, own, &mut probe);
+        let (parent, side) = insert_pos_for(own, &self.head, own, &mut probe);
         self.head.attach(links, parent, side, place);
         Ok(())
     }

@@ -1,4 +1,4 @@
-//! Inserts where the key belongs.
+//! Calls that insert an object where its key belongs.
 //!
 //! ```text
 //! tree.insert(&mut links, &objects, object)?; // after the members whose keys are not greater
@@ -23,7 +23,7 @@ use ic_unsafe_ref::{Place, UnsafeRef, Values};
 impl<A: KeyAdapter, E: TreeHead, L: RBTreeOps> Ordered<L> for RBTree<A, E> {
     ghost order_of = { λ tree objects object. compared (own_order A.Key.cmp (A.key_of (adapter_of tree)) objects object) objects };
 
-    // O(log n): at most 66 comparisons, none if the link is refused.
+    // The insert takes O(log n): it makes at most 66 comparisons, and none if the link is refused.
     #[inline]
     fn insert_in_order<O: Values<A::Value>>(
         &mut self,
@@ -43,10 +43,10 @@ impl<A: KeyAdapter, E: TreeHead> RBTree<A, E> {
     /// Inserts the object where it belongs by the probe's order, after members that compare equal, unless its link is refused. A tree that
     /// stores its ends compares the last member first, and makes no descent if the object goes after it.
     ///
-    /// It requires that the object's place is covered, that all members are placed, and that the probe's count is at most `u64::MAX - 66`, or one
-    /// less if the tree stores its ends. If the link is refused, no key is compared, the object is returned, and the tree and its links are as
-    /// they were. The Rust crate returns a cursor on the object; here you get it by one more call, `cursor_mut_from_ptr`. O(log n): v comparisons
-    /// in a tree of n members, with `2^v <= (n + 1)^2`.
+    /// It requires that the object's place is covered, and that all members are placed. The probe's count must be at most `u64::MAX - 66`, or one less if
+    /// the tree stores its ends. If the link is refused, no key is compared, the object is returned, and the tree and its links are as they were. The
+    /// insert of the Rust crate `intrusive-collections` returns a cursor on the object. Here you get this cursor by one more call, `cursor_mut_from_ptr`.
+    /// O(log n): v comparisons in a tree of n members, with `2^v <= (n + 1)^2`.
     #[inline]
     pub fn insert_by<L: RBTreeOps, P: Probe<A::Value>, O: Values<A::Value>>(
         &mut self,
@@ -75,8 +75,8 @@ impl<A: KeyAdapter, E: TreeHead> RBTree<A, E> {
         Ok(())
     }
 
-    /// Inserts the object where its own key belongs, after members with the same key, unless its link is refused: `insert_by`
-    /// with a `KeyProbe`. It requires that the object is placed, too. O(log n).
+    /// Inserts the object where its own key belongs, after members with the same key, unless its link is refused: `insert_by` with a `KeyProbe`. The call
+    /// also requires that the object is placed. O(log n).
     #[inline]
     pub fn insert<L: RBTreeOps, O: Values<A::Value>>(
         &mut self,

@@ -17,17 +17,18 @@ use std::cmp::Ordering;
 
 /// A search key of any form, and how it compares with a value.
 ///
-/// A descent in a tree calls `compare` once for each member that it passes. Such a call is a look.
+/// A descent in a tree calls `compare` once for each member that the descent passes. A look is one call of `compare`.
 pub trait Probe<V> {
-    // How the searched key compares with a value: `Less` if the searched key is less than that of the value.
+    // How the searched key compares with a value: `Less` if the searched key is less than the key of the value.
     ghost order: { Self → V → Ordering };
 
-    // The number of looks that the probe has made.
+    // The number of looks (comparisons) that the probe has made.
     ghost count: { Self → ℕ };
 
     /// Compares the searched key with `value`: `Less` if the key is less.
     ///
-    /// It requires that the count of looks is below `u64::MAX`. The probe counts one look more, and compares as before.
+    /// It requires that the probe has counted less than `u64::MAX` looks, which are its comparisons. The probe counts one look more, and later compares as
+    /// it did before.
     fn compare(&mut self, value: &V) -> Ordering
         requires room { count self.old < 18446744073709551615 }
         ensures answer { result ≡ order self.old value.now }
@@ -35,7 +36,7 @@ pub trait Probe<V> {
         ensures same { order self.new ≡ order self.old };
 }
 
-/// A search for a key, by the adapter of a tree.
+/// A search for a key, which finds the keys of objects by the adapter of a tree.
 #[derive(Drop)]
 pub struct KeyProbe<'k, A: KeyAdapter>
 where
@@ -47,7 +48,7 @@ where
 }
 
 impl<'k, A: KeyAdapter> KeyProbe<'k, A> {
-    /// A search for `key` that has made no look. O(1).
+    /// A search for `key` that has made no look (comparison) yet. O(1).
     #[inline]
     pub fn new(adapter: A, key: &'k A::Key) -> KeyProbe<'k, A>
         ensures adapter { adapter_of result ≡ adapter }
@@ -61,7 +62,7 @@ impl<'k, A: KeyAdapter> KeyProbe<'k, A> {
         }
     }
 
-    /// The number of looks that it has made: how many objects it was compared with. O(1).
+    /// The number of looks that the search has made, which is the number of objects with which its key was compared. O(1).
     #[inline]
     pub fn looks(&self) -> u64
         ensures { result ≡ looks_of self.now }
@@ -78,14 +79,14 @@ impl<A: KeyAdapter> Probe<A::Value> for KeyProbe<'_, A> {
     #[inline]
     fn compare(&mut self, value: &A::Value) -> Ordering {
         self.looks += 1;
-        // The value's key is the first operand, so a search chooses its way by one flag of the processor: `v < k`, and not `k
-        // > v`.
+        // The value's key is the first operand. For this reason a search chooses the left or the right child by one flag of the processor, for `v < k` and
+        // not for `k > v`.
         self.adapter.get_key(value).cmp(self.key).reverse()
     }
 }
 
-/// The same search, for an insert. An insert goes left if its key is less, so its key is the first operand, and one flag
-/// decides: `k < v`.
+/// A search for a key in the form that an insert uses. An insert goes left if its key is less. The key of the insert is the first operand, so that one flag
+/// of the processor decides, for `k < v`.
 #[derive(Drop)]
 pub(crate) struct KeyFirst<'k, A: KeyAdapter>
 where
@@ -119,7 +120,7 @@ impl<A: KeyAdapter> Probe<A::Value> for KeyFirst<'_, A> {
     }
 }
 
-// The same bound, with a search for its key that has made no look.
+// Returns a bound whose end is a new search for the key at the end of `bound`. The search has made no comparison yet.
 #[inline]
 pub(crate) fn probe_in_bound<'k, A: KeyAdapter>(
     adapter: A,

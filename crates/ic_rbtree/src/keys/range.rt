@@ -1,4 +1,4 @@
-//! The members between two bounds.
+//! Walks over the members between two bounds.
 //!
 //! ```text
 //! for task in tree.range(&links, &objects, Bound::Included(&5), Bound::Excluded(&9)) {
@@ -24,7 +24,7 @@ use ic_unsafe_ref::{Place, Values};
 use std::marker::PhantomData;
 
 impl<A: KeyAdapter, E: TreeHead> RBTree<A, E> {
-    // Whether both positions are on members, and the key at the second is at least that at the first. No look is counted.
+    // Whether both positions are on members, and the key at `high` is at least the key at `low`. The comparison is not counted as a look.
     fn runs_up<O: Values<A::Value>>(
         &self,
         objects: &O,
@@ -46,8 +46,8 @@ impl<A: KeyAdapter, E: TreeHead> RBTree<A, E> {
         last.cmp(first).is_ge()
     }
 
-    /// A walk over the objects between two bounds, from the lower border of `min` to the upper border of `max`. It is empty if
-    /// the key at the upper border is less than that at the lower one.
+    /// A walk over the objects between two bounds, from the lower border of `min` to the upper border of `max`. The walk is empty if the key at the upper
+    /// border is less than the key at the lower border.
     ///
     /// It requires that all members are placed, that both probes have the tree's adapter, and that their counts are at most
     /// `u64::MAX - 66`. O(log n): two descents, each with v comparisons in a tree of n members, with `2^v <= (n + 1)^2`.

@@ -1,4 +1,4 @@
-//! The members at a border of a search, for all cursors.
+//! Searches that return a member at the border of a key or a bound. The calls for all kinds of cursors use these searches.
 
 ghost use Rattle.std.specs.Prelude.{◌≡◌, List};
 ghost use Rattle.ic_link_ops.specs.Prelude.{Place, first, last, RepresentsPlaced};
@@ -17,7 +17,7 @@ use ic_link_ops::{LinkOps, PlaceWord, Side};
 use ic_unsafe_ref::Values;
 
 impl<A: KeyAdapter, E: TreeHead> RBTree<A, E> {
-    // The first member that compares equal.
+    // Returns the first member that is equal to the searched key, `None` if there is none.
     #[inline]
     pub(crate) fn first_equal<L: RBTreeOps, P: Probe<A::Value>, O: Values<A::Value>>(
         &self,
@@ -40,7 +40,7 @@ impl<A: KeyAdapter, E: TreeHead> RBTree<A, E> {
         descent.back
     }
 
-    // The member after the gap that a descent for the lower bound reaches. It meets the bound.
+    // Returns the member after the gap that a descent for the lower bound reaches. This member meets the bound.
     #[inline]
     pub(crate) fn lower<L: RBTreeOps, P: Probe<A::Value>, O: Values<A::Value>>(
         &self,
@@ -65,7 +65,7 @@ impl<A: KeyAdapter, E: TreeHead> RBTree<A, E> {
         }
     }
 
-    // The member before the gap that a descent for the upper bound reaches. It meets the bound.
+    // Returns the member before the gap that a descent for the upper bound reaches. This member meets the bound.
     #[inline]
     pub(crate) fn upper<L: RBTreeOps, P: Probe<A::Value>, O: Values<A::Value>>(
         &self,

@@ -28,8 +28,8 @@ pub(crate) fn recolor<N: NodeStore>(links: &mut N, parent: Place, uncle: Place, 
     set_color(links, grand, color);
 }
 
-// Case 2, the place is an inner grandchild: it is rotated above its parent, so its parent is an outer grandchild. Returns the
-// upper one of the two.
+// Case 2, the place is an inner grandchild: it is rotated above its parent, so its parent is an outer grandchild. Returns the upper one of the place and
+// its old parent.
 #[inline(always)]
 pub(crate) fn rotate_inner_grandchild<N: NodeStore>(
     links: &mut N,
@@ -51,8 +51,8 @@ pub(crate) fn rotate_inner_grandchild<N: NodeStore>(
     place
 }
 
-// One step of the repair if `parent` is on this side of `grand`. Returns the place of the next step, `None` if this was the
-// last. Case 3, the red child of `upper` is an outer grandchild: `upper` is rotated above `grand`.
+// One step of the repair if `parent` is on this side of `grand`. Returns the place of the next step, `None` if this step was the last. Case 3, the red
+// child of `upper` is an outer grandchild: `upper` is rotated above `grand`.
 #[inline(always)]
 pub(crate) fn fix_red_pair_on<N: NodeStore>(
     links: &mut N,
@@ -79,8 +79,7 @@ pub(crate) fn fix_red_pair_on<N: NodeStore>(
     None
 }
 
-// The same step on the side on which `parent` is. Each side has compiled code of its own, which does not test the side
-// again.
+// One step of the repair, for the side of `grand` on which `parent` is. Each side has compiled code of its own, which does not test the side again.
 #[inline(always)]
 pub(crate) fn fix_red_pair<N: NodeStore>(
     links: &mut N,
@@ -100,8 +99,7 @@ pub(crate) fn fix_red_pair<N: NodeStore>(
     }
 }
 
-// One step of the repair at a red place below this parent, which may be black. Returns the place of the next step, `None` if this
-// was the last.
+// One step of the repair at a red place below this parent, which may be black. Returns the place of the next step, `None` if this step was the last.
 #[inline(always)]
 pub(crate) fn fix_red_parent<N: NodeStore>(
     links: &mut N,

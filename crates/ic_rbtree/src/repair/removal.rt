@@ -1,5 +1,6 @@
-//! Removes a member from a tree, and repairs the colors. The cases are numbered as in RB-DELETE-FIXUP of Cormen, Leiserson,
-//! Rivest and Stein. The children of the short subtree's sibling are its nephews; the near one is on the short side.
+//! Removes a member from a tree, and repairs the colors. The cases are numbered as in RB-DELETE-FIXUP of Cormen, Leiserson, Rivest and Stein. The children
+//! of the short subtree's sibling are the nephews of the short subtree. The near nephew is on the side of the short subtree, and the far nephew is on the
+//! opposite side.
 
 ghost use Rattle.std.specs.Prelude.{Option, Some, [], ◌∷◌};
 ghost use Rattle.ic_unsafe_ref.specs.declared.place.Place.{Place};
@@ -17,8 +18,7 @@ use crate::repair::writers::{change_child, rotate, set_color, set_parent_and_col
 use ic_link_ops::{Color, PlaceWord, Side};
 use ic_unsafe_ref::Place;
 
-// Case 1, the sibling is red: it is rotated up, and one of its children is the sibling then. Returns the sibling, which is
-// black.
+// Case 1, the sibling is red: the sibling is rotated up, and one of its children becomes the new sibling. Returns the new sibling, which is black.
 #[inline(always)]
 pub(crate) fn blacken_sibling<N: NodeStore>(
     links: &mut N,
@@ -40,8 +40,7 @@ pub(crate) fn blacken_sibling<N: NodeStore>(
     child(&*links, place, far)
 }
 
-// Case 3, the far nephew is black and the near one red: the near one is rotated above the sibling. Returns the sibling then,
-// whose far child is red.
+// Case 3, the far nephew is black and the near one red: the near one is rotated above the sibling. Returns the new sibling, whose far child is red.
 #[inline(always)]
 pub(crate) fn rotate_near_nephew<N: NodeStore>(
     links: &mut N,
@@ -91,8 +90,8 @@ pub(crate) fn rotate_far_nephew<N: NodeStore>(
     rotate(links, root, place, upper, side, Color::Black, color);
 }
 
-// Case 2, both nephews are black: the sibling turns red. If the parent is red, it turns black, and the tree is right. Returns
-// whether the parent was red.
+// Case 2, both nephews are black: the sibling turns red. If the parent is red, the parent turns black, and the tree is right. Returns whether the parent
+// was red.
 pub(crate) fn redden_sibling<N: NodeStore>(links: &mut N, place: Place, sibling: Place) -> bool
     requires place { IsNode N.node (N.table links.old) place }
     requires sibling { IsNode N.node (N.table links.old) sibling }
@@ -108,7 +107,7 @@ pub(crate) fn redden_sibling<N: NodeStore>(links: &mut N, place: Place, sibling:
     false
 }
 
-// One step of the repair on this side of the place. Returns whether it was the last.
+// One step of the repair, if the paths on the side `side` of the member `place` have one black member too few. Returns whether this step was the last.
 #[inline(always)]
 pub(crate) fn delete_fixup_on<N: NodeStore>(
     links: &mut N,
@@ -131,7 +130,7 @@ pub(crate) fn delete_fixup_on<N: NodeStore>(
     redden_sibling(links, place, sibling)
 }
 
-// The same step. Each side has compiled code of its own.
+// One step of the repair, for either side of the member `place`. Each side has compiled code of its own.
 pub(crate) fn delete_fixup_step<N: NodeStore>(
     links: &mut N,
     root: &mut PlaceWord,
@@ -176,8 +175,8 @@ pub(crate) fn delete_fixup<N: NodeStore>(
     }
 }
 
-// Gives the child of a removed member of this color its new parent. A child without a sibling is red, so that the member was black, and the
-// child turns black. Returns whether the paths through this position have one black member too few now.
+// Gives the child of a removed member of this color its new parent. A child without a sibling is red, and the removed member above it was black, so the
+// child turns black. Returns whether the paths through the position of the removed member have one black member too few after this.
 pub(crate) fn fill_gap<N: NodeStore>(
     links: &mut N,
     color: Color,
@@ -200,8 +199,8 @@ pub(crate) fn fill_gap<N: NodeStore>(
     }
 }
 
-// Removes a member that has at most one child, which takes its position. Returns whether the paths through this position have one black
-// member too few now, and below which parent and on which side the position is.
+// Removes a member that has at most one child, which takes its position. Returns whether the paths through this position have one black member too few now.
+// Also returns below which parent and on which side the position is.
 #[inline(always)]
 pub(crate) fn splice_out<N: NodeStore>(
     links: &mut N,
@@ -222,7 +221,8 @@ pub(crate) fn splice_out<N: NodeStore>(
     (short, parent, side)
 }
 
-// Removes a member without a repair of colors. If it has two children, the next member takes its position. Returns what `splice_out` returns.
+// Removes a member without a repair of colors. If the removed member has two children, the next member takes its position. Returns what `splice_out`
+// returns.
 #[inline(always)]
 pub(crate) fn take_out<N: NodeStore>(
     links: &mut N,
@@ -249,7 +249,7 @@ pub(crate) fn take_out<N: NodeStore>(
     (short, parent, side)
 }
 
-// Removes a member from the tree, and leaves it linked. If it has two children, the next member takes its position.
+// Removes a member from the tree, and leaves it linked. If the removed member has two children, the next member takes its position.
 pub(crate) fn unlink<N: NodeStore>(links: &mut N, root: &mut PlaceWord, place: Place)
     requires { IsSafe N.node (N.table links.old) root.old (Some place ∷ []) }
     ensures taken { TakesAway N.node (N.table links.old) (N.table links.new) root.old root.new place }

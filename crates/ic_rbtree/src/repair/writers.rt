@@ -51,7 +51,7 @@ pub(crate) fn set_color<N: NodeStore>(links: &mut N, place: Place, color: Color)
     links.set_color(place, color);
 }
 
-// Sets the parent and the color, in one write.
+// Sets the parent and the color of a place, in one write.
 pub(crate) fn set_parent_and_color<N: NodeStore>(
     links: &mut N,
     place: Place,
@@ -107,7 +107,7 @@ pub(crate) fn adopt<N: NodeStore>(links: &mut N, child: Option<Place>, parent: O
     }
 }
 
-// Makes another subtree the child of the parent, or the root, instead of `was`.
+// Makes the subtree with the root `to` the child of `parent` instead of `was`. If there is no parent, `to` becomes the root of the tree.
 pub(crate) fn change_child<N: NodeStore>(
     links: &mut N,
     root: &mut PlaceWord,
@@ -129,8 +129,8 @@ pub(crate) fn change_child<N: NodeStore>(
     }
 }
 
-/// Rotates the place down on this side, and its child on the other side, `upper`, above it. They get the colors `low` and
-/// `high`.
+/// Rotates the place down to this side, so that `upper`, its child on the other side, is above it. The place gets the color `low`, and `upper` gets the
+/// color `high`.
 #[inline(always)]
 pub(crate) fn rotate<N: NodeStore>(
     links: &mut N,

@@ -1,4 +1,4 @@
-//! Calls that edit at a gap: they insert an object there, or remove or replace the member after it.
+//! Calls that edit at a gap: they insert an object into the gap, or remove or replace the member after the gap.
 //!
 //! ```text
 //! Put(Gap::Back, place).run(&mut members, &mut links, &objects, adapter)?; // after all members
@@ -6,10 +6,10 @@
 //! ```
 
 ghost use Rattle.ic_world.specs.Calls as calls;
-ghost use Rattle.ic_world.specs.declared.calls.one_call.Call.TheVariants as one;
+ghost use Rattle.ic_world.specs.declared.calls.collection_call.Call.TheVariants as one;
 
 use crate::call::Refusal;
-use crate::calls::one_call::OneCall;
+use crate::calls::collection_call::CollectionCall;
 use ic_any_collection::{AnyCollection, AnyTable, Gap};
 use ic_rbtree::KeyAdapter;
 use ic_unsafe_ref::{Objects, Place};
@@ -19,16 +19,16 @@ use std::alloc::Allocator;
 #[derive(Clone, Copy)]
 pub struct Put(pub Gap, pub Place);
 
-/// Removes the member after the gap, or the last member if the gap is at the back. A cursor that is on it goes on to the next member. If the gap is
-/// at an end, the cursor goes to null.
+/// Removes the member after the gap, or the last member if the gap is at the back. A cursor that is on the removed member goes on to the next member.
+/// If the gap is at an end, the cursor goes to null.
 #[derive(Clone, Copy)]
 pub struct Take(pub Gap);
 
-/// Replaces the member after the gap by an object. A cursor that is on the member goes to the object.
+/// Replaces the member after the gap by an object. A cursor that is on the replaced member goes to the object.
 #[derive(Clone, Copy)]
 pub struct Swap(pub Gap, pub Place);
 
-impl<A: KeyAdapter> OneCall<A> for Put {
+impl<A: KeyAdapter> CollectionCall<A> for Put {
     type Answer = ();
 
     ghost call = { λ c. one.Put c.0 c.1 };
@@ -60,7 +60,7 @@ impl<A: KeyAdapter> OneCall<A> for Put {
     }
 }
 
-impl<A: KeyAdapter> OneCall<A> for Take {
+impl<A: KeyAdapter> CollectionCall<A> for Take {
     type Answer = Option<Place>;
 
     ghost call = { λ c. one.Take c.0 };
@@ -90,7 +90,7 @@ impl<A: KeyAdapter> OneCall<A> for Take {
     }
 }
 
-impl<A: KeyAdapter> OneCall<A> for Swap {
+impl<A: KeyAdapter> CollectionCall<A> for Swap {
     type Answer = Place;
 
     ghost call = { λ c. one.Swap c.0 c.1 };

@@ -10,8 +10,8 @@ ghost use Rattle.ic_rbtree.specs.KeyProbe.{looks_of};
 ghost use Rattle.ic_world.specs.Replies.{looked_if};
 
 use crate::call::Refusal;
+use crate::calls::collection_call::CollectionCall;
 use crate::calls::kinds::is_tree;
-use crate::calls::one_call::OneCall;
 use crate::calls::probes::own_probe;
 use ic_any_collection::{AnyCollection, AnyTable};
 use ic_rbtree::{KeyAdapter, KeyProbe};
@@ -32,14 +32,14 @@ fn looked<A: KeyAdapter>(acquired: bool, probe: &KeyProbe<'_, A>) -> Result<u64,
 /// Inserts an object where its own key belongs, after members with the same key.
 #[derive(Clone, Copy)]
 pub enum Insertion {
-    /// Inserts the object, and puts the cursor on it.
+    /// Inserts the object, and puts the cursor on the object.
     Insert(Place),
     /// Inserts the object, and leaves the cursor where it is.
     CursorInsert(Place),
 }
 
-impl<A: KeyAdapter> OneCall<A> for Insertion {
-    ghost use Rattle.ic_world.specs.declared.calls.one_call.Call.TheVariants.{Insertion as insertion};
+impl<A: KeyAdapter> CollectionCall<A> for Insertion {
+    ghost use Rattle.ic_world.specs.declared.calls.collection_call.Call.TheVariants.{Insertion as insertion};
     ghost use Rattle.ic_world.specs.Calls.{looked};
 
     type Answer = u64;
@@ -81,15 +81,15 @@ impl<A: KeyAdapter> OneCall<A> for Insertion {
     }
 }
 
-/// Finds the entry of a key, and inserts the object there if no member has the key.
+/// Searches for a member with the key. If no member has the key, it inserts the object where the key belongs.
 #[derive(Clone, Copy)]
 pub struct EntryAt<K> {
     pub key: K,
     pub object: Place,
 }
 
-impl<A: KeyAdapter> OneCall<A> for EntryAt<A::Key> {
-    ghost use Rattle.ic_world.specs.declared.calls.one_call.Call.TheVariants.{Enter as enter};
+impl<A: KeyAdapter> CollectionCall<A> for EntryAt<A::Key> {
+    ghost use Rattle.ic_world.specs.declared.calls.collection_call.Call.TheVariants.{Enter as enter};
     ghost use Rattle.ic_world.specs.Replies.{entry_or_linked};
 
     // `None` means that no member has the key and the object is already linked.

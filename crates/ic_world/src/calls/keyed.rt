@@ -1,4 +1,5 @@
-//! Keyed calls of one tree. Each returns the number of its looks, which are the keys that it compared: at most 2 log2(n + 1) in a tree of n members.
+//! Keyed calls of one tree. Each call returns the number of its looks, which are the keys that it compared. In a tree of n members it makes at most 2
+//! log2(n + 1) looks for each search.
 //!
 //! ```text
 //! world.insert(tree, first)?;              // 0 looks
@@ -8,9 +9,9 @@
 
 use crate::World;
 use crate::call::{Command, Refusal};
+use crate::calls::collection_call::Call;
 use crate::calls::insertion::{EntryAt, Insertion};
 use crate::calls::kinds::is_tree;
-use crate::calls::one_call::Call;
 use crate::calls::probes::{looks_in, probe_in_bound};
 use crate::calls::search::Search;
 use ic_rbtree::{Bound, KeyAdapter};
@@ -27,7 +28,7 @@ where
 
     /// Puts the cursor on the first member of this key, or to null if there is none. It returns the member and the number of looks. O(log n).
     ///
-    /// Refused: `NoSuchCollection`, `WrongKind` of a list.
+    /// Refused: `NoSuchCollection`, `WrongKind` for a list.
     pub fn find(&mut self, collection: usize, key: A::Key) -> Result<(Option<Place>, u64), Refusal>
         ensures { Step A.Key.cmp A.key_of self.old (Command.On collection (Call.Search (Search.Find key))) (reply_of (λ answer. found answer.0 answer.1) result) self.new }
     {
@@ -37,7 +38,7 @@ where
     /// Puts the cursor on the first member that meets the bound, or to null if there is none. It returns the member and the number of looks. O(log
     /// n).
     ///
-    /// Refused: `NoSuchCollection`, `WrongKind` of a list.
+    /// Refused: `NoSuchCollection`, `WrongKind` for a list.
     pub fn lower_bound(
         &mut self,
         collection: usize,
@@ -50,7 +51,7 @@ where
 
     /// Puts the cursor on the last member that meets the bound, or to null if there is none. It returns the member and the number of looks. O(log n).
     ///
-    /// Refused: `NoSuchCollection`, `WrongKind` of a list.
+    /// Refused: `NoSuchCollection`, `WrongKind` for a list.
     pub fn upper_bound(
         &mut self,
         collection: usize,
@@ -61,9 +62,9 @@ where
         self.call(collection, &Search::UpperBound(bound))
     }
 
-    /// Inserts an object where its key belongs, after members with the same key, and puts the cursor on it. O(log n).
+    /// Inserts an object where its key belongs, after members with the same key, and puts the cursor on the object. O(log n).
     ///
-    /// Refused: `NoSuchCollection`, `NoSuchObject`, `WrongKind` of a list, `AlreadyLinked`, each before any key is compared.
+    /// Refused: `NoSuchCollection`, `NoSuchObject`, `WrongKind` for a list, `AlreadyLinked`, each before any key is compared.
     pub fn insert(&mut self, collection: usize, object: Place) -> Result<u64, Refusal>
         ensures { Step A.Key.cmp A.key_of self.old (Command.On collection (Call.Insertion (Insertion.Insert object))) (reply_of (λ looks. looked looks) result) self.new }
     {
@@ -72,7 +73,7 @@ where
 
     /// Inserts an object where its key belongs, after members with the same key. The cursor stays. O(log n).
     ///
-    /// Refused: `NoSuchCollection`, `NoSuchObject`, `WrongKind` of a list, `AlreadyLinked`, each before any key is compared.
+    /// Refused: `NoSuchCollection`, `NoSuchObject`, `WrongKind` for a list, `AlreadyLinked`, each before any key is compared.
     pub fn cursor_insert(&mut self, collection: usize, object: Place) -> Result<u64, Refusal>
         ensures { Step A.Key.cmp A.key_of self.old (Command.On collection (Call.Insertion (Insertion.CursorInsert object))) (reply_of (λ looks. looked looks) result) self.new }
     {
@@ -83,7 +84,7 @@ where
     /// object.
     ///
     /// It returns whether a member had the key, which member the cursor is on, and the number of looks. It does not read the key of the object. O(log
-    /// n). Refused: `NoSuchCollection`, `NoSuchObject`, `WrongKind` of a list; and `AlreadyLinked` if no member has the key.
+    /// n). Refused: `NoSuchCollection`, `NoSuchObject`, `WrongKind` for a list; and `AlreadyLinked` if no member has the key.
     pub fn entry(
         &mut self,
         collection: usize,
@@ -101,7 +102,7 @@ where
 
     /// Returns the members between two bounds, and the number of looks of each of the two searches. The cursor stays. O(log n + answer).
     ///
-    /// Refused: `NoSuchCollection`, `WrongKind` of a list, `OutOfMemory`.
+    /// Refused: `NoSuchCollection`, `WrongKind` for a list, `OutOfMemory`.
     pub fn range(
         &self,
         collection: usize,

@@ -11,7 +11,7 @@ ghost use Rattle.ic_world.specs.Family as family;
 use ic_any_collection::Kind;
 use ic_unsafe_ref::Place;
 
-// Returns whether calls can use the position before the cursor.
+// Returns whether collections of the kind have calls at the position before the cursor.
 #[inline]
 pub(crate) fn has_before(kind: Kind) -> bool
     ensures { result ≡ kinds.has_before kind }

@@ -16,7 +16,7 @@ use ic_rbtree::{Bound, KeyAdapter, KeyProbe};
 use ic_unsafe_ref::{Objects, Place};
 use std::alloc::Allocator;
 
-/// Returns the bound with a new probe for its key, which has compared nothing yet. A bound without a key has no probe.
+/// Returns the bound with a new probe for its key. The new probe has compared nothing yet. A bound without a key has no probe.
 #[inline]
 pub(crate) fn probe_in_bound<'k, A: KeyAdapter>(
     adapter: A,
@@ -46,7 +46,7 @@ pub(crate) fn looks_in<A: KeyAdapter>(bound: &Bound<KeyProbe<'_, A>>) -> u64
     }
 }
 
-/// Returns a new probe for an object's own key, which has compared nothing yet. It requires that the object exists.
+/// Returns a new probe for the key of an object. The new probe has compared nothing yet. It requires that the object exists.
 #[inline]
 pub(crate) fn own_probe<'k, A: KeyAdapter, M: Allocator>(
     adapter: A,

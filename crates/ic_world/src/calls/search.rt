@@ -1,12 +1,12 @@
-//! Searches of one tree by keys. They put its cursor on the member that they find.
+//! Searches of one tree by keys. A search puts the tree's cursor on the member that it finds.
 //!
 //! ```text
 //! Search::Find(5).run(&mut members, &mut links, &objects, adapter)? // the first member of key 5, with the looks
 //! ```
 
 use crate::call::Refusal;
+use crate::calls::collection_call::CollectionCall;
 use crate::calls::kinds::is_tree;
-use crate::calls::one_call::OneCall;
 use crate::calls::probes::{looks_in, probe_in_bound};
 use ic_any_collection::{AnyCollection, AnyTable};
 use ic_rbtree::{Bound, KeyAdapter, KeyProbe};
@@ -24,8 +24,8 @@ pub enum Search<K> {
     UpperBound(Bound<K>),
 }
 
-impl<A: KeyAdapter> OneCall<A> for Search<A::Key> {
-    ghost use Rattle.ic_world.specs.declared.calls.one_call.Call.TheVariants.{Search as search};
+impl<A: KeyAdapter> CollectionCall<A> for Search<A::Key> {
+    ghost use Rattle.ic_world.specs.declared.calls.collection_call.Call.TheVariants.{Search as search};
     ghost use Rattle.ic_world.specs.Calls.{found};
 
     type Answer = (Option<Place>, u64);

@@ -1,7 +1,7 @@
 //! Calls that move the cursor of one collection: to a neighbor, to null, or to a named member.
 //!
 //! ```text
-//! Move(Direction::Next).run(&mut members, &mut links, &objects, adapter)?; // from null to the first member
+//! Move(Neighbor::Next).run(&mut members, &mut links, &objects, adapter)?; // from null to the first member
 //! Seek::On(place).run(&mut members, &mut links, &objects, adapter)?;       // the cursor is on it, if it is a member
 //! ```
 
@@ -16,8 +16,8 @@ ghost use Rattle.ic_world.specs.Calls.{named_if, beside_of};
 ghost use Rattle.ic_world.specs.Seeks.{Sought};
 
 use crate::call::Refusal;
+use crate::calls::collection_call::{CollectionCall, Neighbor};
 use crate::calls::kinds::{has_before, has_pointer, is_xor, same_position};
-use crate::calls::one_call::{Direction, OneCall};
 use ic_any_collection::{AnyCollection, AnyTable};
 use ic_rbtree::KeyAdapter;
 use ic_unsafe_ref::{Objects, Place};
@@ -25,21 +25,22 @@ use std::alloc::Allocator;
 
 /// Moves the cursor to a neighbor, or from null to the first or the last member.
 #[derive(Clone, Copy)]
-pub struct Move(pub Direction);
+pub struct Move(pub Neighbor);
 
-/// The position to which the cursor goes.
+/// The position to which a seek moves the cursor.
 #[derive(Clone, Copy)]
 pub enum Seek {
-    /// To null.
+    /// The cursor goes to null.
     Null,
-    /// To a member, named by its place.
+    /// The cursor goes to a member, which is named by its place.
     On(Place),
-    /// To a member of an XOR list, named with one of its neighbors, which is none beyond an end.
-    With(Direction, Place, Option<Place>),
+    /// The cursor goes to a member of an XOR list, which is named by its place and the place of one of its neighbors. The neighbor is `None` if the
+    /// member is at that end of the list.
+    With(Neighbor, Place, Option<Place>),
 }
 
-impl<A: KeyAdapter> OneCall<A> for Move {
-    ghost use Rattle.ic_world.specs.declared.calls.one_call.Call.TheVariants as one;
+impl<A: KeyAdapter> CollectionCall<A> for Move {
+    ghost use Rattle.ic_world.specs.declared.calls.collection_call.Call.TheVariants as one;
     ghost use Rattle.ic_world.specs.Calls.{object_or_nothing};
 
     type Answer = Option<Place>;
@@ -65,8 +66,8 @@ impl<A: KeyAdapter> OneCall<A> for Move {
         let _ = objects;
         let _ = adapter;
         match self.0 {
-            Direction::Next => Ok(members.move_next(links)),
-            Direction::Prev => {
+            Neighbor::Next => Ok(members.move_next(links)),
+            Neighbor::Prev => {
                 if !has_before(members.kind()) {
                     return Err(Refusal::WrongKind);
                 }
@@ -87,8 +88,8 @@ fn is_placed_if_any<T, M: Allocator>(objects: &Objects<T, M>, place: Option<Plac
     }
 }
 
-impl<A: KeyAdapter> OneCall<A> for Seek {
-    ghost use Rattle.ic_world.specs.declared.calls.one_call.Call.TheVariants.{Seek as seek};
+impl<A: KeyAdapter> CollectionCall<A> for Seek {
+    ghost use Rattle.ic_world.specs.declared.calls.collection_call.Call.TheVariants.{Seek as seek};
     ghost use Rattle.ic_world.specs.Calls.{done};
 
     type Answer = ();
@@ -138,7 +139,7 @@ impl<A: KeyAdapter> OneCall<A> for Seek {
     }
 }
 
-// Puts the cursor on the object. No table is written.
+// Puts the cursor on the object, or returns the refusal `NotAMember`. No table is written.
 fn seek_on<T, M: Allocator>(
     members: &mut AnyCollection<T>,
     links: &AnyTable<M>,
@@ -160,12 +161,12 @@ fn seek_on<T, M: Allocator>(
     Ok(())
 }
 
-// Returns the neighbor of the member after `prev`, or none beyond an end.
+// Returns the neighbor of the member `object` in the direction `way`, or `None` if the member is at that end. `prev` is the member before `object`.
 #[inline]
 fn neighbor<T, M: Allocator>(
     members: &AnyCollection<T>,
     links: &AnyTable<M>,
-    way: Direction,
+    way: Neighbor,
     prev: Option<Place>,
     object: Place,
 ) -> Option<Place>
@@ -174,16 +175,16 @@ fn neighbor<T, M: Allocator>(
     ensures { result ≡ beside_of way (members_in (table_in links.now) members.now) object }
 {
     match way {
-        Direction::Prev => prev,
-        Direction::Next => members.after(links, prev, object),
+        Neighbor::Prev => prev,
+        Neighbor::Next => members.after(links, prev, object),
     }
 }
 
-// Puts the cursor of an XOR list on the object, if the named member is its neighbor.
+// Puts the cursor of an XOR list on the object, if `beside` is the neighbor of the object in the direction `way`.
 fn seek_with<T, M: Allocator>(
     members: &mut AnyCollection<T>,
     links: &AnyTable<M>,
-    way: Direction,
+    way: Neighbor,
     object: Place,
     beside: Option<Place>,
 ) -> Result<(), Refusal>

@@ -1,4 +1,4 @@
-//! Calls of one collection without keys. Each tests its conditions in the order of the refusals that its comment names, and takes no memory.
+//! Calls of one collection without keys. Each call tests its conditions in the order of the refusals that its comment names, and takes no memory.
 //!
 //! ```text
 //! world.push_back(queue, first)?;
@@ -8,10 +8,10 @@
 
 use crate::World;
 use crate::call::{Command, Refusal};
+use crate::calls::bulk_edit::BulkEdit;
+use crate::calls::collection_call::{Call, Neighbor};
 use crate::calls::gaps::{Put, Swap, Take};
-use crate::calls::one_call::{Call, Direction};
 use crate::calls::seek::{Move, Seek};
-use crate::calls::whole::Whole;
 use ic_any_collection::Gap;
 use ic_rbtree::KeyAdapter;
 use ic_unsafe_ref::Place;
@@ -25,7 +25,7 @@ impl<A: KeyAdapter, M: Allocator + Copy> World<A, M> {
 
     /// Inserts an object at the front of a list, and puts the cursor to null. O(1).
     ///
-    /// Refused: `NoSuchCollection`, `NoSuchObject`, `WrongKind` of a tree, `AlreadyLinked`.
+    /// Refused: `NoSuchCollection`, `NoSuchObject`, `WrongKind` for a tree, `AlreadyLinked`.
     pub fn push_front(&mut self, collection: usize, object: Place) -> Result<(), Refusal>
         ensures { Step A.Key.cmp A.key_of self.old (Command.On collection (Call.Put Gap.Front object)) (reply_of (λ _. done) result) self.new }
     {
@@ -34,7 +34,7 @@ impl<A: KeyAdapter, M: Allocator + Copy> World<A, M> {
 
     /// Inserts an object at the back of a doubly linked or an XOR list, and puts the cursor to null. O(1).
     ///
-    /// Refused: `NoSuchCollection`, `NoSuchObject`, `WrongKind` of the other kinds, `AlreadyLinked`.
+    /// Refused: `NoSuchCollection`, `NoSuchObject`, `WrongKind` for other kinds, `AlreadyLinked`.
     pub fn push_back(&mut self, collection: usize, object: Place) -> Result<(), Refusal>
         ensures { Step A.Key.cmp A.key_of self.old (Command.On collection (Call.Put Gap.Back object)) (reply_of (λ _. done) result) self.new }
     {
@@ -43,7 +43,7 @@ impl<A: KeyAdapter, M: Allocator + Copy> World<A, M> {
 
     /// Removes the first member of a list and returns it, or returns `None` if there is none. It puts the cursor to null. O(1).
     ///
-    /// Refused: `NoSuchCollection`, `WrongKind` of a tree.
+    /// Refused: `NoSuchCollection`, `WrongKind` for a tree.
     pub fn pop_front(&mut self, collection: usize) -> Result<Option<Place>, Refusal>
         ensures { Step A.Key.cmp A.key_of self.old (Command.On collection (Call.Take Gap.Front)) (reply_of object_or_nothing result) self.new }
     {
@@ -53,7 +53,7 @@ impl<A: KeyAdapter, M: Allocator + Copy> World<A, M> {
     /// Removes the last member of a doubly linked or an XOR list and returns it, or returns `None` if there is none. It puts the cursor to null.
     /// O(1).
     ///
-    /// Refused: `NoSuchCollection`, `WrongKind` of the other kinds.
+    /// Refused: `NoSuchCollection`, `WrongKind` for other kinds.
     pub fn pop_back(&mut self, collection: usize) -> Result<Option<Place>, Refusal>
         ensures { Step A.Key.cmp A.key_of self.old (Command.On collection (Call.Take Gap.Back)) (reply_of object_or_nothing result) self.new }
     {
@@ -65,19 +65,19 @@ impl<A: KeyAdapter, M: Allocator + Copy> World<A, M> {
     ///
     /// Refused: `NoSuchCollection`.
     pub fn move_next(&mut self, collection: usize) -> Result<Option<Place>, Refusal>
-        ensures { Step A.Key.cmp A.key_of self.old (Command.On collection (Call.Move Direction.Next)) (reply_of object_or_nothing result) self.new }
+        ensures { Step A.Key.cmp A.key_of self.old (Command.On collection (Call.Move Neighbor.Next)) (reply_of object_or_nothing result) self.new }
     {
-        self.call(collection, &Move(Direction::Next))
+        self.call(collection, &Move(Neighbor::Next))
     }
 
     /// Moves the cursor to the previous member, from null to the last one and from the first one to null, and returns the member that it is then on.
     /// O(1), in a tree O(log n).
     ///
-    /// Refused: `NoSuchCollection`, `WrongKind` of a singly linked list.
+    /// Refused: `NoSuchCollection`, `WrongKind` for a singly linked list.
     pub fn move_prev(&mut self, collection: usize) -> Result<Option<Place>, Refusal>
-        ensures { Step A.Key.cmp A.key_of self.old (Command.On collection (Call.Move Direction.Prev)) (reply_of object_or_nothing result) self.new }
+        ensures { Step A.Key.cmp A.key_of self.old (Command.On collection (Call.Move Neighbor.Prev)) (reply_of object_or_nothing result) self.new }
     {
-        self.call(collection, &Move(Direction::Prev))
+        self.call(collection, &Move(Neighbor::Prev))
     }
 
     /// Moves the cursor to null. O(1).
@@ -103,7 +103,7 @@ impl<A: KeyAdapter, M: Allocator + Copy> World<A, M> {
 
     /// Puts the cursor on a member. It costs O(members) in a list, O(log n) in a tree, and O(1) if the object is not linked in the field.
     ///
-    /// Refused: `NoSuchCollection`, `NoSuchObject`, `WrongKind` of an XOR list, `NotAMember`.
+    /// Refused: `NoSuchCollection`, `NoSuchObject`, `WrongKind` for an XOR list, `NotAMember`.
     pub fn seek(&mut self, collection: usize, object: Place) -> Result<(), Refusal>
         ensures { Step A.Key.cmp A.key_of self.old (Command.On collection (Call.Seek (Seek.On object))) (reply_of (λ _. done) result) self.new }
     {
@@ -113,31 +113,31 @@ impl<A: KeyAdapter, M: Allocator + Copy> World<A, M> {
     /// Puts the cursor of an XOR list on a member. `prev` names the member before it, or is `None` for the first member. O(members), or O(1) if the
     /// object is not linked in the field.
     ///
-    /// Refused: `NoSuchCollection`, `NoSuchObject` of either object, `WrongKind` of the other kinds, `NotAMember`, `NotANeighbour`.
+    /// Refused: `NoSuchCollection`, `NoSuchObject` for either object, `WrongKind` for other kinds, `NotAMember`, `NotANeighbour`.
     pub fn seek_with_prev(
         &mut self,
         collection: usize,
         object: Place,
         prev: Option<Place>,
     ) -> Result<(), Refusal>
-        ensures { Step A.Key.cmp A.key_of self.old (Command.On collection (Call.Seek (Seek.With Direction.Prev object prev))) (reply_of (λ _. done) result) self.new }
+        ensures { Step A.Key.cmp A.key_of self.old (Command.On collection (Call.Seek (Seek.With Neighbor.Prev object prev))) (reply_of (λ _. done) result) self.new }
     {
-        self.call(collection, &Seek::With(Direction::Prev, object, prev))
+        self.call(collection, &Seek::With(Neighbor::Prev, object, prev))
     }
 
     /// Puts the cursor of an XOR list on a member. `next` names the member after it, or is `None` for the last member. O(members), or O(1) if the
     /// object is not linked in the field.
     ///
-    /// Refused: `NoSuchCollection`, `NoSuchObject` of either object, `WrongKind` of the other kinds, `NotAMember`, `NotANeighbour`.
+    /// Refused: `NoSuchCollection`, `NoSuchObject` for either object, `WrongKind` for other kinds, `NotAMember`, `NotANeighbour`.
     pub fn seek_with_next(
         &mut self,
         collection: usize,
         object: Place,
         next: Option<Place>,
     ) -> Result<(), Refusal>
-        ensures { Step A.Key.cmp A.key_of self.old (Command.On collection (Call.Seek (Seek.With Direction.Next object next))) (reply_of (λ _. done) result) self.new }
+        ensures { Step A.Key.cmp A.key_of self.old (Command.On collection (Call.Seek (Seek.With Neighbor.Next object next))) (reply_of (λ _. done) result) self.new }
     {
-        self.call(collection, &Seek::With(Direction::Next, object, next))
+        self.call(collection, &Seek::With(Neighbor::Next, object, next))
     }
 
     /// Inserts an object after the cursor, or at the front if the cursor is at null. The cursor stays. O(1), in a tree O(log n).
@@ -151,7 +151,7 @@ impl<A: KeyAdapter, M: Allocator + Copy> World<A, M> {
 
     /// Inserts an object before the cursor, or at the back if the cursor is at null. The cursor stays. O(1), in a tree O(log n).
     ///
-    /// Refused: `NoSuchCollection`, `NoSuchObject`, `WrongKind` of a singly linked list, `AlreadyLinked`.
+    /// Refused: `NoSuchCollection`, `NoSuchObject`, `WrongKind` for a singly linked list, `AlreadyLinked`.
     pub fn insert_before(&mut self, collection: usize, object: Place) -> Result<(), Refusal>
         ensures { Step A.Key.cmp A.key_of self.old (Command.On collection (Call.Put Gap.Before object)) (reply_of (λ _. done) result) self.new }
     {
@@ -161,7 +161,7 @@ impl<A: KeyAdapter, M: Allocator + Copy> World<A, M> {
     /// Removes the member that the cursor is on and returns it, or returns `None` if the cursor is at null. The cursor goes on to the next member.
     /// O(1), in a tree O(log n).
     ///
-    /// Refused: `NoSuchCollection`, `WrongKind` of a singly linked list.
+    /// Refused: `NoSuchCollection`, `WrongKind` for a singly linked list.
     pub fn remove(&mut self, collection: usize) -> Result<Option<Place>, Refusal>
         ensures { Step A.Key.cmp A.key_of self.old (Command.On collection (Call.Take Gap.Before)) (reply_of object_or_nothing result) self.new }
     {
@@ -171,7 +171,7 @@ impl<A: KeyAdapter, M: Allocator + Copy> World<A, M> {
     /// Removes the member after the cursor of a singly linked list, or the first one if the cursor is at null. It returns the member, or `None` if
     /// there is none. The cursor stays. O(1).
     ///
-    /// Refused: `NoSuchCollection`, `WrongKind` of the other kinds.
+    /// Refused: `NoSuchCollection`, `WrongKind` for other kinds.
     pub fn remove_next(&mut self, collection: usize) -> Result<Option<Place>, Refusal>
         ensures { Step A.Key.cmp A.key_of self.old (Command.On collection (Call.Take Gap.After)) (reply_of object_or_nothing result) self.new }
     {
@@ -180,7 +180,7 @@ impl<A: KeyAdapter, M: Allocator + Copy> World<A, M> {
 
     /// Replaces the member that the cursor is on by an object, and returns the member. The cursor is then on the object. O(1).
     ///
-    /// Refused: `NoSuchCollection`, `NoSuchObject`, `WrongKind` of a singly linked list, `NothingThere` at null, `AlreadyLinked`.
+    /// Refused: `NoSuchCollection`, `NoSuchObject`, `WrongKind` for a singly linked list, `NothingThere` at null, `AlreadyLinked`.
     pub fn replace_with(&mut self, collection: usize, object: Place) -> Result<Place, Refusal>
         ensures { Step A.Key.cmp A.key_of self.old (Command.On collection (Call.Swap Gap.Before object)) (reply_of (λ p. state.object p) result) self.new }
     {
@@ -190,7 +190,7 @@ impl<A: KeyAdapter, M: Allocator + Copy> World<A, M> {
     /// Replaces the member after the cursor of a singly linked list, or the first one if the cursor is at null, by an object, and returns the member.
     /// The cursor stays. O(1).
     ///
-    /// Refused: `NoSuchCollection`, `NoSuchObject`, `WrongKind` of the other kinds, `NothingThere` if there is no such member, `AlreadyLinked`.
+    /// Refused: `NoSuchCollection`, `NoSuchObject`, `WrongKind` for other kinds, `NothingThere` if there is no such member, `AlreadyLinked`.
     pub fn replace_next_with(&mut self, collection: usize, object: Place) -> Result<Place, Refusal>
         ensures { Step A.Key.cmp A.key_of self.old (Command.On collection (Call.Swap Gap.After object)) (reply_of (λ p. state.object p) result) self.new }
     {
@@ -199,24 +199,24 @@ impl<A: KeyAdapter, M: Allocator + Copy> World<A, M> {
 
     /// Reverses an XOR list, and puts the cursor to null. O(1).
     ///
-    /// Refused: `NoSuchCollection`, `WrongKind` of the other kinds.
+    /// Refused: `NoSuchCollection`, `WrongKind` for other kinds.
     pub fn reverse(&mut self, collection: usize) -> Result<(), Refusal>
-        ensures { Step A.Key.cmp A.key_of self.old (Command.On collection (Call.Whole Whole.Reverse)) (reply_of (λ _. done) result) self.new }
+        ensures { Step A.Key.cmp A.key_of self.old (Command.On collection (Call.BulkEdit BulkEdit.Reverse)) (reply_of (λ _. done) result) self.new }
     {
-        self.call(collection, &Whole::Reverse)
+        self.call(collection, &BulkEdit::Reverse)
     }
 
     /// Removes and unlinks all members, and puts the cursor to null. O(members).
     ///
     /// Refused: `NoSuchCollection`.
     pub fn clear(&mut self, collection: usize) -> Result<(), Refusal>
-        ensures { Step A.Key.cmp A.key_of self.old (Command.On collection (Call.Whole Whole.Clear)) (reply_of (λ _. done) result) self.new }
+        ensures { Step A.Key.cmp A.key_of self.old (Command.On collection (Call.BulkEdit BulkEdit.Clear)) (reply_of (λ _. done) result) self.new }
     {
-        self.call(collection, &Whole::Clear)
+        self.call(collection, &BulkEdit::Clear)
     }
 
-    /// Removes all members but leaves them linked until [`World::force_unlink`], and puts the cursor to null. The field is then marked: a linked
-    /// object in it need not be a member of a collection. O(1).
+    /// Removes all members but leaves them linked until [`World::force_unlink`], and puts the cursor to null. The field is then marked, which means
+    /// that a linked object of the field need not be a member of a collection. O(1).
     ///
     /// Refused: `NoSuchCollection`.
     pub fn fast_clear(&mut self, collection: usize) -> Result<(), Refusal>

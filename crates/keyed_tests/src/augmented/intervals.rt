@@ -1,20 +1,20 @@
-//! The same test as Linux's test of interval trees (`lib/interval_tree_test.c`): for a hundred random intervals it counts, at a hundred points, how
-//! many of them contain the point, by the tree and by a plain loop.
+//! The test that Linux has of its interval trees (`lib/interval_tree_test.c`). The test makes a hundred random intervals. At each of a hundred points,
+//! a tree and a plain loop must count equally many intervals that contain the point.
 
 ghost use Rattle.std.specs.Prelude.{◌≡◌, ◌<◌, List, filter, length};
 ghost use Rattle.ic_link_ops.specs.Prelude.{Place, IsCovered};
 ghost use Rattle.ic_rbtree.specs.Tree.{root_of};
-ghost use Rattle.ic_augmented.specs.Consistent.{RepresentsSummed};
+ghost use Rattle.ic_augmented.specs.Consistent.{RepresentsAugmented};
 ghost use Rattle.ic_augmented.specs.Greatest.{greatest, number_at};
 ghost use Rattle.ic_augmented.specs.Intervals.{start_in, overlaps};
-ghost use Rattle.ic_augmented.specs.Summed.{links_of, summaries_of};
+ghost use Rattle.ic_augmented.specs.Augmented.{links_of, summaries_of};
 ghost use Rattle.keyed_tests.specs.Ready.{AreIntervals};
 
 use super::empty_tree;
 use crate::asserts::assert_same;
 use crate::keyed::OwnKey;
 use ic_augmented::{
-    Greatest, Summed, first_overlap, insert_fresh, next_overlap, refresh, set_value,
+    Augmented, Greatest, first_overlap, insert_fresh, next_overlap, refresh, set_value,
 };
 use ic_link_ops::LinkValues;
 use ic_link_ops::rbtree::RBTreeOps;
@@ -23,21 +23,22 @@ use ic_test_support::objects::reference;
 use ic_unsafe_ref::{Place, UnsafeRef};
 use std::process::Abort;
 
-// The kernel's generator of random numbers: four words, each of which shifts its bits back into itself.
+// The generator of random numbers that the Linux kernel has. The generator keeps four words, and computes each new word from the old one by shifts and
+// exclusive or.
 #[derive(Drop)]
 struct Random {
     words: [u32; 4],
 }
 
 impl Random {
-    // As the kernel's test seeds it.
+    // Returns a generator with the seed that the kernel's test uses.
     fn new() -> Random {
         Random {
             words: [0x408c_3c09; 4],
         }
     }
 
-    // The next number.
+    // Returns the next random number, which is below 2^32.
     fn next(&mut self) -> u64
         ensures { result < 4294967296 }
     {
@@ -51,7 +52,8 @@ impl Random {
     }
 }
 
-// A hundred intervals: the start and the end of each. In the kernel an interval contains its end, and here only the numbers before it.
+// Returns a hundred random intervals, as the array of their starts and the array of their ends. In the kernel an interval contains its end. Here an
+// interval contains only the numbers before its end.
 fn random_intervals(random: &mut Random) -> ([u64; 100], [u64; 100]) {
     let mut starts = [0; 100];
     let mut ends = [0; 100];
@@ -63,7 +65,7 @@ fn random_intervals(random: &mut Random) -> ([u64; 100], [u64; 100]) {
     (starts, ends)
 }
 
-// Returns how many of these intervals contain a point, by a test of each.
+// Returns how many of these intervals contain the point, by a loop that tests each interval.
 fn plain_count(starts: &[u64; 100], ends: &[u64; 100], point: u64) -> u64 {
     let mut count = 0;
     for index in 0..100 {
@@ -74,11 +76,11 @@ fn plain_count(starts: &[u64; 100], ends: &[u64; 100], point: u64) -> u64 {
     count
 }
 
-// Gives the interval its end, and inserts it.
+// Stores the end of the interval as the number of its place, and inserts the interval into the tree.
 fn put<L: RBTreeOps + LinkValues<u64>>(
     rt: &impl Abort,
     tree: &mut RBTree<OwnKey>,
-    summed: &mut Summed<L, Greatest>,
+    summed: &mut Augmented<L, Greatest>,
     interval: UnsafeRef<u64>,
     end: u64,
 )
@@ -92,15 +94,15 @@ fn put<L: RBTreeOps + LinkValues<u64>>(
     assert!(rt; inserted.is_ok());
 }
 
-// Returns how many intervals overlap `[from, to)`.
+// Returns how many intervals of the tree overlap `[from, to)`.
 fn count_overlaps<L: RBTreeOps + LinkValues<u64>>(
     tree: &RBTree<OwnKey>,
-    summed: &Summed<L, Greatest>,
+    summed: &Augmented<L, Greatest>,
     from: u64,
     to: u64,
 ) -> u64
     requires intervals { AreIntervals L.node L.table L.values tree.now summed.now }
-    ensures counted { (s : List Place) → RepresentsSummed L.node (greatest (summaries_of summed.now)) (L.table (links_of summed.now)) (root_of tree.now) s
+    ensures counted { (s : List Place) → RepresentsAugmented L.node (greatest (summaries_of summed.now)) (L.table (links_of summed.now)) (root_of tree.now) s
         → result ≡ length (filter (overlaps (start_in (L.values (links_of summed.now))) (number_at (summaries_of summed.now)) from to) s) }
 {
     let mut count = 0;
@@ -112,10 +114,10 @@ fn count_overlaps<L: RBTreeOps + LinkValues<u64>>(
     count
 }
 
-// Removes the first interval that overlaps `[from, to)`, if there is one.
+// Removes the first interval that overlaps `[from, to)`, if there is one, and returns its place.
 fn take_first<L: RBTreeOps + LinkValues<u64>>(
     tree: &mut RBTree<OwnKey>,
-    summed: &mut Summed<L, Greatest>,
+    summed: &mut Augmented<L, Greatest>,
     from: u64,
     to: u64,
 ) -> Option<Place>
@@ -129,14 +131,15 @@ fn take_first<L: RBTreeOps + LinkValues<u64>>(
     Some(place)
 }
 
-// The hundred intervals, at a hundred points, and once more after all have left.
+// Inserts a hundred intervals, and compares the counts of the tree and of the loop at a hundred points. Then it removes all intervals, and the tree
+// must count none.
 fn play<L: RBTreeOps + LinkValues<u64>>(
     rt: &impl Abort,
     random: &mut Random,
     starts: &[u64; 100],
     ends: &[u64; 100],
     tree: &mut RBTree<OwnKey>,
-    summed: &mut Summed<L, Greatest>,
+    summed: &mut Augmented<L, Greatest>,
 )
     requires covers { (L.table (links_of summed.old)).extent.places ≡ 100 }
     requires intervals { AreIntervals L.node L.table L.values tree.old summed.old }

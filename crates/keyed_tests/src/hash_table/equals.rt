@@ -1,4 +1,4 @@
-//! Objects of which several have the same key: these are consecutive in their chain.
+//! Hash tables in which several objects have the same key. Objects with the same key are consecutive in their chain.
 
 ghost use Rattle.std.specs.Prelude.{◌≡◌, ◌<◌, All, true};
 ghost use Rattle.ic_link_ops.specs.Prelude.{Place, index_of, is_placed};
@@ -11,7 +11,7 @@ use ic_link_ops::singly_linked_list::SinglyLinkedListOps;
 use ic_test_support::objects::reference;
 use ic_unsafe_ref::Objects;
 
-/// Inserts the object beside those that have the same key.
+/// Inserts the object next to the members that have the same key.
 fn put_beside<A: HashAdapter<Value = u64>, L: SinglyLinkedListOps, B: BucketsFor<L>>(
     table: &mut HashTable<A, B>,
     links: &mut L,
@@ -28,7 +28,7 @@ fn put_beside<A: HashAdapter<Value = u64>, L: SinglyLinkedListOps, B: BucketsFor
     let _ = table.insert_equal(links, objects, reference(index));
 }
 
-/// Removes the object and returns it. The order of the others stays as it was.
+/// Removes the object and returns it. The order of the remaining members does not change.
 pub(super) fn take_beside<A: HashAdapter<Value = u64>, L: SinglyLinkedListOps, B: BucketsFor<L>>(
     table: &mut HashTable<A, B>,
     links: &mut L,
@@ -45,7 +45,7 @@ pub(super) fn take_beside<A: HashAdapter<Value = u64>, L: SinglyLinkedListOps, B
     table.remove(links, objects, &reference(index));
 }
 
-/// Takes one bucket more into use, if there is one. Objects with equal keys are still consecutive.
+/// Takes one more bucket into use, if there is an unused one. Objects with equal keys are still consecutive.
 pub(super) fn grow_beside<A: HashAdapter<Value = u64>, L: SinglyLinkedListOps, B: BucketsFor<L>>(
     table: &mut HashTable<A, B>,
     links: &mut L,
@@ -57,7 +57,7 @@ pub(super) fn grow_beside<A: HashAdapter<Value = u64>, L: SinglyLinkedListOps, B
     table.grow_one(links, objects);
 }
 
-/// Takes the last bucket out of use, unless it is the only one. Objects with equal keys are still consecutive.
+/// Takes the last bucket out of use, unless it is the only bucket in use. Objects with equal keys are still consecutive.
 pub(super) fn shrink_beside<A: HashAdapter<Value = u64>, L: SinglyLinkedListOps, B: BucketsFor<L>>(
     table: &mut HashTable<A, B>,
     links: &mut L,
@@ -70,7 +70,7 @@ pub(super) fn shrink_beside<A: HashAdapter<Value = u64>, L: SinglyLinkedListOps,
     table.shrink_one(links);
 }
 
-/// Inserts these objects one after the other. Those with equal keys are consecutive, however many there are.
+/// Inserts these objects one after the other. Objects with equal keys are consecutive afterwards, however many objects there are.
 pub(super) fn put_all<A: HashAdapter<Value = u64>, L: SinglyLinkedListOps, B: BucketsFor<L>>(
     table: &mut HashTable<A, B>,
     links: &mut L,

@@ -1,4 +1,4 @@
-//! Hash tables of the words of a file, of which nobody knows whether they are one until a check has accepted them.
+//! Hash tables whose words are read from a file. Nobody knows whether the words are a correct hash table until a check has accepted them.
 
 ghost use Rattle.std.specs.Prelude.{◌≡◌, ◌≤◌, length};
 ghost use Rattle.ic_link_ops.specs.OneWord.{no_word};
@@ -18,10 +18,10 @@ use ic_unsafe_ref::{Objects, Place, UnsafeRef};
 use std::alloc::Global;
 use std::process::Abort;
 
-// No place, as a file names it.
+// The number that a file has where it names no place.
 const NONE: usize = 8;
 
-// The place of that index, if it names one.
+// Returns the place with this index, or `None` if the index is not below 8.
 fn named(index: usize) -> Option<Place>
     ensures named { IsNameable (HasRoom wide) result }
 {
@@ -31,7 +31,7 @@ fn named(index: usize) -> Option<Place>
     Some(place_at(index))
 }
 
-// Links each place before the one that a file names for it.
+// Links the first place of each pair, so that the second place of the pair comes after it. The pairs are what a file says.
 fn read_links(links: &mut LinkOps, pairs: &[(usize, usize)])
     requires covers { (table wide no_word links.old).extent.places ≡ 8 }
 {
@@ -43,7 +43,8 @@ fn read_links(links: &mut LinkOps, pairs: &[(usize, usize)])
     }
 }
 
-// Returns the first member with this key of the hash table over these buckets, if the words represent one with this many members.
+// Returns the first member with this key of the hash table over these buckets. Returns `None` if the words do not represent a hash table with `len`
+// members.
 fn find_in_file(
     words: &mut [u64],
     links: &LinkOps,
@@ -62,7 +63,7 @@ fn find_in_file(
     hash.find(links, objects, &key)
 }
 
-// Notes which member with this key a table of four buckets has, whose words are these.
+// Notes which member with this key is found in a hash table of four buckets that consist of these words.
 fn write_found(
     rt: &impl Abort,
     alloc: Global,
@@ -79,9 +80,10 @@ fn write_found(
     notes.add(object(found), " ");
 }
 
-// 20 and 40 belong in chain 0, and 10 and 30 in chain 2. The word 7 names no place. The first table is one. In the others 10 is in chain 1, a
-// chain of 10 and 30 runs in a circle, 40 is after 20 and after 10, one member more is counted, the first member is not linked, and it is
-// beyond all places.
+// The check must accept the words of one table, and refuse the words of six others, which have a fault each. The numbers 20 and 40 belong in chain 0,
+// and 10 and 30 in chain 2. The word 7 names no place. The first table is correct, and its search finds 30. In the second table, 10 is in the wrong
+// chain 1. In the third, the chain of 10 and 30 has no end. In the fourth, 40 is in two chains. In the fifth, the count is greater than the number of
+// members. In the last two, the first member of a chain is not linked, and is beyond all places.
 // Promise: a hash table of a file.
 #[test]
 fn tables_of_a_file_are_checked(rt: HostRuntime) {

@@ -1,4 +1,4 @@
-//! A hash table whose keys are beside the links.
+//! Calls of a hash table whose keys are stored beside the links.
 
 ghost use Rattle.std.specs.Prelude.{◌≡◌, ◌<◌};
 ghost use Rattle.ic_link_ops.specs.Tables.{IsCovered};
@@ -10,7 +10,7 @@ use ic_link_ops::{LinkOps as _, LinkValues};
 use ic_test_support::objects::reference;
 use ic_unsafe_ref::UnsafeRef;
 
-/// Inserts the object by the key beside its link.
+/// Inserts the object at this place by the key that is stored beside its link.
 pub(super) fn put_keyed<
     A: HashAdapter<Value = u64>,
     L: SinglyLinkedListOps + LinkValues<u64>,
@@ -25,7 +25,7 @@ pub(super) fn put_keyed<
     let _ = table.insert_keyed(links, reference(index));
 }
 
-/// Removes the object, and returns whether it was a member.
+/// Removes the object at this place, and returns whether it was a member.
 pub(super) fn take_keyed<
     A: HashAdapter<Value = u64>,
     L: SinglyLinkedListOps + LinkValues<u64>,
@@ -40,7 +40,7 @@ pub(super) fn take_keyed<
     table.remove_keyed(links, &reference(index))
 }
 
-/// Removes the first member with this key.
+/// Removes the first member with this key, and returns it, if there is one.
 pub(super) fn take_by_keyed<
     A: HashAdapter<Value = u64>,
     L: SinglyLinkedListOps + LinkValues<u64>,

@@ -1,4 +1,4 @@
-//! A hash table over links of 4-byte words, with buckets of 4 bytes: the edits have the same results as over words of 8 bytes.
+//! Tests of a hash table over links of 4-byte words, with buckets of 4 bytes. The edits must have the results that they have over words of 8 bytes.
 
 use crate::asserts::assert_true;
 use crate::hash_table::{EDITS, NUMBERS, OwnKey, write_edits};
@@ -7,6 +7,7 @@ use ic_link_ops::singly_linked_list::NarrowLinkOps;
 use ic_test_support::notes::Text;
 use ic_test_support::objects::eight_objects;
 
+// The edits of a hash table with buckets of 4-byte words must have the results that they have over 8-byte words.
 // Promise: edits of a hash table over 4-byte words.
 #[test]
 fn a_table_of_narrow_buckets(rt: HostRuntime) {
@@ -21,7 +22,8 @@ fn a_table_of_narrow_buckets(rt: HostRuntime) {
     assert_true(&rt, notes.has_words(EDITS));
 }
 
-// Words of 4 bytes that are lent, as of a file that is mapped.
+// A hash table gets words of 4 bytes that are lent to it, for example the words of a file that is mapped into memory. Its edits must have the expected
+// results.
 #[test]
 fn a_table_of_lent_narrow_words(rt: HostRuntime) {
     let alloc = rt.alloc();

@@ -1,4 +1,5 @@
-//! A hash table whose buckets are plain words, as of a file that is mapped: it is closed, and made again of its words.
+//! Tests of a hash table whose buckets are plain words, for example the words of a file that is mapped into memory. The table is closed, and a new one
+//! is made of its words.
 
 ghost use Rattle.std.specs.Prelude.{◌≡◌, ◌<◌, ◌≤◌, None, length, true};
 ghost use Rattle.std.specs.List.{AllByRecursion};
@@ -14,7 +15,8 @@ use ic_test_support::notes::{Answer, Text};
 use ic_test_support::objects::eight_objects;
 use ic_unsafe_ref::{Objects, UnsafeRef};
 
-// Puts two objects into a new table over these buckets, closes it, and makes it again: the member that it finds by this key then.
+// Inserts two objects into a new table over these buckets, closes it, and makes a table of the buckets again. Returns the member that the second table
+// finds by this key.
 fn found_again<A: HashAdapter<Value = u64>, L: SinglyLinkedListOps, B: BucketsFor<L> + Drop>(
     adapter: A,
     buckets: B,
@@ -36,8 +38,8 @@ fn found_again<A: HashAdapter<Value = u64>, L: SinglyLinkedListOps, B: BucketsFo
     again.find(&*links, objects, key)
 }
 
-// Inserts an object into a table over lent words of which one chain is in use, takes one chain more into use, which it always can, and empties the
-// table. The lent words come back, and are 0 again.
+// Inserts an object into a table over lent words of which one chain is in use, takes a second chain into use, which always succeeds, and empties the
+// table. Returns whether the table grew, and the lent words, all of which are 0 again.
 fn grown_and_cleared<'a, L: SinglyLinkedListOps>(
     words: &'a mut [u64],
     links: &mut L,
@@ -58,7 +60,8 @@ fn grown_and_cleared<'a, L: SinglyLinkedListOps>(
     (is_grown, table.into_buckets())
 }
 
-// The words name no place at first. 10 and 30 belong in chain 2, whose first member is the object at 3 then.
+// The words name no place at first. After two objects are inserted, a search for 10 must find the object at place 0. The numbers 10 and 30 belong in
+// chain 2, so the word of chain 2 must name place 3, where 30 is.
 #[test]
 fn a_table_over_words(rt: HostRuntime) {
     let alloc = rt.alloc();

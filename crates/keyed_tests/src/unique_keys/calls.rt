@@ -1,4 +1,4 @@
-//! Calls of a container of pages and their results, as values.
+//! The calls of a container of pages, and their results, as values of two enums.
 
 use ic_keyed::{HasKey, Index, InsertError, Keyed};
 use std::alloc::Allocator;
@@ -18,7 +18,8 @@ impl HasKey for Page {
     }
 }
 
-/// A call of the container. `Put` replaces the page with the number, or else inserts one, and `PutOver` replaces the oldest one.
+/// A call of the container. `Put` and `PutOver` replace the page with the number. If no page has the number, `Put` inserts a page, and `PutOver`
+/// replaces the oldest page.
 #[derive(Clone, Copy)]
 pub(crate) enum Call {
     Insert(u64, u64),
@@ -37,7 +38,7 @@ pub(crate) enum Call {
     Clear,
 }
 
-/// The result of a call.
+/// The result of a call of the container.
 #[derive(Clone, Copy, PartialEq)]
 pub(crate) enum Answer {
     Nothing,
@@ -48,7 +49,7 @@ pub(crate) enum Answer {
     NoRoom(u64, u64),
 }
 
-/// Makes the call.
+/// Makes the call on the container, and returns its result.
 pub(crate) fn make<I: Index<Page, A>, A: Allocator>(
     pages: &mut Keyed<Page, I, A>,
     call: Call,
@@ -111,7 +112,7 @@ fn shown(page: Option<Page>) -> Answer {
     }
 }
 
-/// Returns whether the pages have these numbers in this order, from both ends.
+/// Returns whether the pages have these numbers in this order, as walks from both ends find them.
 pub(crate) fn are<I: Index<Page, A>, A: Allocator>(
     pages: &Keyed<Page, I, A>,
     numbers: &[u64],

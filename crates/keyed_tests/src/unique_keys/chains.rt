@@ -1,4 +1,4 @@
-//! Pages by a hash table with two buckets, over links of 4-byte words: how many pages a search compares.
+//! A test of how many pages a search compares. The pages are in a hash table with two buckets, over links of 4-byte words.
 
 use crate::unique_keys::calls::{Answer, Call, Page, make};
 use ic_hash_index::{HashIndex, NarrowHashIndex, empty_buckets};
@@ -7,8 +7,8 @@ use ic_link_ops::PlaceWord;
 
 type Pages = Keyed<Page, NarrowHashIndex<Page, Vec<PlaceWord>>>;
 
-// By the last bit of their hashes 2, 3, 6 and 7 belong in chain 0, and 1, 4 and 5 in chain 1. A new page is inserted at the front of its chain. After
-// each row: the chains afterwards.
+// The calls and their expected results. By the last bit of their hashes, the pages 2, 3, 6 and 7 belong in chain 0, and 1, 4 and 5 in chain 1. A new
+// page is inserted at the front of its chain. The comment after a row lists both chains after the call.
 const ROWS: &[(Call, Answer)] = &[
     (Call::Insert(2, 20), Answer::Nothing), // 2 and none
     (Call::Insert(1, 10), Answer::Nothing), // 2 and 1
@@ -38,6 +38,7 @@ const ROWS: &[(Call, Answer)] = &[
     (Call::Looks(2), Answer::Count(0)),
 ];
 
+// The test makes the calls of the rows on pages in a hash table with two buckets, and each call must have the result of its row.
 // Promise: looks in chains.
 #[test]
 fn looks_in_chains(rt: HostRuntime) {

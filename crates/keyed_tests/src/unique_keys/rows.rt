@@ -1,4 +1,4 @@
-//! The worked rows: calls, their results, and the numbers of the pages afterwards.
+//! The rows of the tests. Each row has a call, its expected result, and the numbers of the pages after the call.
 
 use crate::unique_keys::calls::{Answer, Call, Page, are, make};
 use ic_hash_index::{HashIndex, NarrowHashIndex};
@@ -9,6 +9,7 @@ use std::alloc::{Allocator, Global};
 
 type Row = (Call, Answer, &'static [u64]);
 
+// The rows of the tests. The rows test the order of use, a key that is already there, and a page that replaces another page.
 // Promise: the order of use, a key that is there, one in the place of another.
 const ROWS: &[Row] = &[
     (Call::First, Answer::Nothing, &[]),
@@ -65,8 +66,8 @@ fn puts_in(call: Call, number: u64, size: u64) -> bool {
     }
 }
 
-// Plays the rows. An insert with no room gives its page back and changes nothing, so it is made once more. It returns how many were refused, or none
-// if a call has another result.
+// Makes the call of each row, and compares its result with the row. An insert that finds no memory gives its page back and changes nothing, so the
+// insert is made once more. Returns how many inserts were refused, or `None` if a call has another result than its row.
 fn play<I: Index<Page, A>, A: Allocator>(
     pages: &mut Keyed<Page, I, A>,
     rows: &[Row],
@@ -88,7 +89,7 @@ fn play<I: Index<Page, A>, A: Allocator>(
     Some(refused)
 }
 
-// Which index the container has.
+// The index that the container has: a tree or a hash table, over links of 8-byte or of 4-byte words.
 #[derive(Clone, Copy)]
 enum By {
     Tree,
@@ -97,7 +98,8 @@ enum By {
     NarrowHashTable,
 }
 
-// The same on a new container of that memory, by a tree or by a hash table with two chains, over links of either width.
+// Makes the calls of the rows on a new container that takes its memory from `memory`, with the given index. A hash table has two chains. Returns how
+// many inserts were refused, or `None` if a call has another result than its row.
 fn play_new(by: By, memory: &Rationed, rows: &[Row]) -> Option<usize> {
     match by {
         By::Tree => {
@@ -121,8 +123,8 @@ fn play_new(by: By, memory: &Rationed, rows: &[Row]) -> Option<usize> {
     }
 }
 
-// Returns whether the refusal of each request for memory refuses exactly one call. There are at least three requests, since each table grew, and the
-// objects did.
+// Returns whether the refusal of each request for memory refuses exactly one call. There must be at least three requests for memory, because each table
+// and the objects grow.
 fn is_refused_in_turn(by: By, alloc: Global, rows: &[Row]) -> bool {
     let memory = Rationed::new(alloc, u64::MAX);
     let mut as_wanted = play_new(by, &memory, rows) == Some(0);

@@ -1,4 +1,4 @@
-//! Values that wait for a deadline, and their order.
+//! Values that wait for a deadline, and the order of these values by deadline.
 //!
 //! ```text
 //! impl HasDeadline for Timer {

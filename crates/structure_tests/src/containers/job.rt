@@ -1,9 +1,9 @@
-//! A job, and how urgent it is.
+//! A job of the queue, and its priority.
 
 ghost use Rattle.std.specs.Prelude.{◌≡◌, ◌<◌};
 ghost use Rattle.structure_tests.specs.Jobs.{lane_of};
 
-/// How urgent a job is.
+/// The priority of a job: how urgent the job is.
 #[derive(Clone, Copy, PartialEq, Eq, Debug)]
 pub enum Priority {
     Urgent,
@@ -13,7 +13,7 @@ pub enum Priority {
 }
 
 impl Priority {
-    /// The lane of this priority, 0 to 3. O(1).
+    /// Returns the number of the lane of this priority, which is 0 to 3. O(1).
     pub fn lane(self) -> usize
         ensures value { result ≡ lane_of self }
         ensures small { result < 4 }

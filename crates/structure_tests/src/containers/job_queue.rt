@@ -1,4 +1,4 @@
-//! The queue.
+//! The queue of jobs with four priorities.
 //!
 //! ```text
 //! let job = queue.push(Priority::Urgent, 1)?;
@@ -10,12 +10,12 @@ ghost use Rattle.std.specs.Prelude.{◌≡◌, ℕ, None, IfOk, IfErr, IfSome, I
 ghost use Rattle.std.specs.Bool.{OnTrue, OnFalse};
 ghost use Rattle.ic_unsafe_ref.specs.Objects.{object_at};
 ghost use Rattle.ic_link_ops.specs.Chains.{no_members};
-ghost use Rattle.ic_container.specs.Lanes.{lane, lane_at, IsEmpty, IsUnchanged, Pushes, Renews, TakesFirst, TakesOut};
+ghost use Rattle.ic_container.specs.ListArray.{lane, lane_at, IsEmpty, IsUnchanged, Pushes, Renews, TakesFirst, TakesOut};
 ghost use Rattle.ic_pool.specs.Refusals.{value_of};
 ghost use Rattle.structure_tests.specs.Jobs.{job_of, lane_of_job};
 
 use crate::containers::{Job, Priority};
-use ic_container::lanes;
+use ic_container::list_array;
 use ic_link_ops::linked_list::LinkOps;
 use ic_linked_list::LinkedList;
 use ic_pool::{PlaceError, Pool};
@@ -24,9 +24,9 @@ use std::alloc::{Allocator, Global};
 use std::array;
 use std::marker::Model;
 
-/// Jobs that wait, the urgent ones first.
+/// A queue of waiting jobs, which returns the most urgent jobs first.
 ///
-/// A contract sees the references of each lane from its front, and the job that each reference names.
+/// A contract describes the queue by the references of each lane, from its front on, and by the job of each reference.
 #[derive(Drop)]
 pub struct JobQueue<V, A: Allocator = Global> {
     pool: Pool<Job<V>, LinkOps<A>, A>,
@@ -35,20 +35,20 @@ pub struct JobQueue<V, A: Allocator = Global> {
 
 impl<V, A: Allocator> Model for JobQueue<V, A> {
     ghost use Rattle.std.specs.Coded.{codes};
-    ghost use Rattle.ic_container.specs.Lanes.{Lanes, lanes_code, lanes_of, IsLaned};
+    ghost use Rattle.ic_container.specs.ListArray.{ListArray, list_array_code, list_array_of, IsListArray};
     ghost use Rattle.structure_tests.specs.declared.containers.job.Job.{Job};
     ghost use Rattle.structure_tests.specs.Jobs.{lane_of_job};
 
-    ghost Value = { Lanes (Job V) };
+    ghost Value = { ListArray (Job V) };
 
-    ghost coded = { lanes_code (Prim.hlevel (codes, V.code)) };
+    ghost coded = { list_array_code (Prim.hlevel (codes, V.code)) };
 
-    ghost view = { λ q. lanes_of q.pool.objects q.pool.links q.lanes };
+    ghost view = { λ q. list_array_of q.pool.objects q.pool.links q.lanes };
 
-    ghost invariant = { λ q. IsLaned lane_of_job q.pool.objects q.pool.links q.lanes };
+    ghost invariant = { λ q. IsListArray lane_of_job q.pool.objects q.pool.links q.lanes };
 }
 
-// Four lanes with no job.
+// Returns four lanes that have no jobs.
 fn no_lanes<V>() -> [LinkedList<Job<V>>; 4]
     ensures { (i : ℕ) → lane_at result i ≡ no_members }
 {
@@ -56,7 +56,7 @@ fn no_lanes<V>() -> [LinkedList<Job<V>>; 4]
 }
 
 impl<V, A: Allocator> JobQueue<V, A> {
-    /// No job waits. It takes no memory.
+    /// Makes a queue in which no job waits. The call takes no memory.
     pub fn new(alloc: A) -> JobQueue<V, A>
     where
         A: Copy,
@@ -68,8 +68,8 @@ impl<V, A: Allocator> JobQueue<V, A> {
         }
     }
 
-    /// Adds a job after the other jobs of its priority, and returns the reference by which it can be canceled. If there is no room for it, the caller
-    /// gets the job back, and nothing has changed. O(1), and at most two requests for memory.
+    /// Adds a job after the other jobs of its priority, and returns the reference by which it can be canceled. If there is no memory for the job, the
+    /// caller gets the job back, and nothing has changed. O(1), and the call makes at most two requests for memory.
     pub fn push(
         &mut self,
         priority: Priority,
@@ -83,12 +83,12 @@ impl<V, A: Allocator> JobQueue<V, A> {
             Err(refused) => return Err(refused),
         };
         let (lanes, links) = (&mut self.lanes, &mut self.pool.links);
-        lanes::push_back(lanes, links, priority.lane(), job.place());
+        list_array::push_back(lanes, links, priority.lane(), job.place());
         Ok(job)
     }
 
-    /// Gives a job another priority, and moves it after the jobs that have that priority. If no job has this reference, it returns `false`, and
-    /// nothing has changed. O(1), and it takes no memory.
+    /// Gives a job another priority, and moves it after the jobs that have that priority. If no job has this reference, the call returns `false`, and
+    /// nothing has changed. O(1), and the call takes no memory.
     pub fn reprioritize(&mut self, job: &UnsafeRef<Job<V>>, priority: Priority) -> bool
         ensures moved { OnTrue result ((value : V) × (was : Priority) × Renews lane_of_job job.now (job_of was value) (job_of priority value) self.old self.new) }
         ensures none { OnFalse result ((object_at self.old.values job.now ≡ None) × IsUnchanged self.old self.new) }
@@ -99,28 +99,29 @@ impl<V, A: Allocator> JobQueue<V, A> {
         let lane = it.priority.lane();
         it.priority = priority;
         let (lanes, links) = (&mut self.lanes, &mut self.pool.links);
-        lanes::move_to_back(lanes, links, lane, priority.lane(), job.place());
+        list_array::move_to_back(lanes, links, lane, priority.lane(), job.place());
         true
     }
 
-    /// Removes a waiting job and returns it. If no job has this reference, it returns `None`, and nothing has changed. O(1), and it takes no memory.
+    /// Removes the waiting job with this reference and returns it. If no job has this reference, the call returns `None`, and nothing has changed.
+    /// O(1), and the call takes no memory.
     pub fn cancel(&mut self, job: &UnsafeRef<Job<V>>) -> Option<Job<V>>
         ensures cancelled { IfSome result (λ it. TakesOut lane_of_job job.now it self.old self.new) }
         ensures none { IfNone result ((object_at self.old.values job.now ≡ None) × IsUnchanged self.old self.new) }
     {
         let lane = self.pool.get(job)?.priority.lane();
         let (lanes, links) = (&mut self.lanes, &mut self.pool.links);
-        lanes::remove(lanes, links, lane, job.place());
+        list_array::remove(lanes, links, lane, job.place());
         Some(self.pool.remove(UnsafeRef::new(job.place())))
     }
 
-    /// Removes the first job of the most urgent lane that has one and returns it. If no job waits, it returns `None`, and nothing has changed. O(1),
-    /// and it takes no memory.
+    /// Removes the first job of the most urgent lane that has a job, and returns it. If no job waits, the call returns `None`, and nothing has changed.
+    /// O(1), and the call takes no memory.
     pub fn pop(&mut self) -> Option<Job<V>>
         ensures taken { IfSome result (λ job. TakesFirst lane_of_job job self.old self.new) }
         ensures none { IfNone result (((i : ℕ) → lane self.old i ≡ []) × IsUnchanged self.old self.new) }
     {
-        let first = lanes::first(&self.lanes)?;
+        let first = list_array::first(&self.lanes)?;
         self.cancel(&UnsafeRef::new(first))
     }
 }

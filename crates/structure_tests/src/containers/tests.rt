@@ -1,11 +1,11 @@
-//! Each call once.
+//! A test makes each call of the job queue at least once.
 
 use crate::asserts::{assert_same, assert_true};
 use crate::containers::{Job, JobQueue, Priority};
 use ic_unsafe_ref::UnsafeRef;
 use std::process::Abort;
 
-// Adds a job, for which there is room.
+// Adds a job to the queue, and fails the test if there is no memory for the job.
 fn added(
     rt: &impl Abort,
     queue: &mut JobQueue<u64>,
@@ -18,7 +18,7 @@ fn added(
     }
 }
 
-// The value of a job that was taken out.
+// Returns the value of a job that was removed from the queue, if there is one.
 fn value(job: Option<Job<u64>>) -> Option<u64> {
     Some(job?.value)
 }

@@ -1,4 +1,4 @@
-//! The calls that the rows make, on a first ring and a second one.
+//! The calls that the rows of the tests make, on a first and a second ring.
 
 ghost use Rattle.std.specs.Prelude.{◌≡◌, ◌<◌};
 ghost use Rattle.ic_link_ops.specs.Prelude.{Place, index_of};
@@ -12,28 +12,29 @@ use ic_ring::{
 };
 use ic_unsafe_ref::{Place, UnsafeRef};
 
-/// A call of the first ring, of its first member or of its last one. Some have the meaning of a call of Linux's lists, which is named.
+/// A call of the first ring, of its first member or of its last member. The comment of a call names the call of Linux's lists that does the same, if
+/// there is one.
 #[derive(Clone, Copy)]
 pub(crate) enum Call {
-    /// `list_add`
+    /// Linux has this call as `list_add`.
     PushFront,
-    /// `list_add_tail`
+    /// Linux has this call as `list_add_tail`.
     PushBack,
     PopFront,
     PopBack,
     Clear,
     InsertBeforeFirst,
     InsertAfterFirst,
-    /// `list_replace`
+    /// Linux has this call as `list_replace`.
     ReplaceFirst,
-    /// `list_del`
+    /// Linux has this call as `list_del`.
     RemoveFirst,
-    /// `list_rotate_left`
+    /// Linux has this call as `list_rotate_left`.
     MoveFirstToBack,
     MoveLastToFront,
 }
 
-/// A call by a cursor on the first member of the first ring or on its last one. The last three take the second ring, too.
+/// A call by a cursor on the first or on the last member of the first ring. The last three calls also have the second ring as an argument.
 #[derive(Clone, Copy)]
 pub(crate) enum At {
     FirstInsertAfter,
@@ -45,22 +46,22 @@ pub(crate) enum At {
     FirstSplitAfter,
 }
 
-/// A call of both rings.
+/// A call that edits both rings, or the second ring.
 #[derive(Clone, Copy)]
 pub(crate) enum Pair {
-    /// Puts the object at the back of the second ring.
+    /// Inserts the object at the back of the second ring.
     PushBack,
-    /// Moves the first member of the second ring to the back of the first one: `list_move_tail`
+    /// Moves the first member of the second ring to the back of the first ring. Linux has this call as `list_move_tail`.
     MoveFirstToBack,
-    /// Moves it to the front of the first ring: `list_move`
+    /// Moves the first member of the second ring to the front of the first ring. Linux has this call as `list_move`.
     MoveFirstToFront,
-    /// Moves the members after the first one of the first ring to the front of the second ring: `list_cut_position`, the other way round
+    /// Moves all members of the first ring except its first one to the second ring. Linux's `list_cut_position` moves the members before a cut instead.
     SplitAfterFirst,
-    /// Moves all members of the second ring to the back of the first one: `list_splice_tail_init`
+    /// Moves all members of the second ring to the back of the first ring. Linux has this call as `list_splice_tail_init`.
     SpliceBack,
 }
 
-// The object that was refused, if one was.
+// Returns the object that the insert refused, if the insert refused one.
 fn refused(put: Result<(), AlreadyLinked<u64>>) -> Option<UnsafeRef<u64>> {
     match put {
         Ok(()) => None,
@@ -68,7 +69,7 @@ fn refused(put: Result<(), AlreadyLinked<u64>>) -> Option<UnsafeRef<u64>> {
     }
 }
 
-// Returns the object that the call gives back: the one that was replaced, or the one that was refused.
+// Returns the object that a replacement gives back: the object that was replaced, or the object that was refused.
 fn given_back(put: Result<UnsafeRef<u64>, ReplaceError<u64>>) -> Option<UnsafeRef<u64>> {
     match put {
         Ok(out) => Some(out),
@@ -76,7 +77,7 @@ fn given_back(put: Result<UnsafeRef<u64>, ReplaceError<u64>>) -> Option<UnsafeRe
     }
 }
 
-// The object that a cursor is on, if the cursor and one that reads, which is made of it, agree on its place.
+// Returns the object on which a cursor is, if a reading cursor that is made of it is on the same place.
 fn object_on(is_null: bool, at: Option<Place>, read: Option<Place>) -> Option<UnsafeRef<u64>> {
     match at {
         Some(place) if !is_null && read == at => Some(UnsafeRef::new(place)),
@@ -84,7 +85,7 @@ fn object_on(is_null: bool, at: Option<Place>, read: Option<Place>) -> Option<Un
     }
 }
 
-/// Makes a call of the first ring, and returns the object that it gives back, if it does.
+/// Makes a call of the first ring, and returns the object that the call gives back, if there is one.
 pub(crate) fn call_ring<L: LinkedListOps>(
     links: &mut L,
     ring: &Ring<u64>,
@@ -106,7 +107,7 @@ pub(crate) fn call_ring<L: LinkedListOps>(
     None
 }
 
-// Makes a call of the first member or the last, if there is one.
+// Makes a call of the first or the last member of the ring, if the ring has members, and returns the object that the call refuses, if there is one.
 fn call_member<L: LinkedListOps>(
     links: &mut L,
     ring: &Ring<u64>,
@@ -137,7 +138,8 @@ fn call_member<L: LinkedListOps>(
     None
 }
 
-/// Makes a call by a cursor, and returns the object that it gives back, or else the one that the cursor is then on.
+/// Makes a call by a cursor, and returns the object that the call gives back. If a call gives no object back, the result is the object on which the
+/// cursor then is.
 pub(crate) fn call_by_cursor<L: LinkedListOps>(
     links: &mut L,
     ring: &Ring<u64>,
@@ -187,7 +189,7 @@ pub(crate) fn call_by_cursor<L: LinkedListOps>(
     )
 }
 
-/// Makes a call of both rings, and returns the object that it gives back, if it does.
+/// Makes a call of both rings, and returns the object that the call gives back, if there is one.
 pub(crate) fn call_both<L: LinkedListOps>(
     links: &mut L,
     ring: &Ring<u64>,
@@ -218,7 +220,7 @@ pub(crate) fn call_both<L: LinkedListOps>(
     None
 }
 
-/// Joins the two rings at their heads: the second head is a member of the first ring then.
+/// Exchanges the successors of the two heads, which joins the two rings. The head of the second ring is then a member of the first ring.
 pub(crate) fn exchange_heads<L: LinkedListOps>(links: &mut L, ring: &Ring<u64>, other: &Ring<u64>)
     requires two { TwoRings L.neighbors (L.table links.old) ring.now other.now }
     ensures covers { (L.table links.new).extent.places ≡ 8 }

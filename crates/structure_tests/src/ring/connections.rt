@@ -1,4 +1,5 @@
-//! Connections in queues: one that closes leaves its queue, and nobody has to know which that is.
+//! Connections in queues, which are rings. A connection that closes is removed from its queue, and the caller does not need to know which queue this
+//! is.
 
 ghost use Rattle.std.specs.Prelude.{◌≡◌, ◌≢◌, ◌<◌, ◌∷◌, ◌++◌, List, [], IfSome, Some, true};
 ghost use Rattle.ic_link_ops.specs.Prelude.{Place, index_of, object_at, is_placed, IsMember, at_back, at_front, first, insert, remove, releases};
@@ -12,7 +13,7 @@ use ic_test_support::answers::{object, value, write_places};
 use ic_test_support::notes::{Answer, Text};
 use ic_unsafe_ref::{Objects, Place, UnsafeRef};
 
-/// Marks a connection as used: it moves to the back of the idle queue, from whichever queue it was in.
+/// Moves a connection, which is being used, from whichever queue it is in to the back of the idle queue.
 pub(crate) fn touch<L: LinkedListOps>(links: &mut L, idle: &Ring<u64>, connection: &UnsafeRef<u64>)
     requires queued { InRing L.neighbors (L.table links.old) connection.now }
     requires idle { InRing L.neighbors (L.table links.old) idle.now }
@@ -24,7 +25,7 @@ pub(crate) fn touch<L: LinkedListOps>(links: &mut L, idle: &Ring<u64>, connectio
     idle.move_to_back(links, connection);
 }
 
-/// The connection closes itself: it leaves its queue, whichever that is.
+/// Closes a connection: removes it from its queue, without naming the queue.
 pub(crate) fn close<L: LinkedListOps>(links: &mut L, connection: &UnsafeRef<u64>)
     requires queued { InRing L.neighbors (L.table links.old) connection.now }
     ensures left { (queue : Place) (front back : List Place) → Represents L.neighbors (L.table links.old) queue (front ++ connection.now ∷ back)
@@ -35,7 +36,7 @@ pub(crate) fn close<L: LinkedListOps>(links: &mut L, connection: &UnsafeRef<u64>
     remove(links, connection);
 }
 
-/// The connection that has been idle longest is closed, if there is one.
+/// Removes the connection that has been idle longest, which is the first one of the queue, and returns it, if there is one.
 pub(crate) fn close_oldest<L: LinkedListOps>(
     links: &mut L,
     idle: &Ring<u64>,
@@ -49,7 +50,7 @@ pub(crate) fn close_oldest<L: LinkedListOps>(
     idle.pop_front(links)
 }
 
-// Closes the first connection in the queue, and returns which one is then first, and its number.
+// Removes the first connection of the queue. Returns the removed connection, the connection that is then the first, and the number of the latter.
 fn close_first<L: LinkedListOps>(
     links: &mut L,
     objects: &Objects<u64>,
@@ -69,7 +70,7 @@ fn close_first<L: LinkedListOps>(
     (closed, cursor.get_ptr(), cursor.get(objects).copied())
 }
 
-// Returns whether the connection is the last one in the queue, which it is if the head comes after it.
+// Returns whether the connection is the last one in the queue. A connection is the last one if the head comes after it.
 fn is_last<L: LinkedListOps>(links: &L, queue: &Ring<u64>, connection: &UnsafeRef<u64>) -> bool
     requires here { (r : List Place) × Represents L.neighbors (L.table links.now) queue.now r × IsMember connection.now (queue.now ∷ r) }
     ensures last { (s : List Place) → Represents L.neighbors (L.table links.now) queue.now (s ++ connection.now ∷ []) → result ≡ true }
@@ -79,7 +80,7 @@ fn is_last<L: LinkedListOps>(links: &L, queue: &Ring<u64>, connection: &UnsafeRe
     cursor.is_null()
 }
 
-// Closes the connection, and returns which one was after it, and whether there was none.
+// Removes the connection from the queue, and returns the connection after it, and whether there is no connection after it.
 fn close_here<L: LinkedListOps>(
     links: &mut L,
     queue: &Ring<u64>,
@@ -94,7 +95,8 @@ fn close_here<L: LinkedListOps>(
     (cursor.as_cursor().get_ptr(), cursor.is_null())
 }
 
-// Closes the last connection of the queue, if there is one: whether it was the last, what stood after it, and whether that was none.
+// Removes the last connection of the queue, if there is one. Returns whether it was the last, the connection after it, and whether there is no
+// connection after it.
 fn close_last<L: LinkedListOps>(links: &mut L, queue: &Ring<u64>) -> (bool, Option<Place>, bool)
     requires queue { InRing L.neighbors (L.table links.old) queue.now }
     ensures queue { InRing L.neighbors (L.table links.new) queue.now }
@@ -109,7 +111,7 @@ fn close_last<L: LinkedListOps>(links: &mut L, queue: &Ring<u64>) -> (bool, Opti
     (was_last, after, is_none)
 }
 
-// Moves the first member to the back, as `list_rotate_left` does.
+// Moves the first member of the ring to the back, as Linux's `list_rotate_left` does.
 fn rotate_left<L: LinkedListOps>(links: &mut L, ring: &Ring<u64>)
     requires covers { (L.table links.old).extent.places ≡ 8 }
     requires shown { InRing L.neighbors (L.table links.old) ring.now }
@@ -122,7 +124,7 @@ fn rotate_left<L: LinkedListOps>(links: &mut L, ring: &Ring<u64>)
     touch(links, ring, &UnsafeRef::new(first));
 }
 
-// Removes the first member without naming a ring, as `list_del` does.
+// Removes the first member by a call that does not name the ring, as Linux's `list_del` does.
 fn remove_first<L: LinkedListOps>(links: &mut L, ring: &Ring<u64>)
     requires covers { (L.table links.old).extent.places ≡ 8 }
     requires shown { InRing L.neighbors (L.table links.old) ring.now }
@@ -135,10 +137,11 @@ fn remove_first<L: LinkedListOps>(links: &mut L, ring: &Ring<u64>)
     close(links, &UnsafeRef::new(first));
 }
 
-/// Serves a queue, and notes what the calls return.
+/// Makes the calls of a server on a queue of connections, and notes what the calls return.
 ///
-/// The first connection is used, the one that is then first closes itself, and the members are noted. A cursor closes the next one, and returns which
-/// one is then first, and its number. Then the one that has been idle for longest is closed, and finally the last one.
+/// The first connection is used and moves to the back. The connection that is then the first is closed, and the members are noted. A cursor closes the
+/// next first connection, and the function notes which connection is then the first, and its number. Then the connection that has been idle longest is
+/// closed, and finally the last one.
 pub(crate) fn write_served<L: LinkedListOps>(
     notes: &mut Text,
     links: &mut L,

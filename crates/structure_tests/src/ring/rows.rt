@@ -1,28 +1,29 @@
-//! The rows: calls on two rings of one table, and their members after each call. The heads are at the places 6 and 7, and the objects 10 to 60 at the
-//! places 0 to 5.
+//! The rows of the tests of rings. Each row has a call on two rings of one table, and the members of both rings after the call. The heads are at the
+//! places 6 and 7, and the objects 10 to 60 at the places 0 to 5.
 
 use crate::ring::calls::{At, Call, Pair};
 use Row::{Both, Cursor, Ends, Ring, Second};
 
-/// A call, and the index of the place whose object it takes, if it takes one.
+/// A call of the test. Its number is the index of the place of the object that is the call's argument, if the call has one.
 #[derive(Clone, Copy)]
 pub(crate) enum Row {
     /// A call of the first ring.
     Ring(Call, usize),
     /// A call by a cursor in the first ring.
     Cursor(At, usize),
-    /// A call of both rings.
+    /// A call of both rings, or of the second ring.
     Both(Pair, usize),
-    /// Notes whether the first ring is empty, its first and its last member, and the places before and after its head.
+    /// The test notes whether the first ring is empty, its first and its last member, and the places before and after its head.
     Ends,
-    /// Notes whether a cursor at the head is on no member, the second and the last member of the first ring, and the object of the second member.
+    /// The test notes whether a cursor at the head is on no member, the second and the last member of the first ring, and the object of the second
+    /// member.
     Second,
 }
 
-/// The rows make each call at least once. With each call are the object that it returns and the members of both rings: those from the front, and the
-/// one that a walk from the back meets first. The notes of `Ends` and `Second` come before these.
+/// The rows make each call at least once. The text of a row has the object that the call returns. Then the text has, for each ring, its members from
+/// the front on, and the member that a walk from the back meets first. The notes of `Ends` and `Second` come before these words.
 pub(crate) const ROWS: &[(Row, &str)] = &[
-    // Calls of one ring.
+    // The rows below make calls of one ring.
     (Ends, "yes none none 6 6 none none, none,"),
     (Ring(Call::PushFront, 0), "none 10 10, none,"),
     (Ring(Call::PushFront, 1), "none 20 10 10, none,"),
@@ -45,7 +46,7 @@ pub(crate) const ROWS: &[(Row, &str)] = &[
     (Ends, "yes none none 6 6 none none, none,"),
     (Ring(Call::PopFront, 0), "none none, none,"),
     (Ring(Call::PopBack, 0), "none none, none,"),
-    // Calls by a cursor in one ring.
+    // The rows below make calls by a cursor in one ring.
     (Cursor(At::FirstInsertAfter, 0), "none 10 10, none,"),
     (Cursor(At::FirstInsertAfter, 1), "none 10 20 20, none,"),
     (Cursor(At::FirstInsertAfter, 2), "none 10 30 20 20, none,"),
@@ -56,7 +57,7 @@ pub(crate) const ROWS: &[(Row, &str)] = &[
     (Cursor(At::LastReplaceWith, 4), "1 10 30 40 50 50, none,"),
     (Cursor(At::FirstRemove, 0), "0 30 40 50 50, none,"),
     (Second, "yes 3 4 40 none 30 40 50 50, none,"),
-    // Calls by a cursor that move members from one ring to the other.
+    // The rows below make calls by a cursor that move members between the two rings.
     (Ring(Call::Clear, 0), "none none, none,"),
     (Ring(Call::PushBack, 0), "none 10 10, none,"),
     (Ring(Call::PushBack, 1), "none 10 20 20, none,"),
@@ -69,7 +70,7 @@ pub(crate) const ROWS: &[(Row, &str)] = &[
     (Both(Pair::SplitAfterFirst, 0), "none 20 20, 10 30 40 40,"),
     (Both(Pair::MoveFirstToFront, 0), "none 10 20 20, 30 40 40,"),
     (Cursor(At::LastSpliceBefore, 0), "1 10 30 40 20 20, none,"),
-    // Calls of both rings.
+    // The rows below make calls of both rings.
     (Ring(Call::Clear, 0), "none none, none,"),
     (Ring(Call::PushBack, 0), "none 10 10, none,"),
     (Ring(Call::PushBack, 1), "none 10 20 20, none,"),
@@ -82,13 +83,14 @@ pub(crate) const ROWS: &[(Row, &str)] = &[
     ),
     (Both(Pair::SplitAfterFirst, 0), "none 40 40, 10 20 30 30,"),
     (Both(Pair::SpliceBack, 0), "none 40 10 20 30 30, none,"),
-    // The ring that the calls after the rows start from.
+    // The last rows make the ring with which the calls after the rows begin.
     (Ring(Call::MoveLastToFront, 0), "none 30 40 10 20 20, none,"),
     (Ring(Call::PushFront, 4), "none 50 30 40 10 20 20, none,"),
 ];
 
-/// The notes after the rows: the first ring after its head and that of the second ring, which is empty, were exchanged, and what [`write_served`]
-/// notes of it. Then the ring is printed, and its first member is bypassed and linked again. Each time it notes which member is first.
+/// The notes that the test makes after the rows. The successors of the two heads are exchanged, where the second ring is empty, and the notes begin
+/// with the first ring. Then come the notes of [`write_served`], and the text that the ring prints. At last the first member is bypassed and linked
+/// again, and the first member is noted each time.
 ///
 /// [`write_served`]: crate::ring::connections::write_served
 pub(crate) const LAST: &str =

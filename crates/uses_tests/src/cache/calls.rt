@@ -1,10 +1,10 @@
-//! Calls of a cache of numbers and their results, as values.
+//! The calls of a cache of numbers, and their results, as values of two enums.
 
 use ic_indexed::Index;
 use lru_cache::{Entry, InsertError, LruCache};
 use std::alloc::Allocator;
 
-/// A call of a cache.
+/// A call of a cache of numbers.
 #[derive(Clone, Copy)]
 pub(crate) enum Call {
     Insert(u64, u64),
@@ -18,7 +18,7 @@ pub(crate) enum Call {
     IsEmpty,
 }
 
-/// The result of a call.
+/// The result of a call of the cache.
 #[derive(Clone, Copy, PartialEq)]
 pub(crate) enum Answer {
     Nothing,
@@ -29,7 +29,7 @@ pub(crate) enum Answer {
     Refused(u64),
 }
 
-/// Makes the call.
+/// Makes the call on the cache, and returns its result.
 pub(crate) fn make<I: Index<Entry<u64>, A>, A: Allocator>(
     cache: &mut LruCache<u64, I, A>,
     call: Call,

@@ -1,4 +1,4 @@
-//! The worked rows: calls, and their results.
+//! The rows of the tests of the cache. Each row has a call and its expected result.
 
 use crate::cache::calls::{Answer, Call, make};
 use ic_hash_index::{HashIndex, NarrowHashIndex};
@@ -10,7 +10,8 @@ use std::alloc::{Allocator, Global};
 
 type Row = (Call, Answer);
 
-// Three keys in a cache of two entries. After each row: the keys afterwards, the one touched last first.
+// The rows for three keys in a cache of two entries. The comment after a row lists the keys after the call, and the key that was touched last comes
+// first.
 const TWO: &[Row] = &[
     (Call::IsEmpty, Answer::Truth(true)),
     (Call::PeekOldest, Answer::Nothing),
@@ -39,7 +40,7 @@ const TWO: &[Row] = &[
     (Call::Len, Answer::Count(0)),
 ];
 
-// In a cache of one entry each new key drives the other out.
+// In a cache of one entry, each new key must remove the old entry.
 const ONE: &[Row] = &[
     (Call::Insert(1, 10), Answer::Nothing),
     (Call::Insert(2, 20), Answer::Entry(1, 10)),
@@ -49,7 +50,7 @@ const ONE: &[Row] = &[
     (Call::Len, Answer::Count(1)),
 ];
 
-// From a cache with no bound none leaves by itself.
+// If a cache has no bound, an insert must not remove the entry of another key.
 const ALL: &[Row] = &[
     (Call::Insert(1, 10), Answer::Nothing),
     (Call::Insert(2, 20), Answer::Nothing),
@@ -59,7 +60,7 @@ const ALL: &[Row] = &[
     (Call::Len, Answer::Count(3)),
 ];
 
-// A cache of none keeps nothing.
+// A cache with room for no entry must keep nothing.
 const NONE: &[Row] = &[
     (Call::Insert(1, 10), Answer::Entry(1, 10)),
     (Call::Get(1), Answer::Nothing),
@@ -68,8 +69,8 @@ const NONE: &[Row] = &[
     (Call::Len, Answer::Count(0)),
 ];
 
-// Plays the rows. A refused insert gives its value back and changes nothing, so it is made once more. It returns how many were refused, or none if a
-// call has another result.
+// Makes the call of each row, and compares its result with the row. A refused insert gives its value back and changes nothing, so the insert is made
+// once more. Returns how many inserts were refused, or `None` if a call has another result than its row.
 fn play<I: Index<Entry<u64>, A>, A: Allocator>(
     cache: &mut LruCache<u64, I, A>,
     rows: &[Row],
@@ -91,7 +92,7 @@ fn play<I: Index<Entry<u64>, A>, A: Allocator>(
     Some(refused)
 }
 
-// Which index the cache has.
+// The index that the cache has: a tree or a hash table, over links of 8-byte or of 4-byte words.
 #[derive(Clone, Copy)]
 enum By {
     Tree,
@@ -100,7 +101,8 @@ enum By {
     NarrowHashTable,
 }
 
-// The same on a new cache of that memory, by a tree or by a hash table with two chains, over links of either width.
+// Makes the calls of the rows on a new cache that takes its memory from `memory`, with the given index. A hash table has two chains. Returns how many
+// inserts were refused, or `None` if a call has another result than its row.
 fn play_new(by: By, memory: &Rationed, capacity: usize, rows: &[Row]) -> Option<usize> {
     match by {
         By::Tree => {
@@ -125,8 +127,8 @@ fn play_new(by: By, memory: &Rationed, capacity: usize, rows: &[Row]) -> Option<
     }
 }
 
-// Returns whether the refusal of each request for memory refuses exactly one call. There are at least three requests if an entry is kept, since each
-// table grew, and the objects did.
+// Returns whether the refusal of each request for memory refuses exactly one call. There must be at least `least` requests, which is three if the cache
+// keeps an entry, because each table and the objects grow.
 fn is_refused_in_turn(by: By, alloc: Global, capacity: usize, rows: &[Row], least: u64) -> bool {
     let memory = Rationed::new(alloc, u64::MAX);
     let mut as_wanted = play_new(by, &memory, capacity, rows) == Some(0);

@@ -1,9 +1,9 @@
-//! Calls of an allocator and their results, as values.
+//! The calls of an allocator of addresses, and their results, as values of two enums.
 
 use region_allocator::{FreeError, RegionAllocator};
 use std::alloc::Allocator;
 
-/// A call of an allocator.
+/// A call of an allocator of addresses.
 #[derive(Clone, Copy)]
 pub(crate) enum Call {
     Free(u64, u64),
@@ -12,7 +12,7 @@ pub(crate) enum Call {
     IsEmpty,
 }
 
-/// The result of a call.
+/// The result of a call of the allocator.
 #[derive(Clone, Copy, PartialEq)]
 pub(crate) enum Answer {
     Done,
@@ -22,7 +22,7 @@ pub(crate) enum Answer {
     Truth(bool),
 }
 
-/// Makes the call.
+/// Makes the call on the allocator, and returns its result.
 pub(crate) fn make<A: Allocator>(space: &mut RegionAllocator<A>, call: Call) -> Answer {
     match call {
         Call::Free(start, length) => match space.free(start, length) {

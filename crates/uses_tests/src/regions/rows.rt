@@ -1,4 +1,4 @@
-//! The worked rows: calls, and their results.
+//! The rows of the tests of the allocator of addresses. Each row has a call and its expected result.
 
 use crate::regions::calls::{Answer, Call, make};
 use ic_test_support::rationed::Rationed;
@@ -7,7 +7,8 @@ use std::alloc::{Allocator, Global};
 
 type Row = (Call, Answer);
 
-// Addresses that are freed in pieces become one region: the third piece joins the region after it, and the last one joins those on both sides.
+// Addresses that are freed in pieces must become one region. For example, the piece from 0 on joins the region after it, and the last piece joins the
+// regions on both sides.
 const JOINED: &[Row] = &[
     (Call::IsEmpty, Answer::Truth(true)),
     (Call::Allocate(1), Answer::Nothing),
@@ -25,7 +26,7 @@ const JOINED: &[Row] = &[
     (Call::IsEmpty, Answer::Truth(true)),
 ];
 
-// The allocator takes the start of the first region that is long enough, even if a later one fits better.
+// The allocator must take the start of the first region that is long enough, even if a later region fits better.
 const FIRST_FIT: &[Row] = &[
     (Call::Allocate(0), Answer::Nothing),
     (Call::Free(300, 20), Answer::Done),
@@ -47,7 +48,7 @@ const FIRST_FIT: &[Row] = &[
     (Call::IsEmpty, Answer::Truth(true)),
 ];
 
-// Only the addresses 100 to 143 are free at first.
+// The allocator must refuse to free addresses that are free already. The addresses 100 to 143 are freed first.
 const REFUSED: &[Row] = &[
     (Call::Free(100, 44), Answer::Done),
     (Call::Free(143, 10), Answer::Refused(FreeError::Overlaps)),
@@ -64,19 +65,19 @@ const REFUSED: &[Row] = &[
     (Call::Allocate(44), Answer::At(100)),
 ];
 
-// A region that touches none needs memory; one that joins another needs none.
+// A freed region that touches no other region needs memory. A freed region that joins another region needs no memory.
 const FIRST: Row = (Call::Free(0, 100), Answer::Done);
 
 const REFUSAL: Row = (Call::Free(0, 100), Answer::Refused(FreeError::OutOfMemory));
 
 const JOINING: Row = (Call::Free(100, 1), Answer::Done);
 
-// Returns whether the call has this result.
+// Makes the call of the row, and returns whether it has the result of the row.
 fn answers<A: Allocator>(space: &mut RegionAllocator<A>, row: Row) -> bool {
     make(space, row.0) == row.1
 }
 
-// Returns whether each call of the rows has its result.
+// Makes the calls of the rows, and returns whether each call has the result of its row.
 fn plays(space: &mut RegionAllocator, rows: &[Row]) -> bool {
     let mut as_wanted = true;
     for row in rows {
@@ -85,7 +86,8 @@ fn plays(space: &mut RegionAllocator, rows: &[Row]) -> bool {
     as_wanted
 }
 
-// Returns whether a refused request changes nothing, so that the call can be made again, and a join requests no memory.
+// Returns whether a refused request for memory changes nothing, so that the call can be made again, and whether a freed region that joins another one
+// requests no memory.
 fn is_refused_once(memory: &Rationed, number: u64) -> bool {
     let mut space = RegionAllocator::new(memory);
     memory.refuse(number);
@@ -95,7 +97,7 @@ fn is_refused_once(memory: &Rationed, number: u64) -> bool {
     refused && freed && answers(&mut space, JOINING)
 }
 
-// Returns whether each of the three requests of the first region is refused like this.
+// Returns whether the refusal of each of the three requests for the first region changes nothing.
 fn is_refused_in_turn(alloc: Global) -> bool {
     let memory = Rationed::new(alloc, u64::MAX);
     let mut as_wanted = true;

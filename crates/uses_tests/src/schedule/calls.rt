@@ -1,4 +1,4 @@
-//! Calls of a scheduler of numbers and their results, as values.
+//! The calls of a scheduler of numbers, and their results, as values of two enums.
 
 ghost use Rattle.std.specs.Prelude.{◌≡◌, ◌≢◌, ◌∷◌, ℕ, List};
 ghost use Rattle.ic_link_ops.specs.Prelude.{Place, IsAbsent};
@@ -7,7 +7,7 @@ ghost use Rattle.scheduler.specs.Schedule.{places_at};
 use scheduler::{AddError, Queue, Scheduler};
 use std::alloc::Allocator;
 
-/// A call of a scheduler. A queue is named by its number.
+/// A call of a scheduler. The call names a queue by its number.
 #[derive(Clone, Copy)]
 pub(crate) enum Call {
     Add(u64, usize, u64),
@@ -15,7 +15,7 @@ pub(crate) enum Call {
     Next(usize),
 }
 
-/// The result of a call.
+/// The result of a call of the scheduler.
 #[derive(Clone, Copy, PartialEq)]
 pub(crate) enum Answer {
     Done,
@@ -26,7 +26,7 @@ pub(crate) enum Answer {
     NoQueue,
 }
 
-/// Makes the call.
+/// Makes the call on the scheduler, and returns its result.
 pub(crate) fn make<A: Allocator>(tasks: &mut Scheduler<u64, A>, call: Call) -> Answer {
     let number = match call {
         Call::Tick(now) => {
@@ -44,7 +44,8 @@ pub(crate) fn make<A: Allocator>(tasks: &mut Scheduler<u64, A>, call: Call) -> A
     }
 }
 
-// Ticks, and once more at the same time. By the law there is a list that the scheduler represents, so the second tick moves no task.
+// Makes two ticks at the same time, and returns how many tasks each tick moved. By a law of the scheduler there is a list that it represents, so the
+// second tick moves no task.
 fn tick_twice<V, A: Allocator>(tasks: &mut Scheduler<V, A>, now: u64) -> (usize, usize)
     ensures { result.1 ≡ 0 }
 {
@@ -54,7 +55,7 @@ fn tick_twice<V, A: Allocator>(tasks: &mut Scheduler<V, A>, now: u64) -> (usize,
     (moved, again)
 }
 
-// Removes the next task of a queue. By the law it was in that queue only: it did not wait, and was in no other queue.
+// Removes the next task of a queue. By a law of the scheduler the task was only in this queue: it did not wait, and was in no other queue.
 fn take_next<V, A: Allocator>(tasks: &mut Scheduler<V, A>, queue: Queue) -> Option<(u64, V)>
     ensures { (p : Place) (s : List Place) → places_at tasks.old queue ≡ p ∷ s
         → IsAbsent p tasks.old.waiting_at × ((other : ℕ) → queue ≢ other → IsAbsent p (places_at tasks.old other)) }

@@ -1,10 +1,10 @@
-//! A plain scheduler, slow and by scans, and calls that look random beside it.
+//! A plain scheduler, which is slow because it scans all tasks, and a test that compares it with the real scheduler by calls that look random.
 
 use crate::schedule::calls::{Answer, Call, make};
 use crate::schedule::random::Random;
 use scheduler::Scheduler;
 
-// A task, as it was added.
+// A task with the arguments of the call that added it.
 #[derive(Clone, Copy)]
 struct Task {
     deadline: u64,
@@ -19,7 +19,8 @@ struct Plain {
     moved: Vec<Task>,
 }
 
-// Returns the task with the least deadline, or the first of several with that deadline, if it is due.
+// Returns the position of the task with the least deadline, if the task is due at the time `now`. Of several tasks with the least deadline it is the
+// first one.
 fn earliest(tasks: &[Task], now: u64) -> Option<usize> {
     let mut found = None;
     let mut least = now;
@@ -33,7 +34,7 @@ fn earliest(tasks: &[Task], now: u64) -> Option<usize> {
     found
 }
 
-// The first task of a queue.
+// Returns the position of the first task of a queue, if the queue has a task.
 fn first_in(tasks: &[Task], queue: usize) -> Option<usize> {
     for index in 0..tasks.len() {
         if tasks[index].queue == queue {
@@ -43,7 +44,7 @@ fn first_in(tasks: &[Task], queue: usize) -> Option<usize> {
     None
 }
 
-// Removes the task with this number.
+// Removes the task at this position and returns it, if there is one.
 fn take(tasks: &mut Vec<Task>, number: Option<usize>) -> Option<Task> {
     let index = number?;
     if index < tasks.len() {
@@ -89,7 +90,8 @@ impl Plain {
     }
 }
 
-// A call that looks random: tasks with one of twenty deadlines for one of eight queues, and ticks among them.
+// Returns a call that looks random. The call adds a task with one of twenty deadlines to one of eight queues, makes a tick, or removes the next task of
+// a queue.
 fn any_call(random: &mut Random, value: u64) -> Call {
     let deadline = random.below(20) as u64;
     let queue = random.below(8);
@@ -100,7 +102,7 @@ fn any_call(random: &mut Random, value: u64) -> Call {
     }
 }
 
-// Returns whether both give the same results for a thousand calls.
+// Returns whether the scheduler and the plain scheduler give the same results for a thousand calls.
 fn are_alike(tasks: &mut Scheduler<u64>, plain: &mut Plain) -> bool {
     let mut random = Random::new(1);
     let mut as_wanted = true;

@@ -1,4 +1,4 @@
-//! Numbers that look random, and are the same for the same seed.
+//! A generator of numbers that look random. Generators with equal seeds return equal numbers.
 
 /// A linear congruential generator.
 #[derive(Clone, Copy)]
@@ -7,7 +7,7 @@ pub(crate) struct Random {
 }
 
 impl Random {
-    /// The numbers of that seed.
+    /// Returns the generator that starts with this seed.
     pub(crate) fn new(seed: u64) -> Random {
         Random {
             state: seed.wrapping_mul(0x9e37_79b9_7f4a_7c15).wrapping_add(1),

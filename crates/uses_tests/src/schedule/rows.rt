@@ -1,4 +1,4 @@
-//! The worked rows: calls, and their results.
+//! The rows of the tests of the scheduler. Each row has a call and its expected result.
 
 use crate::schedule::calls::{Answer, Call, make};
 use ic_test_support::rationed::Rationed;
@@ -7,10 +7,11 @@ use std::alloc::{Allocator, Global};
 
 type Row = (Call, Answer);
 
-// The most bytes that the rows may request: 256 for each of the nine tasks that they add.
+// The greatest number of bytes that the calls of the rows may request: 256 for each of the nine tasks that they add.
 const BYTES: u64 = 2304;
 
-// A tick moves the due tasks, and those with the same deadline in the order in which they were added. There are eight queues.
+// A tick must move the due tasks in the order of their deadlines, and tasks with the same deadline in the order in which they were added. There must be
+// eight queues.
 // Promise: ticks by deadline, a second tick, a deadline that has passed, the last deadline, eight queues, add-always-refused.
 const TICKS: &[Row] = &[
     (Call::Add(5, 0, 10), Answer::Done),
@@ -38,7 +39,7 @@ const TICKS: &[Row] = &[
     (Call::Next(8), Answer::NoQueue),
 ];
 
-// Tasks that a later tick moves come after those that an earlier one moved, whatever their deadlines.
+// Tasks that a later tick moves must come after the tasks that an earlier tick moved, whatever their deadlines are.
 // Promise: ticks after one another.
 const TWO_TICKS: &[Row] = &[
     (Call::Add(7, 2, 16), Answer::Done),
@@ -52,8 +53,8 @@ const TWO_TICKS: &[Row] = &[
     (Call::Next(2), Answer::Nothing),
 ];
 
-// Plays the rows. A refused call gives its value back and changes nothing, so it is made once more. It returns how many were refused, or none if a
-// call has another result.
+// Makes the call of each row, and compares its result with the row. A refused call gives its value back and changes nothing, so the call is made once
+// more. Returns how many calls were refused, or `None` if a call has another result than its row.
 fn play<A: Allocator>(tasks: &mut Scheduler<u64, A>, rows: &[Row]) -> Option<usize> {
     let mut refused: usize = 0;
     for (call, wanted) in rows {
@@ -72,7 +73,8 @@ fn play<A: Allocator>(tasks: &mut Scheduler<u64, A>, rows: &[Row]) -> Option<usi
     Some(refused)
 }
 
-// The same of the first rows and then of the second ones, on one scheduler of that memory.
+// Makes the calls of the first rows and then the calls of the second rows on one scheduler that takes its memory from `memory`. Returns how many calls
+// of the first rows were refused, or `None` if a call has a wrong result or a call of the second rows is refused.
 fn play_both(memory: &Rationed, rows: &[Row], others: &[Row]) -> Option<usize> {
     let mut tasks = Scheduler::new(memory);
     let refused = play(&mut tasks, rows);
@@ -82,8 +84,8 @@ fn play_both(memory: &Rationed, rows: &[Row], others: &[Row]) -> Option<usize> {
     }
 }
 
-// Returns whether the refusal of each request for memory refuses exactly one call. There are at least three requests, since each table grew, and the
-// objects did. They are for no more bytes than the tasks need.
+// Returns whether the refusal of each request for memory refuses exactly one call. There must be at least three requests, because each table and the
+// objects grow. All requests together must be for at most `BYTES` bytes.
 fn is_refused_in_turn(alloc: Global, rows: &[Row], others: &[Row]) -> bool {
     let memory = Rationed::new(alloc, u64::MAX);
     let mut as_wanted = play_both(&memory, rows, others) == Some(0);
@@ -96,6 +98,8 @@ fn is_refused_in_turn(alloc: Global, rows: &[Row], others: &[Row]) -> bool {
     as_wanted
 }
 
+// The test makes the calls of the rows, with each request for memory refused in turn. Each refusal must refuse exactly one call, and all other calls
+// must have the results of their rows.
 // Promise: a scheduler without memory.
 #[test]
 fn rows_with_each_growth_refused_in_turn(rt: HostRuntime) {

@@ -24,7 +24,7 @@ push_back-requires-clause-covered g c =
 pub push_back-requires-clause-shown : goal.push_back-requires-clause-shown
 push_back-requires-clause-shown g c = c.loop-object.invariant.shown
 
--- the offered places that have been claimed, with this one
+-- the claimed places with the current place are the first offered places, one more than before
 module _ (g : given.Over) (c : goal.After-passed-in-loop-object g) where
   seen_more : take c.loop-object.object-index c.args.offered.now ++ c.new.result ∷ [] ≡ take (c.loop-object.object-index + 1) c.args.offered.now
   seen_more =
@@ -68,7 +68,7 @@ loop-object-preserved g c =
           }
     ]
 
--- at the end all have been claimed
+-- at the end of the loop all offered places have been claimed
 module _ (g : given.Over) (c : goal.After-loop-object g) where
   all_seen : Gathered g.L.LinkedListOps.neighbors (g.L.LinkOps.table (links_of c.args.links.now)) (g.L.LinkOps.table (links_of c.loop-object.links)) c.args.list.now c.loop-object.list
       (record_in c.args.links.now) (record_in c.loop-object.links) c.args.offered.now c.loop-object.pushed

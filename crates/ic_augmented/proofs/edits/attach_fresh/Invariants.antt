@@ -1,5 +1,5 @@
 use Rattle.ic_rbtree.specs.Tree.{root_in}
-use Rattle.ic_augmented.specs.Summed.{links_of}
+use Rattle.ic_augmented.specs.Augmented.{links_of}
 use Rattle.ic_augmented.proofs.FenceLemmas.{fence_of}
 use Rattle.ic_augmented.proofs.edits.attach_fresh.Given as goal
 

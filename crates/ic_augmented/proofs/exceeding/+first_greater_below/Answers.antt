@@ -4,7 +4,7 @@ use Rattle.ic_augmented.proofs.ConsistencyLemmas.{tree_right}
 use Rattle.ic_augmented.proofs.OverlapLemmas.{overlap_left, overlap_here, overlap_right, none_unsorted}
 use Rattle.ic_augmented.proofs.exceeding.+first_greater_below.Goals as goal
 
--- numbers are ends of intervals that all start at 0, and those that exceed a bound overlap [bound, 1)
+-- each number is the end of an interval that starts at 0, and exactly the intervals whose number exceeds the bound overlap [bound, 1)
 pub returns-then-bound-total : goal.returns-then-bound-total
 returns-then-bound-total g t c u tree h e s low =
     overlap_left (λ q. 0) c.args.numbers.now.cells.items c.args.bound 1 g.N.NodeStore.node (g.N.NodeStore.table c.args.links.now) u c.args.turns c.in_ok-here.here

@@ -37,7 +37,7 @@ attach_fresh-requires-clause-hole g c =
     let l = g.met.L.LinkOps.does_replay _ _ _ c.if-not-acquire_link.ensures.acquired in
     let there = still_represented n g.L.LinkOps.linked alike l.was l.is c.acquire_link.ensures.frame r.1 in
     let x = ended_in_order n there (c.descend-hole.ensures.ends r.0 there) c.get.ensures in
-    (x.gap, alike _ ∙ l.is, free_member n _ _ r.0 (join x.gap) c.place-place.result x.same r.1 (alike _ ∙ l.was), subst (λ (s : List Place). Represents n (g.L.LinkOps.table c.acquire_link.new.self) (root_kept (g.E.TreeHead.kept c.args.tree.now.head)) s) (sym x.same) there, x.hole)
+    (x.gap, alike _ ∙ l.is, free_member n _ _ r.0 (join x.gap) c.place-place.result x.same r.1 (alike _ ∙ l.was), subst (λ (s : List Place). Represents n (g.L.LinkOps.table c.acquire_link.new.self) (root_kept (g.E.TreeHead.kept c.args.tree.now.head)) s) (sym x.same) there, x.insert_pos)
 
 pub attach_fresh-requires-clause-covered : goal.attach_fresh-requires-clause-covered
 attach_fresh-requires-clause-covered g c q is =
@@ -55,7 +55,7 @@ returns-clause-inserted g c s was =
     let x = ended_in_order n there (c.descend-hole.ensures.ends s there) c.get.ensures in
     let free = alike _ ∙ l.was in
     let fresh = c.attach_fresh.ensures.fresh x.gap (alike _ ∙ l.is) (free_member n _ _ s (join x.gap) c.place-place.result x.same was.0 free)
-    (acquired_consistent n _ _ _ _ s (join x.gap) c.place-place.result x.same free c.acquire_link.ensures.frame was) x.hole in
+    (acquired_consistent n _ _ _ _ s (join x.gap) c.place-place.result x.same free c.acquire_link.ensures.frame was) x.insert_pos in
     own_searched g.A.Key.Ord.cmp (g.A.KeyAdapter.key_of c.args.tree.now.adapter) c.place-place.ensures (g.met.L.LinkValues.values_stay _ _ c.acquire_link.ensures.frame.extent)
     (own_is g.A.Key.Ord.cmp g.A.KeyAdapter.key_of values (c.new-probe.ensures.adapter ∙ c.adapter-adapter.ensures)
     (c.new-probe.ensures.key ∙ (c.get_key.ensures ∙ ap (λ z. g.A.KeyAdapter.key_of z c.value.result.now) c.adapter-adapter.ensures)) refl c.value.ensures)

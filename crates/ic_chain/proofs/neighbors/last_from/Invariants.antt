@@ -4,7 +4,7 @@ use Rattle.ic_link_ops.specs.Chains.{IsStretch}
 use Rattle.ic_link_ops.specs.Walk.{walked}
 use Rattle.ic_chain.proofs.neighbors.last_from.Given as goal
 
--- what is left of the list, whichever sequence it has, has the same last member
+-- the members left to walk over, from `member` on, have the same last member as the whole list, whichever sequence the list has
 abbrev pub invariant-loop-next : goal.invariant-loop-next
 invariant-loop-next g l = record {
   rest : (s : List Place) → IsStretch g.K.ForwardLinks.Between (g.L.LinkOps.table l.fn.links).entry None (Some l.fn.first) (last s) None s

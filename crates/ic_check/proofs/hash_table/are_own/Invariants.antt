@@ -7,7 +7,7 @@ use Rattle.ic_check.specs.HashTables.{IsPlacedIn}
 use Rattle.ic_check.proofs.HashTables.{Owns}
 use Rattle.ic_check.proofs.hash_table.are_own.Given as goal
 
--- whichever sequence is represented, the members before `current` are own ones
+-- in each sequence that is represented for the chain, the members before `current` have objects that belong in this chain
 abbrev pub invariant-loop-current : goal.invariant-loop-current
 invariant-loop-current g l = record {
   owns : (s : List Place) → RepresentsFrom g.L.SinglyLinkedListOps.successor (g.L.LinkOps.table l.links) l.fn.front s

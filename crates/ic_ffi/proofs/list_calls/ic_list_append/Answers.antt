@@ -1,5 +1,5 @@
 use Rattle.std.proofs.Common.{subst}
-use Rattle.ic_raw.specs.declared.gap.Side.TheVariants.{Before}
+use Rattle.ic_raw.specs.declared.gap.GapSide.TheVariants.{Before}
 use Rattle.ic_raw.specs.LinkWords.{wide_words}
 use Rattle.ic_raw.specs.ListCalls.{SpliceCall}
 use Rattle.ic_raw.proofs.Numbers.{none_named}

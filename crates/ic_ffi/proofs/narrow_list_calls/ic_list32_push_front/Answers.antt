@@ -1,5 +1,5 @@
 use Rattle.std.proofs.Common.{subst}
-use Rattle.ic_raw.specs.declared.gap.Side.TheVariants.{After}
+use Rattle.ic_raw.specs.declared.gap.GapSide.TheVariants.{After}
 use Rattle.ic_raw.specs.LinkWords.{narrow_words}
 use Rattle.ic_raw.specs.ListCalls.{InsertCall}
 use Rattle.ic_raw.specs.Words.{place_of}

@@ -6,7 +6,7 @@ use Rattle.ic_hash_table.proofs.ChainWalks.{HasPassed}
 use Rattle.ic_hash_table.proofs.chain_search.find_in_chain.Given as goal
 use Rattle.ic_hash_table.specs.Chains.{RepresentsFrom}
 
--- whichever sequence is represented, no member before `current` equals what is searched, and each of these was looked at once
+-- whichever sequence the chain represents, no member before `current` equals the searched key, and the search has compared each of them once
 abbrev pub invariant-loop-current : goal.invariant-loop-current
 invariant-loop-current g l = record {
   passed : (s : List Place) → RepresentsFrom g.L.SinglyLinkedListOps.successor (g.L.LinkOps.table l.fn.links) l.fn.front s

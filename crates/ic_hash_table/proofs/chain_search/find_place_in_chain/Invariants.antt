@@ -6,7 +6,7 @@ use Rattle.ic_hash_table.proofs.ChainWalks.{HasPassed}
 use Rattle.ic_hash_table.proofs.chain_search.find_place_in_chain.Given as goal
 use Rattle.ic_hash_table.specs.Chains.{RepresentsFrom}
 
--- whichever sequence is represented, the place is no member before `current`
+-- whichever sequence the chain represents, the searched place is no member before `current`
 abbrev pub invariant-loop-current : goal.invariant-loop-current
 invariant-loop-current g l = record {
   passed : (s : List Place) → RepresentsFrom g.L.SinglyLinkedListOps.successor (g.L.LinkOps.table l.fn.links) l.fn.front s

@@ -1,9 +1,9 @@
--- Each call of the table is its line's, and a step of a sound family.
+-- Each call of the table is the call that the line stands for, and is a step of a sound family.
 use Rattle.std.proofs.Common.{codes, refl}
 use Rattle.ic_world.specs.declared.call.Command.TheVariants as call
 use Rattle.ic_any_collection.specs.declared.gap.Gap.TheVariants.{Front, Back, Before, After}
-use Rattle.ic_world.specs.declared.calls.one_call.Call.TheVariants.{Put, Take, Swap, Move, Seek}
-use Rattle.ic_world.specs.declared.calls.one_call.Direction.TheVariants.{Next, Prev}
+use Rattle.ic_world.specs.declared.calls.collection_call.Call.TheVariants.{Put, Take, Swap, Move, Seek}
+use Rattle.ic_world.specs.declared.calls.collection_call.Neighbor.TheVariants.{Next, Prev}
 use Rattle.ic_world.specs.declared.calls.seek.Seek.TheVariants.{Null}
 use Rattle.ic_program.specs.Grammar.{calls, number_in, place_in, one, two, on, on_with}
 use Rattle.ic_program.proofs.AnsweredLemmas.{fast_answered}

@@ -1,9 +1,9 @@
--- Each call by its name and what it reads, and by its slot.
+-- Each call of the table is found by its name, its arguments and its slot.
 use Rattle.std.proofs.Common.{codes, refl, rules}
 use Rattle.ic_world.specs.declared.call.Command.TheVariants as call
 use Rattle.ic_any_collection.specs.declared.gap.Gap.TheVariants.{Front, Back, Before, After}
-use Rattle.ic_world.specs.declared.calls.one_call.Call.TheVariants.{Put, Take, Swap, Move, Seek}
-use Rattle.ic_world.specs.declared.calls.one_call.Direction.TheVariants.{Next, Prev}
+use Rattle.ic_world.specs.declared.calls.collection_call.Call.TheVariants.{Put, Take, Swap, Move, Seek}
+use Rattle.ic_world.specs.declared.calls.collection_call.Neighbor.TheVariants.{Next, Prev}
 use Rattle.ic_world.specs.declared.calls.seek.Seek.TheVariants.{Null}
 use Rattle.ic_program.specs.Grammar.{calls, number_in, place_in, one, two, on, on_with}
 use Rattle.ic_program.specs.Slots.{slots}

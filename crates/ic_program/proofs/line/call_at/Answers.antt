@@ -1,10 +1,10 @@
--- Each call by its name and what it reads, and by its slot.
+-- Each call of the program is found by its name, its arguments and its slot.
 use Rattle.std.proofs.Common.{codes, refl, rules}
 use Rattle.ic_world.specs.declared.call.Command.TheVariants as call
-use Rattle.ic_world.specs.declared.calls.one_call.Call.TheVariants.{Seek, Whole, Search, Insertion, Enter}
-use Rattle.ic_world.specs.declared.calls.one_call.Direction.TheVariants.{Next, Prev}
+use Rattle.ic_world.specs.declared.calls.collection_call.Call.TheVariants.{Seek, BulkEdit, Search, Insertion, Enter}
+use Rattle.ic_world.specs.declared.calls.collection_call.Neighbor.TheVariants.{Next, Prev}
 use Rattle.ic_world.specs.declared.calls.seek.Seek.TheVariants.{On, With}
-use Rattle.ic_world.specs.declared.calls.whole.Whole.TheVariants.{Clear, Reverse}
+use Rattle.ic_world.specs.declared.calls.bulk_edit.BulkEdit.TheVariants.{Clear, Reverse}
 use Rattle.ic_world.specs.declared.calls.search.Search.TheVariants.{Find, LowerBound, UpperBound}
 use Rattle.ic_world.specs.declared.calls.insertion.Insertion.TheVariants.{Insert, CursorInsert}
 use Rattle.ic_program.specs.Grammar.{calls, number_in, place_in, kind_in, bound_in, neighbor_in, one, two, three, on, on_with, on_with_two}
@@ -62,11 +62,11 @@ returns-in_err-collection-in-15-clause-none c = no_call _ _ 15 c.in-15.is (codes
 
 pub returns-in_ok-collection-in-0-clause-said : goal.returns-in_ok-collection-in-0-clause-said
 unfolding calls
-returns-in_ok-collection-in-0-clause-said c = is_call (codes "clear ") (one number_in (on (Whole Clear))) c.args.text.now _ _ (c.in_ok-collection-in-0.ensures.said (on (Whole Clear))) refl
+returns-in_ok-collection-in-0-clause-said c = is_call (codes "clear ") (one number_in (on (BulkEdit Clear))) c.args.text.now _ _ (c.in_ok-collection-in-0.ensures.said (on (BulkEdit Clear))) refl
 
 pub returns-in_err-collection-in-0-clause-none : goal.returns-in_err-collection-in-0-clause-none
 unfolding calls slots
-returns-in_err-collection-in-0-clause-none c = no_call _ _ 0 c.in-0.is (codes "clear ") (one number_in (on (Whole Clear))) c.args.text.now refl (c.in_err-collection-in-0.ensures.none (on (Whole Clear)))
+returns-in_err-collection-in-0-clause-none c = no_call _ _ 0 c.in-0.is (codes "clear ") (one number_in (on (BulkEdit Clear))) c.args.text.now refl (c.in_err-collection-in-0.ensures.none (on (BulkEdit Clear)))
 
 pub returns-in_ok-collection-in-36-clause-said : goal.returns-in_ok-collection-in-36-clause-said
 unfolding calls
@@ -155,11 +155,11 @@ returns-in_err-collection-in-50-clause-none c = no_call _ _ 50 c.in-50.is (codes
 
 pub returns-in_ok-collection-in-62-clause-said : goal.returns-in_ok-collection-in-62-clause-said
 unfolding calls
-returns-in_ok-collection-in-62-clause-said c = is_call (codes "reverse ") (one number_in (on (Whole Reverse))) c.args.text.now _ _ (c.in_ok-collection-in-62.ensures.said (on (Whole Reverse))) refl
+returns-in_ok-collection-in-62-clause-said c = is_call (codes "reverse ") (one number_in (on (BulkEdit Reverse))) c.args.text.now _ _ (c.in_ok-collection-in-62.ensures.said (on (BulkEdit Reverse))) refl
 
 pub returns-in_err-collection-in-62-clause-none : goal.returns-in_err-collection-in-62-clause-none
 unfolding calls slots
-returns-in_err-collection-in-62-clause-none c = no_call _ _ 62 c.in-62.is (codes "reverse ") (one number_in (on (Whole Reverse))) c.args.text.now refl (c.in_err-collection-in-62.ensures.none (on (Whole Reverse)))
+returns-in_err-collection-in-62-clause-none c = no_call _ _ 62 c.in-62.is (codes "reverse ") (one number_in (on (BulkEdit Reverse))) c.args.text.now refl (c.in_err-collection-in-62.ensures.none (on (BulkEdit Reverse)))
 
 pub returns-in_ok-collection-in-35-clause-said : goal.returns-in_ok-collection-in-35-clause-said
 unfolding calls

@@ -5,7 +5,7 @@ use Rattle.ic_program.specs.HowFar.{AnsweredFirst, IsLeftToRead}
 use Rattle.ic_program.proofs.RunEnds.{lines_in}
 use Rattle.ic_program.proofs.program.answer_input.Given as goal
 
--- what was answered so far is written, and what is left of the lines is what is cut off and what the reader has
+-- the answers up to now are written, and the lines that remain are those of the incomplete line and of the bytes that the reader still has
 abbrev pub invariant-loop-round : goal.invariant-loop-round
 invariant-loop-round g l =
     IsNew l.initial.session.world

@@ -1,4 +1,4 @@
--- The text of each refusal is computed.
+-- The proof computes the text of each refusal.
 use Rattle.std.proofs.Common.{refl}
 use Rattle.std.specs.Fmt.{digits}
 use Rattle.ic_program.proofs.short_answer.refused.Goals as goal

@@ -6,8 +6,8 @@ use Rattle.ic_raw.specs.Singly.{Represents, lent_table}
 use Rattle.ic_raw.proofs.HashWalks.{Comes, WalksTo}
 use Rattle.ic_raw.proofs.chain.find_from.Given as goal
 
--- in each sequence that is represented the walk has come past members with other keys, whatever is represented the places lead on, and nothing is
--- handed out
+-- before each step, the walk has passed members with other keys, in each sequence that the words represent. The links lead from `from` to `current`,
+-- and `found` is not changed yet
 abbrev pub invariant-loop-left : goal.invariant-loop-left
 invariant-loop-left l = record {
   comes : (s : List Place) → Represents (lent_table l.fn.links) (list_from l.fn.from) s

@@ -9,8 +9,8 @@ use Rattle.ic_raw.proofs.HashWalks.{Comes}
 use Rattle.ic_raw.proofs.Own.{IsPast}
 use Rattle.ic_raw.proofs.chain.place_before.Given as goal
 
--- what is after is linked and leads here, the walk knows whether it has left the front, and in each sequence that is represented it has come past
--- other members
+-- before each step, `before` is none or linked, and `current` is the place after it. If `before` is a place, the member is not the first. In each
+-- sequence that the words represent, the walk has passed only other members
 abbrev pub invariant-loop-left : goal.invariant-loop-left
 invariant-loop-left l = record {
   stands : IsNoneOrLinked is_linked_one (lent_table l.fn.links) l.before;

@@ -3,7 +3,7 @@ use Rattle.ic_raw.specs.Tables.{raw_entries}
 use Rattle.ic_raw.proofs.HashChecks.{ChecksOwn}
 use Rattle.ic_raw.proofs.check_calls.all_members.Given as goal
 
--- the chains before number `at` are checked
+-- before each step, the chains in the buckets before the number `at` are checked, and `members` is the number of their members
 abbrev pub invariant-loop-at : goal.invariant-loop-at
 invariant-loop-at l = record {
   checks : ChecksOwn (raw_entries l.fn.links) l.fn.hashes l.fn.buckets l.at l.members;

@@ -7,7 +7,8 @@ use Rattle.ic_raw.proofs.HashChecks.{WalksOwn}
 use Rattle.ic_raw.proofs.HashWalks.{Comes}
 use Rattle.ic_raw.proofs.check_calls.own_members.Given as goal
 
--- the places that were walked are linked, and belong in this bucket, and in each sequence that is represented no more are left than steps
+-- before each step, the places that the walk has passed are linked, and their hashes lead to this bucket. In each sequence that the words represent,
+-- at most as many members remain as steps are left
 abbrev pub invariant-loop-current : goal.invariant-loop-current
 invariant-loop-current l = record {
   comes : (s : List Place) → Represents (lent_table l.fn.links) (list_of (bucket_at l.fn.buckets l.fn.at)) s

@@ -34,7 +34,7 @@ pub returns-in_default-clause-touched : goal.returns-in_default-clause-touched
 returns-in_default-clause-touched g c outermost free =
     absurd (not_refused (c.loop-left.invariant.links free).0 (omega (arith, c.loop-left-test.true)) c.place_of.ensures c.acquire.ensures.accepted c.in_default.is)
 
--- the place after the gap is linked, so words have room for its name
+-- the place after the gap is none or linked, so that words can name it
 pub insert_linked-requires-clause-next : goal.insert_linked-requires-clause-next
 insert_linked-requires-clause-next g c =
     let width = g.W.Words.width in

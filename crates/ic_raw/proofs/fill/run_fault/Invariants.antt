@@ -3,7 +3,7 @@ use Rattle.ic_raw.specs.Fills.{run_faults, first_fault}
 use Rattle.ic_raw.specs.Tables.{nameable_table, place_fault}
 use Rattle.ic_raw.proofs.fill.run_fault.Given as goal
 
--- the numbers before have no fault
+-- before each step, the first fault of the run is the first fault of the places that are left, because the places before them have no fault
 abbrev pub invariant-loop-left : goal.invariant-loop-left
 invariant-loop-left g l = record {
   small : l.number < 4294967296;

@@ -1,7 +1,7 @@
 use Rattle.std.proofs.Common.{None, refl, ap, subst, ◌∙◌, rules}
 use Rattle.ic_link_ops.specs.Sequences.{at_back, join}
 use Rattle.ic_raw.specs.Words.{no_words, is_linked_two}
-use Rattle.ic_raw.specs.declared.gap.Side.TheVariants.{Before}
+use Rattle.ic_raw.specs.declared.gap.GapSide.TheVariants.{Before}
 use Rattle.ic_raw.specs.Doubly.{Represents, TellsGap, ends_of}
 use Rattle.ic_raw.specs.LinkWords.{lent_table, wide_words}
 use Rattle.ic_link_ops.specs.Chains.{Ends}

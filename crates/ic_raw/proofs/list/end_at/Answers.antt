@@ -91,7 +91,7 @@ returns-in-Some-gap_at-3-clause-end g c p gap is =
     let outer = ap (λ g. g.before) (c.gap_at-in-Before.ensures.sides _ c.in-Some-gap_at-2.is) in
     rw c.in-Before.is (sym outer ∙ c.in-Some-before.is ∙ ap (λ q. Some q) one)
 
--- nothing stands before the first member, and nothing after the last one
+-- no place is before the first member, and no place is after the last member
 pub returns-in-Some-gap_at-clause-sides : goal.returns-in-Some-gap_at-clause-sides
 returns-in-Some-gap_at-clause-sides g c p gap is =
     let words = link_words g.W.Words g.W.NextWord g.W.PrevPlace in

@@ -1,7 +1,7 @@
 use Rattle.std.proofs.Common.{◌∷◌, Some, refl, sym, ap, ◌∙◌, subst, rules}
 use Rattle.ic_link_ops.specs.Chains.{Ends}
 use Rattle.ic_link_ops.proofs.SequenceLemmas.{some_same}
-use Rattle.ic_raw.specs.declared.gap.Side.TheVariants.{After}
+use Rattle.ic_raw.specs.declared.gap.GapSide.TheVariants.{After}
 use Rattle.ic_raw.specs.Words.{HasNumber}
 use Rattle.ic_raw.specs.Doubly.{Represents}
 use Rattle.ic_raw.specs.ListCalls.{PopCall}

@@ -1,7 +1,7 @@
 use Rattle.std.proofs.Common.{◌≡◌, ◌∷◌, None, Some, refl, sym, ap, ◌∙◌, rules}
 use Rattle.ic_link_ops.specs.Chains.{Ends}
 use Rattle.ic_link_ops.specs.Sequences.{at_back, join}
-use Rattle.ic_raw.specs.declared.gap.Side.TheVariants.{Before}
+use Rattle.ic_raw.specs.declared.gap.GapSide.TheVariants.{Before}
 use Rattle.ic_raw.specs.Words.{place_of}
 use Rattle.ic_raw.specs.Doubly.{Represents, RepresentsList}
 use Rattle.ic_raw.specs.ListCalls.{InsertCall}

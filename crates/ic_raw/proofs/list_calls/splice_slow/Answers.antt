@@ -1,5 +1,5 @@
 use Rattle.std.proofs.Common.{◌∷◌, [], refl, sym, rules}
-use Rattle.ic_raw.specs.declared.gap.Side.TheVariants.{After, Before}
+use Rattle.ic_raw.specs.declared.gap.GapSide.TheVariants.{After, Before}
 use Rattle.ic_raw.proofs.Ends.{all_put_same}
 use Rattle.ic_raw.proofs.Doubly.{gap_viewed, told_viewed}
 use Rattle.ic_raw.proofs.LinkViews.{link_words, touched_back}

@@ -1,6 +1,6 @@
 use Rattle.std.proofs.Common.{◌≡◌, inl, inr, Some, ◌∷◌, ◌++◌, refl, sym, ap, ◌∙◌, rules}
 use Rattle.ic_link_ops.proofs.SequenceLemmas.{some_same, none_not, distinct_middle}
-use Rattle.ic_raw.specs.declared.gap.Side.TheVariants.{After, Before}
+use Rattle.ic_raw.specs.declared.gap.GapSide.TheVariants.{After, Before}
 use Rattle.ic_raw.specs.Touches.{sides}
 use Rattle.ic_raw.specs.Doubly.{Represents}
 use Rattle.ic_raw.proofs.Doubly.{around_viewed, gap_viewed, told_viewed}
@@ -21,14 +21,14 @@ returns-in_default-gaps_to_move g c =
           let seen : Represents words (lent_table words c.new-links.result) c.list_of-edited.result (front ++ c.in-Some.member ∷ back) = rw c.list_of-edited.ensures (viewed words kept c.new-links.result c.new-links.ensures.1 shown) in
           let gap = goes c.args.side c.in-Some.member front back cut (rw same (distinct_middle front back c.in-Some.member shown.distinct)) beside same in
           absurd (none_not _ (sym c.in_default-gaps_to_move.is ∙ c.gaps_to_move.ensures.shown front back gap.0 seen gap.1.same (rw c.place_of-2.ensures gap.1.beside)));
-      -- beside itself a member stays where it is,
+      -- if `at` is the member itself, the member stays where it is
       itself = λ front back p at is shown'.
           let one : p ≡ c.in-Some.member = some_same (sym is ∙ sym c.place_of.ensures ∙ c.in-Some.is) in
           let seen : Represents words (lent_table words c.new-links.result) c.list_of-edited.result (front ++ c.in-Some.member ∷ back) = rw c.list_of-edited.ensures (viewed words kept c.new-links.result c.new-links.ensures.1 (rw one at shown')) in
           let gap = gap_beside_itself c.args.side c.in-Some.member front back in
           let there = c.place_of-2.ensures ∙ at ∙ ap (λ q. Some q) one in
           absurd (none_not _ (sym c.in_default-gaps_to_move.is ∙ c.gaps_to_move.ensures.shown front back gap.0 seen gap.1.same (rw there gap.1.beside)));
-      -- and beside its neighbor on that side
+      -- if the member is already on this side of `at`, the member stays where it is
       there = λ front back p beside is shown'.
           let one : p ≡ c.in-Some.member = some_same (sym is ∙ sym c.place_of.ensures ∙ c.in-Some.is) in
           let seen : Represents words (lent_table words c.new-links.result) c.list_of-edited.result (front ++ c.in-Some.member ∷ back) = rw c.list_of-edited.ensures (viewed words kept c.new-links.result c.new-links.ensures.1 (rw one at shown')) in

@@ -1,7 +1,7 @@
 use Rattle.std.proofs.Common.{◌≡◌, Some, ◌∷◌, ◌++◌, refl, sym, ap, subst, ◌∙◌, rules}
 use Rattle.ic_link_ops.proofs.SequenceLemmas.{some_same}
 use Rattle.ic_raw.specs.Gaps.{outermost, toward}
-use Rattle.ic_raw.specs.declared.gap.Side.TheVariants.{After, Before}
+use Rattle.ic_raw.specs.declared.gap.GapSide.TheVariants.{After, Before}
 use Rattle.ic_raw.specs.Touches.{sides}
 use Rattle.ic_raw.specs.Words.{place_of}
 use Rattle.ic_raw.specs.Doubly.{Represents, TellsGap, end_on, ends_of}
@@ -110,4 +110,4 @@ returns-then-is_at_end g c =
       is_status = search rules;
     }
 
--- a member that is at the end stays there
+-- if the member is already at this end of the list, it stays where it is

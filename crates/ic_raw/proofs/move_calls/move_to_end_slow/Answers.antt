@@ -1,7 +1,7 @@
 use Rattle.std.proofs.Common.{◌≡◌, Some, None, [], ◌∷◌, ◌++◌, refl, sym, ap, subst, ◌∙◌, rules}
 use Rattle.ic_link_ops.proofs.SequenceLemmas.{some_same}
 use Rattle.ic_raw.specs.Answers.{refusal}
-use Rattle.ic_raw.specs.declared.gap.Side.TheVariants.{After, Before}
+use Rattle.ic_raw.specs.declared.gap.GapSide.TheVariants.{After, Before}
 use Rattle.ic_raw.specs.Gaps.{IsApart, IsMoved, outermost, toward}
 use Rattle.ic_raw.specs.Touches.{Touches, sides}
 use Rattle.ic_raw.specs.Words.{place_of}

@@ -3,7 +3,7 @@ use Rattle.ic_link_ops.proofs.SequenceLemmas.{none_not}
 use Rattle.ic_ring.proofs.Circles.{rotated}
 use Rattle.ic_raw.specs.LinkWords.{lent_table, neighbors}
 use Rattle.ic_raw.proofs.Rings.{apart_beside, last_tells, part_tells}
-use Rattle.ic_raw.specs.declared.gap.Side.TheVariants.{After}
+use Rattle.ic_raw.specs.declared.gap.GapSide.TheVariants.{After}
 use Rattle.ic_raw.proofs.LinkViews.{link_words}
 use Rattle.ic_raw.proofs.ring.exchange.Goals as goal
 

@@ -2,7 +2,7 @@ use Rattle.std.proofs.Common.{◌≡◌, Some, [], ◌∷◌, refl, sym, ap, ◌
 use Rattle.ic_link_ops.proofs.SequenceLemmas.{some_same}
 use Rattle.ic_raw.proofs.Gaps.{never}
 use Rattle.ic_raw.proofs.Rings.{circle_viewed, told_back, makes_back, makes_two_back, touched_words}
-use Rattle.ic_raw.specs.declared.gap.Side.TheVariants.{After}
+use Rattle.ic_raw.specs.declared.gap.GapSide.TheVariants.{After}
 use Rattle.ic_raw.specs.LinkWords.{table_of}
 use Rattle.ic_raw.specs.Ring.{beside}
 use Rattle.ic_raw.proofs.LinkViews.{link_words}

@@ -10,10 +10,10 @@ pub returns : goal.returns
 returns c = record {
   found = λ s enough shown.
       let view = c.new-links.ensures.1 in
-      c.look.ensures.found s (rw c.tree_of.ensures (viewed no_tree_words kept c.new-links.result view shown)) (subst (λ es. length es ≤ length c.args.keys.now) (sym view) enough);
-  reached = λ ok. reached_back c.new-links.result [] _ c.new-links.ensures.1 (rw c.tree_of.ensures at (c.look.ensures.reached ok));
-  bounded = λ ok. target_back c.new-links.result c.args.target c.args.keys.now c.args.key _ c.new-links.ensures.1 (c.look.ensures.bounded ok);
-  ended = λ null. ends_back c.new-links.result c.args.target c.args.keys.now c.args.key c.new-links.ensures.1 (rw c.tree_of.ensures at (c.look.ensures.ended null));
+      c.store_found.ensures.found s (rw c.tree_of.ensures (viewed no_tree_words kept c.new-links.result view shown)) (subst (λ es. length es ≤ length c.args.keys.now) (sym view) enough);
+  reached = λ ok. reached_back c.new-links.result [] _ c.new-links.ensures.1 (rw c.tree_of.ensures at (c.store_found.ensures.reached ok));
+  bounded = λ ok. target_back c.new-links.result c.args.target c.args.keys.now c.args.key _ c.new-links.ensures.1 (c.store_found.ensures.bounded ok);
+  ended = λ null. ends_back c.new-links.result c.args.target c.args.keys.now c.args.key c.new-links.ensures.1 (rw c.tree_of.ensures at (c.store_found.ensures.ended null));
   refused = search rules;
   same = search rules;
   looked = search rules;

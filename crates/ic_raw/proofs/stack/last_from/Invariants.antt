@@ -4,8 +4,8 @@ use Rattle.ic_link_ops.specs.SinglyLinkedList.{IsWalk, list_from}
 use Rattle.ic_raw.specs.Singly.{LeadsTo, Represents, lent_table, successor}
 use Rattle.ic_raw.proofs.stack.last_from.Given as goal
 
--- the places from the front on lead here. What is left of the list, whichever sequence is represented, has the same last member, and fits into
--- the steps that are left
+-- before each step, the links lead from the first member to the place `at`. In each sequence that the words represent, the remaining members end with
+-- the last member of the sequence, and there are at most `left` of them
 abbrev pub invariant-loop-left : goal.invariant-loop-left
 invariant-loop-left l = record {
   leads : LeadsTo (lent_table l.fn.links) l.fn.front l.at;

@@ -14,7 +14,7 @@ returns-then-begin_alike-clause-spliced c cut t shown after given apart =
     let both = c.begin_alike.ensures.alike c.if-begin_alike.true in
     absurd (begin_apart (join cut) t apart (sym given.head ∙ both.1) (sym shown.head ∙ both.2))
 
--- a list with a first member has a last one
+-- a list that has a first member also has a last member
 pub returns-in_default-last_from-clause-spliced : goal.returns-in_default-last_from-clause-spliced
 returns-in_default-last_from-clause-spliced c cut t shown after given apart =
     let whole : Represents (lent_table c.args.links.now) (list_from (Some c.in-Some-first.front)) t = rw (sym c.first.ensures ∙ c.in-Some-first.is) at given in

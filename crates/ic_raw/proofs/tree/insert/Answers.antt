@@ -6,5 +6,5 @@ pub put-requires : goal.put-requires
 put-requires g c =
     let old = lent_table c.args.links.now in
     let law = in_range c.args.links.now in
-    let ok = c.if-not-is_hole.false in
-    (end_in old law _ (c.is_hole.ensures.at ok), (end_in old law _ (c.is_hole.ensures.root ok), tt))
+    let ok = c.if-not-is_insert_pos.false in
+    (end_in old law _ (c.is_insert_pos.ensures.at ok), (end_in old law _ (c.is_insert_pos.ensures.root ok), tt))

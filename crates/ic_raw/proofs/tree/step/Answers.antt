@@ -69,7 +69,7 @@ returns-clause-why c made found =
     let stands = subst (λ o. IsNoneOrLinked is_linked_three t o) (sym c.in-Some.is ∙ c.place_of.ensures) (c.stand.ensures.at c.if-not-stand.false) in
     c.nothing_found.ensures.why found ∙ by_others [] (sym (faultless is_linked_three t (place_of c.args.at) stands)) refl
 
--- the place that is named is the member from which the step begins
+-- the place whose number the caller passes is the member from which the step begins
 pub returns-then-tell-clause-stepped : goal.returns-then-tell-clause-stepped
 returns-then-tell-clause-stepped c ok =
     let links_back = c.tell.ensures.links_back c.if-tell.true in

@@ -10,7 +10,7 @@ use Rattle.ic_raw.proofs.Trees.{in_range, end_in, seen_represents}
 use Rattle.ic_raw.proofs.TreeWalks.{seen_length, walk_starts, walk_member, walk_goes_on, walk_over}
 use Rattle.ic_raw.proofs.tree_clear.leads_to_end.Goals as goal
 
--- an end is none if it is not some place
+-- an option that has no place is none
 nothing : (o : Option Place) → is_some o ≡ false → o ≡ None
 nothing None is = refl
 nothing (Some q) is = absurd (true≢false is)

@@ -7,12 +7,13 @@ use Rattle.ic_rbtree.specs.Tree.{root_of}
 use Rattle.ic_raw.specs.Gaps.{IsNoneOrLinked}
 use Rattle.ic_raw.specs.Seen.{seen, seen_node, has_place, StepEndsIn}
 use Rattle.ic_raw.specs.Tree.{lent_table}
-use Rattle.ic_raw.specs.WholeTree.{IsSeen, LeadsToEnd}
+use Rattle.ic_raw.specs.TreeShape.{IsSeen, LeadsToEnd}
 use Rattle.ic_raw.specs.Words.{is_linked_three}
 use Rattle.ic_raw.proofs.TreeWalks.{HasComeTo}
 use Rattle.ic_raw.proofs.tree_clear.leads_to_end.Given as goal
 
--- a walk through what is seen has come here. Whatever the words say, a step leads here from a linked place, or from none, to which steps have led
+-- before each step, a walk through the tree, as an edit reads it, has come to `at`. Whatever the words say, a step leads to `at` from none or from a
+-- linked place, to which steps have led
 abbrev pub invariant-loop-left : goal.invariant-loop-left
 invariant-loop-left l =
     let t = lent_table l.fn.links in

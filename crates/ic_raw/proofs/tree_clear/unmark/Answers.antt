@@ -4,7 +4,7 @@ use Rattle.ic_link_ops.proofs.EntryLemmas.{entry_same, entry_read}
 use Rattle.ic_raw.specs.declared.words.RawThree.{RawThree}
 use Rattle.ic_raw.specs.Tables.{raw_entries}
 use Rattle.ic_raw.specs.Tree.{lent_table}
-use Rattle.ic_raw.specs.WholeTree.{unmarked}
+use Rattle.ic_raw.specs.TreeShape.{unmarked}
 use Rattle.ic_raw.specs.Words.{no_tree_words}
 use Rattle.ic_raw.proofs.Entries.{changes_only}
 use Rattle.ic_raw.proofs.TreeWalks.{seen_unmarked}

@@ -13,7 +13,7 @@ use Rattle.ic_raw.proofs.TreeWalks.{HasComeTo, unmarks_more, seen_length, seen_k
 use Rattle.ic_raw.proofs.Views.{unlinks_none}
 use Rattle.ic_raw.proofs.tree_clear.unmark_all.Goals as goal
 
--- at the end of a walk all members are unlinked, and nothing else is changed
+-- at the end of a walk through the tree, all members are unlinked, and no other entry has changed
 walked_all : {old now : Table RawThree} {s : List Place} {at : Option Place} {left : ℕ} (k : HasComeTo s at left) → at ≡ None → now.extent ≡ old.extent
     → ((p : Place) → IsMember p k.done → IsUnlinked is_linked_three now p) → ((q : Place) → IsAbsent q k.done → now.entry q ≡ old.entry q)
     → Clears is_linked_three old now s

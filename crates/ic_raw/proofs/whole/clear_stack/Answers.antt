@@ -8,7 +8,7 @@ use Rattle.ic_raw.specs.Singly.{Represents, lent_table}
 use Rattle.ic_raw.proofs.DoublyWalks.{nothing_first}
 use Rattle.ic_raw.proofs.whole.clear_stack.Goals as goal
 
--- a list with no first member has none,
+-- a list that has no first member has no members
 pub returns-in_default-clause-cleared : goal.returns-in_default-clause-cleared
 returns-in_default-clause-cleared c s shown =
     let nothing : s ≡ [] = nothing_first s (sym shown.head ∙ sym c.first.ensures ∙ c.in_default.is) in
@@ -17,7 +17,7 @@ returns-in_default-clause-cleared c s shown =
 pub returns-in_default-clause-ended : goal.returns-in_default-clause-ended
 returns-in_default-clause-ended c made = ([], record { distinct = tt; chain = tt; head = sym c.first.ensures ∙ c.in_default.is; tail = refl })
 
--- and one with a first member has a last one
+-- a list that has a first member also has a last member
 pub returns-in_default-last_from-clause-cleared : goal.returns-in_default-last_from-clause-cleared
 returns-in_default-last_from-clause-cleared c s shown =
     let whole : Represents (lent_table c.args.links.now) (list_from (Some c.in-Some.front)) s = rw (sym c.first.ensures ∙ c.in-Some.is) at shown in

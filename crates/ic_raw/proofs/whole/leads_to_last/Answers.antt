@@ -12,7 +12,7 @@ use Rattle.ic_raw.specs.LinkWords.{lent_table, neighbors}
 use Rattle.ic_raw.proofs.LinkViews.{link_words}
 use Rattle.ic_raw.proofs.whole.leads_to_last.Goals as goal
 
--- a list with no first member has no last one
+-- a list that has no first member has no last member
 pub returns-in_default-clause-shown : goal.returns-in_default-clause-shown
 returns-in_default-clause-shown g c s shown =
     let nothing : s ≡ [] = nothing_first s (sym shown.head ∙ sym c.first.ensures ∙ c.in_default.is) in

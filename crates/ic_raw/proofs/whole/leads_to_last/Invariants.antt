@@ -8,8 +8,8 @@ use Rattle.ic_raw.specs.LinkWords.{lent_table, neighbors}
 use Rattle.ic_raw.proofs.LinkViews.{link_words}
 use Rattle.ic_raw.proofs.whole.leads_to_last.Given as goal
 
--- the places from the first member on lead here. What is left of the list, whichever sequence is represented, has the same last member, and fits
--- into the steps that are left
+-- before each step, the links lead from the first member to the place `at`. In each sequence that the words represent, the remaining members end with
+-- the last member of the sequence, and there are at most `left` of them
 abbrev pub invariant-loop-left : goal.invariant-loop-left
 invariant-loop-left g l =
     let words = link_words g.W.Words g.W.NextWord g.W.PrevPlace in record {

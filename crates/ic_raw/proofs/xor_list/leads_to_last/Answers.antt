@@ -47,7 +47,7 @@ loop-left-preserved c = record {
       (more.0, more.2, rest.2 ∙ more.3, omega (arith, rest.3, ap length {y = c.loop-left.at ∷ more.0} more.1));
 }
 
--- a list with no first member has no last one
+-- a list that has no first member has no last member
 pub returns-in_default-clause-shown : goal.returns-in_default-clause-shown
 returns-in_default-clause-shown c s shown =
     let nothing : s ≡ [] = nothing_first s (sym shown.head ∙ sym c.first.ensures ∙ c.in_default.is) in

@@ -7,8 +7,8 @@ use Rattle.ic_raw.specs.Singly.{lent_table}
 use Rattle.ic_raw.specs.Xor.{Represents, HasNeighbors, LeadsOn, LeadsThrough}
 use Rattle.ic_raw.proofs.xor_list.leads_to_last.Given as goal
 
--- what leads on from here leads through all. What is left of the list, whichever sequence is represented, has the same last member, and fits into the
--- steps that are left
+-- before each step, if the links lead from `at` through a sequence to the end, they lead through a whole list from its first member. In each sequence
+-- that the words represent, the remaining members end with the last member, and there are at most `left` of them
 abbrev pub invariant-loop-left : goal.invariant-loop-left
 invariant-loop-left l = record {
   leads : (s : List Place) → LeadsOn (lent_table l.fn.links).entry l.fn.list.tail l.prev (Some l.at) s → (r : List Place) × LeadsThrough (lent_table l.fn.links) l.fn.list r;

@@ -7,7 +7,7 @@ use Rattle.ic_raw.specs.Singly.{lent_table}
 use Rattle.ic_raw.specs.Xor.{Represents, HasNeighbors, OnlyUnlinks}
 use Rattle.ic_raw.proofs.xor_list.release_all.Given as goal
 
--- only linked places are unlinked. The members before `at` are, and those from there on fit into the steps that are left
+-- before each step, only linked places have been unlinked. The members before `at` are unlinked, and there are at most `left` members from `at` on
 abbrev pub invariant-loop-left : goal.invariant-loop-left
 invariant-loop-left l = record {
   marks : OnlyUnlinks (lent_table l.fn.links) (lent_table l.links);

@@ -3,11 +3,11 @@ use Rattle.ic_unsafe_ref.specs.declared.place.Place.{Place}
 use Rattle.ic_rbtree.specs.Closed.{IsClosed}
 use Rattle.ic_raw.specs.Seen.{also, has_place, seen, seen_node}
 use Rattle.ic_raw.specs.Tree.{lent_table}
-use Rattle.ic_raw.specs.WholeTree.{IsSeen}
+use Rattle.ic_raw.specs.TreeShape.{IsSeen}
 use Rattle.ic_raw_augmented.specs.Sums.{IsNear, IsSummedBut, KeepsValues, StaysBeside}
 use Rattle.ic_raw_augmented.proofs.recompute.recompute_up.Given as goal
 
--- what was wrong at the first place alone is wrong at this one alone
+-- if the sums were wrong only at the first place of the way up, they are now wrong only at the current place
 abbrev pub invariant-loop : goal.invariant-loop
 invariant-loop l =
     let t = lent_table l.fn.links in

@@ -1,12 +1,12 @@
 use Rattle.std.proofs.Common.{Option, List, drop}
 use Rattle.ic_unsafe_ref.specs.declared.place.Place.{Place}
 use Rattle.ic_raw.specs.Tree.{lent_table}
-use Rattle.ic_raw.specs.WholeTree.{IsSeen}
+use Rattle.ic_raw.specs.TreeShape.{IsSeen}
 use Rattle.ic_raw_augmented.specs.Sums.{IsSummedBut, KeepsValues}
 use Rattle.ic_raw_augmented.specs.Written.{is_among}
 use Rattle.ic_raw_augmented.proofs.recompute.recompute_written.Given as goal
 
--- the sums are right but at the places that are left
+-- the sums are right at all members except the recorded places at which the loop has not yet computed them again
 abbrev pub invariant-loop-word : goal.invariant-loop-word
 invariant-loop-word l = record {
   right : (root : Option Place) (s : List Place) → IsSeen (lent_table l.fn.links) root s

@@ -12,7 +12,7 @@ use Rattle.ic_raw.proofs.Trees.{beside_stands}
 use Rattle.ic_raw_keyed.proofs.TreeEnds.{gap_inwards, inwards_beside, inwards_joins, inwards_other, is_next}
 use Rattle.ic_raw_keyed.proofs.ends_calls.end_without.Goals as goal
 
--- another member is the end
+-- if the removed member is not the end, the end stays as it is
 pub returns-then-not-is_at-clause-shown : goal.returns-then-not-is_at-clause-shown
 returns-then-not-is_at-clause-shown c front back after shown is same =
     sym (some_same same) ∙ end_stays c.args.side front back c.args.member is (sym c.is_at.ensures ∙ c.if-not-is_at.true)
@@ -23,7 +23,7 @@ returns-then-not-is_at-clause-own c after same within = record {
   other = λ away. sym (some_same same);
 }
 
--- a step inwards leads to what stands there, which is another linked place
+-- a step inwards leads to the member that is next to the removed end, which is another linked place
 pub returns-then-is_at-clause-accepted : goal.returns-then-is_at-clause-accepted
 returns-then-is_at-clause-accepted c front back shown none =
     let gap = gap_inwards c.args.side front c.args.member back in

@@ -20,7 +20,7 @@ returns-then-status-ne-OK c = record {
   refused = λ off. refl;
 }
 
--- no place is inserted
+-- this case does not occur, because the insertion is refused if the given place is none
 pub returns-in_default : goal.returns-in_default
 returns-in_default c = absurd (c.insert-status.ensures.no_place (sym c.place_of.ensures ∙ c.in_default.is) c.if-status-ne-OK.false)
 

@@ -6,7 +6,7 @@ use Rattle.ic_raw.specs.Words.{place_of}
 use Rattle.ic_raw_keyed.specs.Ends.{end_in}
 use Rattle.ic_raw_keyed.proofs.ends_calls.pop_first.Goals as goal
 
--- none is the first
+-- if the word of the first member names none, no member is removed
 pub returns-in_default : goal.returns-in_default
 returns-in_default c =
     let none : end_in Left c.args.ends.now ≡ None = sym c.end.ensures ∙ c.in_default.is in record {
@@ -19,7 +19,7 @@ returns-in_default c =
       is_status = search rules;
     }
 
--- the number of the first is that of another place
+-- the number of the first member names another place, which does not occur if the index of the member is below 4,294,967,295
 pub returns-then-not-is_at : goal.returns-then-not-is_at
 returns-then-not-is_at c =
     let one : end_in Left c.args.ends.now ≡ Some c.in-Some.member = sym c.end.ensures ∙ c.in-Some.is in record {

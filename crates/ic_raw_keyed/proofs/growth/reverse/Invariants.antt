@@ -6,7 +6,7 @@ use Rattle.ic_raw.specs.Words.{is_linked_one}
 use Rattle.ic_raw_keyed.proofs.MovedChains.{Reverses}
 use Rattle.ic_raw_keyed.proofs.growth.reverse.Given as goal
 
--- the members up to `at` are turned round, and no place was linked or unlinked
+-- the members before `at` are reversed, and no place was linked or unlinked
 abbrev pub invariant-loop-left : goal.invariant-loop-left
 invariant-loop-left l = record {
   comes : (s : List Place) → Represents (lent_table l.fn.links) (list_from l.fn.front) s → Reverses (lent_table l.fn.links) (lent_table l.links) s l.back l.at l.left;

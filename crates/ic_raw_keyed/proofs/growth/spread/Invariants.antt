@@ -6,7 +6,7 @@ use Rattle.ic_raw.specs.Words.{is_linked_one}
 use Rattle.ic_raw_keyed.proofs.MovedChains.{SpreadsTo}
 use Rattle.ic_raw_keyed.proofs.growth.spread.Given as goal
 
--- the members up to `at` are spread, and no place was linked or unlinked
+-- the members before `at` were moved to their buckets, and no place was linked or unlinked
 abbrev pub invariant-loop-left : goal.invariant-loop-left
 invariant-loop-left l = record {
   comes : (r : List Place) → Represents (lent_table l.fn.links) (list_from l.fn.front) r → SpreadsTo l.fn.hashes l.fn.links l.links l.fn.buckets l.buckets r l.at l.left;

@@ -2,7 +2,7 @@ use Rattle.std.proofs.Common.{◌≢◌, Some, ◌∷◌, ◌++◌, ◌+◌, eq-
 use Rattle.ic_unsafe_ref.specs.Places.{word_of}
 use Rattle.ic_link_ops.proofs.SequenceLemmas.{none_not}
 use Rattle.ic_ring.proofs.Circles.{rotated, tested_same, tested_other}
-use Rattle.ic_raw.specs.declared.gap.Side.TheVariants.{After}
+use Rattle.ic_raw.specs.declared.gap.GapSide.TheVariants.{After}
 use Rattle.ic_raw.specs.LinkWords.{lent_table, neighbors, wide_words}
 use Rattle.ic_raw.specs.Ring.{IsCircle, AreLinked}
 use Rattle.ic_raw.proofs.DoublyWalks.{covered}
@@ -16,7 +16,7 @@ pub loop-count-init : goal.loop-count-init
 loop-count-init c =
     let first = passes_none (neighbors wide_words) (lent_table wide_words c.args.links.now) c.args.head in (first.0, subst (IsNotAmong c.args.apart) (sym first.1) (none_of_nothing c.args.apart))
 
--- the place is in the ring
+-- the walk has met the place `apart`, so this place is in the ring
 pub returns-then-to_word : goal.returns-then-to_word
 returns-then-to_word c s ring =
     let k = c.loop-count.invariant.0 in
@@ -24,7 +24,7 @@ returns-then-to_word c s ring =
     let same = same_word _ _ c.to_word.ensures.value c.to_word-in-loop-count.ensures.value (eq-eqb _ _ c.if-to_word.true) in
     is_among c.args.apart k.passed c.loop-count.at rest.0 same (subst (IsNotAmong c.args.apart) rest.1 ring.out)
 
--- in a circle each place leads on
+-- the words represent no ring, because in a ring each place leads to a next place
 pub returns-in_default : goal.returns-in_default
 returns-in_default c s ring =
     let k = c.loop-count.invariant.0 in

@@ -19,7 +19,7 @@ returns-then-begin_alike-clause-shown g c cut front back shown beside given apar
     let alike = c.begin_alike.ensures.alike c.if-begin_alike.true in
     absurd (begin_apart (join cut) (front ++ c.args.member ∷ back) apart (sym given.head ∙ alike.1) (sym shown.head ∙ alike.2))
 
--- a member of the given list is beside no gap of the list
+-- a member of the list `given` is beside no gap of the other list, because the two lists share no member
 pub returns-then-not-is_apart-clause-shown : goal.returns-then-not-is_apart-clause-shown
 returns-then-not-is_apart-clause-shown g c cut front back shown beside given apart =
     let to = some_same (sym c.in-Some.is ∙ c.gap_at.ensures.shown cut shown beside) in

@@ -1,7 +1,7 @@
 use Rattle.std.proofs.Common.{◌≡◌, ◌∷◌, ◌++◌, refl, sym, ap, ◌∙◌, rules}
 use Rattle.ic_link_ops.specs.Sequences.{join}
 use Rattle.ic_link_ops.proofs.SequenceLemmas.{some_same, none_not}
-use Rattle.ic_raw.specs.declared.gap.Side.TheVariants.{After, Before}
+use Rattle.ic_raw.specs.declared.gap.GapSide.TheVariants.{After, Before}
 use Rattle.ic_raw.specs.Doubly.{Represents}
 use Rattle.ic_raw.specs.Touches.{sides}
 use Rattle.ic_raw.proofs.Doubly.{around_viewed, gap_viewed, told_viewed}

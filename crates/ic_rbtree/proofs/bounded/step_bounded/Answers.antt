@@ -58,7 +58,7 @@ returns-in-Some-below-clause-reached g c y is =
           (inl (c.in-Some-below.below, sym w.child-below.ensures ∙ (sym w.below-is ∙ c.in-Some-below.is), down))
     ]
 
--- a place without a child on that side, from which the way up comes to an end
+-- the step goes up from a place that has no child on side `side`, and the climb reaches the place y
 pub returns-in_ok-current-in-None-below-clause-reached : goal.returns-in_ok-current-in-None-below-clause-reached
 returns-in_ok-current-in-None-below-clause-reached g c y is = elim c.match-current.branch [
   | in-None w ↦ absurd (none_not c.in_ok-current-in-None-below.field-0 (sym (w.current-is ∙ w.in-None.is) ∙ c.in_ok-current-in-None-below.was))

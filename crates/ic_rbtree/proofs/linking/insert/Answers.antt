@@ -2,7 +2,7 @@ use Rattle.std.proofs.Common.{[]}
 use Rattle.ic_link_ops.specs.Sequences.{join}
 use Rattle.ic_rbtree.specs.Kept.{root_kept}
 use Rattle.ic_rbtree.proofs.Attaching.{acquired_represented, hole_kept, inserts}
-use Rattle.ic_rbtree.proofs.KeptHeads.{shown, printed, inserts_kept, hole_below}
+use Rattle.ic_rbtree.proofs.KeptHeads.{shown, printed, inserts_kept, insert_pos_below}
 use Rattle.ic_rbtree.proofs.RepresentedClosed.{with_place, represented_closed_but, with_itself, hole_in}
 use Rattle.ic_rbtree.proofs.linking.insert.Goals as goal
 
@@ -10,7 +10,7 @@ pub attach-requires : goal.attach-requires
 attach-requires g c =
     let n = g.L.RBTreeOps.node in
     let alike = g.met.L.RBTreeOps.linked_alike in
-    let r = c.requires.hole in
+    let r = c.requires.insert_pos in
     let l = g.met.L.LinkOps.does_replay _ _ _ c.if-not-acquire_link.ensures.acquired in
     let old = g.L.LinkOps.table c.args.links.now in
     let now = g.L.LinkOps.table c.acquire_link.new.self in
@@ -33,7 +33,7 @@ returns-clause-inserted g c gap h at =
     (inserts n old now _ (root_kept kept) new c.args.place gap c.acquire_link.ensures.frame
     (c.attach.ensures.attached now gap [] (acquired_represented n g.L.LinkOps.linked alike old now (root_kept kept) (join gap) c.args.place was l.was l.is c.acquire_link.ensures.frame)
     (hole_kept n g.L.LinkOps.linked alike old now (root_kept kept) c.args.parent c.args.side gap c.args.place was l.was c.acquire_link.ensures.frame at)))
-    (c.attach.ensures.ends gap (hole_below n old c.args.parent c.args.side gap at) was.held.distinct (printed n old kept (join gap) h))
+    (c.attach.ensures.ends gap (insert_pos_below n old c.args.parent c.args.side gap at) was.held.distinct (printed n old kept (join gap) h))
 
 pub returns-clause-acquired : goal.returns-clause-acquired
 returns-clause-acquired g c = c.attach.ensures.keeps_links _ _ c.if-not-acquire_link.ensures.acquired

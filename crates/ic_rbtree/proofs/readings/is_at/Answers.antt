@@ -4,7 +4,7 @@ use Rattle.ic_unsafe_ref.proofs.PlaceLemmas.{word_is, word_tells}
 use Rattle.ic_link_ops.specs.Walk.{is_end}
 use Rattle.ic_rbtree.proofs.readings.is_at.Goals as goal
 
--- words tell whether an end is a place
+-- an optional place is the place p exactly if their two words are equal
 same_words : (end : Option Place) (p : Place) → nat_eq (word_of end) (word_of (Some p)) ≡ is_end end p
 same_words None p = ne_eqb 0 (8 * (index_of p + 1)) (λ e. absurd (omega (arith, e)))
 same_words (Some q) p =

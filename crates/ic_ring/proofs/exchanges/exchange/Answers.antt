@@ -65,7 +65,7 @@ returns-clause-trace_stays g c =
     L.does_on _ _ _ _ _ (L.does_on _ _ _ _ _ (L.does_on _ _ _ _ _ c.set_next.ensures.trace_stays c.set_prev.ensures.trace_stays) c.set_next-2.ensures.trace_stays) c.set_prev-2.ensures.trace_stays
 
 module _ (g : Over) (c : goal.After-set_prev-2 g) where
-  -- nothing is changed but entries of the rings of both
+  -- no entries are changed except those of the two rings of the exchanged places
   kept : (r u : List Place) (q : Place) → IsCircle g.L.LinkedListOps.neighbors (g.L.LinkOps.table c.args.links.now).entry (c.args.first ∷ r)
       → IsCircle g.L.LinkedListOps.neighbors (g.L.LinkOps.table c.args.links.now).entry (c.args.second ∷ u) → IsAbsent q (c.args.first ∷ r) → IsAbsent q (c.args.second ∷ u)
       → (g.L.LinkOps.table c.set_prev-2.new.self).entry q ≡ (g.L.LinkOps.table c.args.links.now).entry q

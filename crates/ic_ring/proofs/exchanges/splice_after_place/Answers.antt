@@ -37,7 +37,7 @@ pub returns-clause-trace_stays : goal.returns-clause-trace_stays
 returns-clause-trace_stays g c = g.met.L.LinkOps.does_on _ _ _ _ _ c.exchange.ensures.trace_stays c.exchange-2.ensures.trace_stays
 
 module _ (g : Over) (c : goal.After-exchange-2 g) where
-  -- nothing is changed but entries of both rings
+  -- no entries are changed except those of the ring of the place and of the given ring
   kept : (r t : List Place) → Represents g.L.LinkedListOps.neighbors (g.L.LinkOps.table c.args.links.now) c.args.at r
       → Represents g.L.LinkedListOps.neighbors (g.L.LinkOps.table c.args.links.now) c.args.given t
       → ChangesOnlyIn (g.L.LinkOps.table c.args.links.now) (g.L.LinkOps.table c.exchange-2.new.links) ((c.args.at ∷ r) ++ (c.args.given ∷ t))

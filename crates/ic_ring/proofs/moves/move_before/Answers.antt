@@ -26,17 +26,17 @@ insert_linked-requires g c = record {
 }
 
 module _ (g : Over) (c : goal.After-insert_linked g) where
-  -- the object is out of its ring, and the others are as they were
+  -- after the first step, the object is in no ring, and the ring beside it has its head and the members s
   out : (head : Place) (s : List Place) → RepresentsBeside g.L.LinkedListOps.neighbors (g.L.LinkOps.table c.args.links.now) c.args.object.now head s
       → IsCircle g.L.LinkedListOps.neighbors (g.L.LinkOps.table c.detach.new.links).entry (head ∷ s) × IsAbsent c.args.object.now (head ∷ s)
   out head s beside = beside_represented c.args.object.now head s beside (rw c.place-place.ensures at c.detach.ensures.taken) (rw c.place-place.ensures at c.detach.ensures.others)
 
-  -- and it is put before the place
+  -- after the second step, the object is in the ring right before the place
   put : (s : List Place) → IsCircle g.L.LinkedListOps.neighbors (g.L.LinkOps.table c.detach.new.links).entry (c.args.at ∷ s) → IsAbsent c.args.object.now (c.args.at ∷ s)
       → IsCircle g.L.LinkedListOps.neighbors (g.L.LinkOps.table c.insert_linked.new.links).entry (c.args.object.now ∷ c.args.at ∷ s)
   put s circle apart = rw c.place-place.ensures at (c.insert_linked.ensures.put s circle (subst (λ p. IsAbsent p (c.args.at ∷ s)) (sym c.place-place.ensures) apart))
 
-  -- nothing is changed but entries of the two rings
+  -- no entries are changed except those of the ring of the place and of the ring of the object
   kept : (r s : List Place) (q : Place) → IsCircle g.L.LinkedListOps.neighbors (g.L.LinkOps.table c.args.links.now).entry (c.args.at ∷ r)
       → IsCircle g.L.LinkedListOps.neighbors (g.L.LinkOps.table c.args.links.now).entry (c.args.object.now ∷ s) → IsAbsent q (c.args.at ∷ r) → IsAbsent q (c.args.object.now ∷ s)
       → (g.L.LinkOps.table c.insert_linked.new.links).entry q ≡ (g.L.LinkOps.table c.args.links.now).entry q

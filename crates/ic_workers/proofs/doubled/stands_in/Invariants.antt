@@ -2,7 +2,7 @@ use Rattle.std.proofs.Common.{◌≡◌, ◌≤◌, ◌-◌, false, length, take
 use Rattle.ic_workers.specs.SharedOut.{has}
 use Rattle.ic_workers.proofs.doubled.stands_in.Given as goal
 
--- it does not stand before `low`, nor from `high` on
+-- no place of the list before position `low` or from position `high` on has the index
 abbrev pub invariant-loop-low : goal.invariant-loop-low
 invariant-loop-low l = record {
   order : l.low ≤ l.high;

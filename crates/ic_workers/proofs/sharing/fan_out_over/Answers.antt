@@ -10,7 +10,7 @@ use Rattle.ic_workers.proofs.sharing.fan_out_over.Goals as goal
 pub audit-requires : goal.audit-requires
 audit-requires g c = record { made = each_made c.args.claims.now c.in_ok-holders.holders.items (places_in c.in_ok-holders.lists.items) c.in_ok-holders.ensures.taken }
 
--- there is a list for each holder of the claims, and the audit says that their records are all
+-- there is a list for each holder of the claims, and by the audit the records of these holders are all records
 module _ (g : given.Over) (c : goal.After-drop-offered-2 g) where
   workers : vec_len c.in_ok-done.done ≡ holders_of c.args.claims.now
   workers = omega (arith, c.in_ok-done.ensures.len, c.in_ok-parties.ensures.len, c.requires.all)

@@ -1,7 +1,7 @@
 use Rattle.std.proofs.Common.{◌≡◌, ◌<◌, ◌∙◌, true, [], length, sym, subst, arith, rules}
 use Rattle.ic_unsafe_ref.specs.Places.{index_of}
 use Rattle.ic_link_ops.specs.ThreeWords.{node_of}
-use Rattle.ic_augmented.specs.SumTables.{joined}
+use Rattle.ic_augmented.specs.AugmentedTables.{joined}
 use Rattle.ic_rbtree.specs.KeyedTrees.{keyed_table}
 use Rattle.keyed_tests.proofs.Ready.{nothing_summed, nothing_consistent, on_ok}
 use Rattle.keyed_tests.proofs.augmented.empty_tree.Goals as goal

@@ -3,7 +3,7 @@ use Rattle.ic_link_ops.specs.Prelude.{Place, index_of}
 use Rattle.ic_augmented.specs.Consistent.{RepresentsConsistent}
 use Rattle.ic_augmented.specs.Greatest.{greatest}
 use Rattle.ic_augmented.specs.GreatestLaws.{greatest_tells}
-use Rattle.ic_augmented.specs.SumTables.{room_of}
+use Rattle.ic_augmented.specs.AugmentedTables.{room_of}
 use Rattle.keyed_tests.proofs.Ready.{room_linked}
 use Rattle.keyed_tests.proofs.augmented.first_above.Goals as goal
 

@@ -1,6 +1,6 @@
 use Rattle.std.proofs.Common.{subst, ◌∙◌}
 use Rattle.ic_link_ops.specs.RedBlackTree.{Represents}
-use Rattle.ic_augmented.specs.Consistent.{RepresentsSummed}
+use Rattle.ic_augmented.specs.Consistent.{RepresentsAugmented}
 use Rattle.ic_augmented.specs.Counts.{counts}
 use Rattle.keyed_tests.proofs.Positions.{at_position, past_all, least_here, least_past}
 use Rattle.keyed_tests.proofs.augmented.position_of_nth.Goals as goal
@@ -18,7 +18,7 @@ pub returns-in-Some : goal.returns-in-Some
 returns-in-Some g c = record {
   least = λ s shown.
       let a = at_position s c.args.position (c.in-Some.ensures s shown) in
-      c.index_of.ensures _ a.front a.back (subst (RepresentsSummed g.N.NodeStore.node (counts c.args.summed.now.summaries) (g.N.NodeStore.table c.args.summed.now.links) _) a.same shown)
+      c.index_of.ensures _ a.front a.back (subst (RepresentsAugmented g.N.NodeStore.node (counts c.args.summed.now.summaries) (g.N.NodeStore.table c.args.summed.now.links) _) a.same shown)
       ∙ (a.position ∙ least_here s c.args.position a);
 }
 

@@ -3,7 +3,7 @@ use Rattle.ic_link_ops.specs.Prelude.{Place, index_of}
 use Rattle.ic_link_ops.specs.RedBlackTree.{Represents}
 use Rattle.ic_augmented.specs.Consistent.{RepresentsConsistent}
 use Rattle.ic_augmented.specs.Counts.{counts}
-use Rattle.ic_augmented.specs.SumTables.{room_of}
+use Rattle.ic_augmented.specs.AugmentedTables.{room_of}
 use Rattle.ic_augmented.proofs.StepLemmas.{removed_right}
 use Rattle.keyed_tests.proofs.Positions.{at_position}
 use Rattle.keyed_tests.proofs.Ready.{room_covered, room_linked}

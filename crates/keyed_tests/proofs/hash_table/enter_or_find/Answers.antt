@@ -12,7 +12,7 @@ use Rattle.ic_hash_table.specs.HashTable.{Holds}
 use Rattle.ic_hash_table.proofs.Callers.{held_represented}
 use Rattle.keyed_tests.proofs.hash_table.enter_or_find.Goals as goal
 
--- what holds of an entry that is occupied, or vacant, holds in part
+-- if P holds of an entry that is occupied, or vacant, and Q follows from P, then Q holds of the entry
 module _ {A B L : Type 0} where
   occupied_part : (P Q : OccupiedEntry A B L → Type 0) → ((e : OccupiedEntry A B L) → P e → Q e) → (entry : Entry A B L) → IfOccupied entry P → IfOccupied entry Q
   occupied_part P Q part (Occupied e) h = part e h
@@ -22,7 +22,7 @@ module _ {A B L : Type 0} where
   vacant_part P Q part (Occupied e) h = tt
   vacant_part P Q part (Vacant v) h = part v h
 
--- the member that has the key, or that went in, is of a table of links with the same extent
+-- after the entry of a key is filled, or a member with the key is found, the table of links has the same extent as before
 module _ {E A B L V K : Type 0} (successor : E → Successor) (table : L → Table E) (fronts : B → List (Option Place)) (Rewrites : B → B → Type 0) (hash : A → V → ℕ)
     (Trace : L → L → List LinkStep → Type 0) (Refused : L → L → Place → Type 0) (objects : Objects V) (object : Place) where
   entered_extent : (entry : Entry A B L) (result : Result (OccupiedEntry A B L) (RefusedInsert A B L V K))

@@ -1,7 +1,7 @@
 use Rattle.std.proofs.Common.{◌≡◌, Option, arith, IfNone, false, is_some, sym, ◌∙◌, rules}
 use Rattle.uses.proofs.pairs.take_both.Goals as goal
 
--- what an answer that is none says
+-- if the result is `None`, then what a contract says of the result `None` holds
 none_says : {A P : Type 0} (r : Option A) → is_some r ≡ false → IfNone r P → P
 none_says r e h = grind arith
 

@@ -37,7 +37,7 @@ move_next-requires g c = let gap = retains_gap (c.loop-object.invariant.retains 
 pub remove-requires : goal.remove-requires
 remove-requires g c = let gap = retains_gap (c.loop-object.invariant.retains _ c.requires.placed.shown).1 in record { stands = stands_here gap.0 gap.1 gap.2 tt refl }
 
--- the turn that kept the member, and the one that took it off
+-- `kept` is a turn of the loop that keeps the member of the cursor. `gone` is a turn of the loop that removes it
 kept : (g : Over) (c : goal.After-move_next g) (s : List Place) → Represents g.L.LinkedListOps.neighbors (g.L.LinkOps.table c.args.links.now) c.args.list.now s
     → Turns g.L.LinkedListOps.neighbors g.L.LinkOps.table g.L.LinkOps.Trace c.args.objects.now (FnReturnsAt g.F.Fn c.args.keeps) c.args.links.now s
     (site_of (λ list. list) (λ at. at) c.loop-object.cursor) (site_of (λ list. list) (λ at. at) c.move_next.new.self)

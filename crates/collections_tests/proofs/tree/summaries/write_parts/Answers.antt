@@ -4,7 +4,7 @@ use Rattle.ic_link_ops.proofs.Times.{times_append, distinct_times, times_absent}
 use Rattle.ic_rbtree.proofs.KeptHeads.{shown}
 use Rattle.ic_augmented.specs.MarkLaws.{marks_still}
 use Rattle.ic_augmented.specs.StepLaws.{right_still}
-use Rattle.ic_augmented.specs.SummedSteps.{TraceSummed}
+use Rattle.ic_augmented.specs.AugmentedSteps.{TraceAugmented}
 use Rattle.ic_augmented.proofs.EditLemmas.{others_consistent}
 use Rattle.collections_tests.proofs.Ready.{both_right, parts_right, ready_then}
 use Rattle.collections_tests.proofs.tree.summaries.write_parts.Goals as goal
@@ -100,7 +100,7 @@ returns g c =
     let front_now = others_consistent n _ _ _ _ m.front f2.join
     (λ p there. f2.others back (rw f.links back_represented) p (times_absent p back (omega (arith, there, once p, times_append p m.front back)))) front_then in
     let mid = c.refresh-2.new.summed in
-    let still : TraceSummed g.L.LinkOps.Trace n g.L.LinkOps.table g.M.Summaries.summaries g.M.Summaries.Covers mid mid []
+    let still : TraceAugmented g.L.LinkOps.Trace n g.L.LinkOps.table g.M.Summaries.summaries g.M.Summaries.Covers mid mid []
     = record {
       links = g.met.L.LinkOps.does_nothing mid.links;
       right = right_still n (g.L.LinkOps.table mid.links) (g.M.Summaries.summaries mid.summaries);

@@ -5,7 +5,7 @@ use Rattle.ic_any_collection.specs.AnyCollection.{members_in}
 use Rattle.ic_any_collection.proofs.Reading.{Walks, from}
 use Rattle.ic_any_collection.proofs.any_collection.AnyCollection.find_prev.Given as goal
 
--- the place is none of the members before `current`
+-- the walk has passed the members before `current`, and the searched place is none of them
 abbrev pub invariant-loop-current : goal.invariant-loop-current
 invariant-loop-current g l = record {
   sought : (done : List Place) × Walks (members_in (table_in l.fn.links) l.fn.self) done l.prev l.current × IsAbsent l.fn.place done;

@@ -4,7 +4,7 @@ use Rattle.ic_any_collection.specs.AnyCollection.{members_in}
 use Rattle.ic_any_collection.proofs.Reading.{Walks, from}
 use Rattle.ic_any_collection.proofs.any_collection.AnyCollection.listed.Given as goal
 
--- the places so far are those of the members before `current`
+-- the places that were listed up to now are the members before `current`
 abbrev pub invariant-loop-current : goal.invariant-loop-current
 invariant-loop-current g l = record { walks : Walks (members_in (table_in l.fn.links) l.fn.self) l.places.items l.prev l.current }
 

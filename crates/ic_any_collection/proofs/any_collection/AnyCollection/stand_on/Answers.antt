@@ -6,7 +6,7 @@ use Rattle.ic_any_collection.proofs.Standing.{known}
 use Rattle.ic_any_collection.proofs.Parting.{at_before}
 use Rattle.ic_any_collection.proofs.any_collection.AnyCollection.stand_on.Goals as goal
 
--- a position on a member is one of the sequence
+-- a cursor on the member p is at a position of the sequence s, if p is the member after a gap of s
 on_member : {s : List Place} {position : Option Place} {p : Place} (gap : Cut) → join gap ≡ s → IsBefore gap (Some p) → position ≡ Some p → IsAt s position
 on_member {position = position} gap same before is = subst (λ s. IsAt s position) same (at_before gap (is ∙ before))
 

@@ -1,8 +1,8 @@
 use Rattle.std.proofs.Common.{◌≡◌, ℕ, ◌<◌, List, [], map, take, length, get_or, length-set, ◌∙◌, ap, sym, subst, arith}
 use Rattle.std.proofs.lemmas.List.{take_all, length-map}
-use Rattle.ic_atomic.specs.declared.hand.HeldRecords.{HeldRecords}
+use Rattle.ic_atomic.specs.declared.held.HeldRecords.{HeldRecords}
 use Rattle.ic_atomic.specs.declared.claims.Holder.{Holder}
-use Rattle.ic_atomic.specs.Hands.{hand, both_hands}
+use Rattle.ic_atomic.specs.Held.{hand, both_hands}
 use Rattle.ic_atomic.specs.Holders.{holders_of, record_of, AreOneList}
 use Rattle.ic_atomic.proofs.RuleLemmas.{compares}
 use Rattle.ic_atomic.proofs.HolderLemmas.{HasRecords, rest_back, first_back, one_back, others_empty, all_back, reported, told_whole, none_twice}

@@ -12,7 +12,7 @@ prev-self-requires g c = record { linked = g.met.K.ForwardLinks.between_linked _
 pub value-value-requires : goal.value-value-requires
 value-value-requires g c = let k = c.requires in record { placed = last_placed (g.O.Values.values c.args.self.now.objects.now) k.0 k.2 (sym c.in_ok-place.was ∙ (at_end g.met.K.DoubleEnded.keeps_both k.1.0 k.1.1).ends) }
 
--- this call is a step of the walk
+-- a call of `next_back` is a step of the walk from the back
 step : (g : Over) (c : goal.Joined-is_at g) → StepsBack g.K.ListKind.keeps_last g.K.ForwardLinks.Between g.L.LinkOps.table g.O.Values.values c.args.self.now c.if-is_at.self c.in_ok-place.place
 step g c =
     elim c.if-is_at.branch [

@@ -12,7 +12,7 @@ next-self-requires g c = record { linked = g.met.K.ForwardLinks.between_linked _
 pub value-value-requires : goal.value-value-requires
 value-value-requires g c = let k = c.requires in record { placed = first_placed (g.O.Values.values c.args.self.now.objects.now) k.0 k.2 (sym c.in_ok-place.was ∙ k.1.0.starts) }
 
--- this call is a step of the walk
+-- a call of `next` is a step of the walk
 step : (g : Over) (c : goal.Joined-is_at g) → Steps g.K.ListKind.keeps_last g.K.ForwardLinks.Between g.L.LinkOps.table g.O.Values.values c.args.self.now c.if-is_at.self c.in_ok-place.place
 step g c =
     elim c.if-is_at.branch [

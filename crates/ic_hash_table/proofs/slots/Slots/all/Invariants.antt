@@ -1,7 +1,7 @@
 use Rattle.std.proofs.Common.{◌≡◌, ◌+◌, ◌^◌, ◌<◌, ◌-◌, ◌*◌, ℕ}
 use Rattle.ic_hash_table.proofs.slots.Slots.all.Given as goal
 
--- of the mask's numbers more than half are below the count, and the mask has all bits below one
+-- more than half of the numbers within the mask are below `count`, and the mask is a power of 2 minus one
 abbrev pub invariant-loop-mask : goal.invariant-loop-mask
 invariant-loop-mask l = record {
   half : l.mask + 1 < 2 * l.fn.count;

@@ -39,7 +39,7 @@ returns-clause-inserted g c objects s gap held placed belongs was after before =
     held_put g.L.SinglyLinkedListOps.successor hash g.B.BucketRow.fronts c.args.object c.set_front.new.self (c.args.self.now.len + 1) c.requires.within c.set_front.ensures.fronts held placed belongs out
     gap was (rw c.first.ensures (chain_of_list put.shows)) put.frame refl
 
--- the chain that was put in is what its bucket begins with
+-- the chain with the inserted object begins with the first member that its bucket stores
 pub returns-clause-shows : goal.returns-clause-shows
 returns-clause-shows g c gap was after before =
     let e = rw c.place.ensures at c.if-not-insert_between.ensures in

@@ -20,7 +20,7 @@ returns-clause-inserted g c s held =
     (c.insert_at.ensures.inserted (g.L.Values.values c.args.links.now) s (record { front = []; back = k.chain }) held c.requires.placed
     (rw c.place.ensures at c.slot_of_object-at.ensures.belongs) k.shown refl (c.front-front.ensures ∙ k.shown.head))
 
--- the values are part of the extent, which stays
+-- the insert keeps the extent of the table of links, and the stored values are a part of the extent
 pub returns-clause-values : goal.returns-clause-values
 returns-clause-values g c =
     let q = c.requires.held in g.met.L.LinkValues.values_stay _ _ (c.insert_at.ensures.kept.chains.frame q.0 (held_represented q.1)).extent

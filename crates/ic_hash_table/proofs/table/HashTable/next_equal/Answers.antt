@@ -27,7 +27,7 @@ find_in_chain-found-requires-clause-placed g c =
     record { members = r.rest; shown = rw (c.next.ensures, c.place-place.ensures) r.shown; placed = r.placed }
 
 module _ (g : Over) (c : goal.After-reference g) where
-  -- what the search of the rest of its chain tells
+  -- the search of the rest of the chain finds the next member with an equal key among all members after the given one
   finds : (front back : List Place)
       → Holds g.L.SinglyLinkedListOps.successor (number g.A.HashAdapter.key_of g.A.HashAdapter.hash_of) g.B.BucketRow.fronts (g.L.LinkOps.table c.args.links.now) c.args.self.now (g.O.Values.values c.args.objects.now) (front ++ c.args.member.now ∷ back)
       → Finds (has_key g.A.Key.PartialEq.eq (g.A.HashAdapter.key_of c.args.self.now.adapter) (g.A.HashAdapter.key_of c.args.self.now.adapter c.value.result.now) (g.O.Values.values c.args.objects.now)) back c.find_in_chain-found.result.1

@@ -35,7 +35,7 @@ value-requires g c =
     let r = rw c.in-Some.is at (c.loop-at.invariant.each c.requires.held.0 c.requires.held.1) in
     record { placed = (all_back (λ q. IsSome (object_at (g.O.Values.values c.args.objects.now) q)) r.kept (c.in-Some.place ∷ drop 1 r.ahead) (holds_there r).placed).0 }
 
--- the turn that kept the member, and the one that took it out
+-- one turn of the loop keeps the member, or removes it from the table
 kept : (g : Over) (c : goal.Else-not-keeps g) (s : List Place)
     → Holds g.L.SinglyLinkedListOps.successor (number g.A.HashAdapter.key_of g.A.HashAdapter.hash_of) g.B.BucketRow.fronts (g.L.LinkOps.table c.args.links.now) c.args.self.now (g.O.Values.values c.args.objects.now) s
     → (r : Retains g.L.SinglyLinkedListOps.successor g.L.LinkOps.table g.L.LinkOps.Trace (number g.A.HashAdapter.key_of g.A.HashAdapter.hash_of) g.B.BucketRow.fronts (g.O.Values.values c.args.objects.now) (CalledAt g.F.FnMut)

@@ -6,7 +6,7 @@ use Rattle.ic_hash_table.specs.Iter.{members_of}
 use Rattle.ic_hash_table.proofs.RetainedMembers.{ahead_of, Retains}
 use Rattle.ic_hash_table.proofs.table.HashTable.retain_by.Given as goal
 
--- whichever sequence was held, the test was asked of the members before `at`, which were kept or let go as it told
+-- whichever sequence the table held, the test was called for the members before `at`. Those that passed were kept, and those that failed were removed
 abbrev pub invariant-loop-at : goal.invariant-loop-at
 invariant-loop-at g l = record {
   adapter : l.self.adapter ≡ l.fn.self.adapter;

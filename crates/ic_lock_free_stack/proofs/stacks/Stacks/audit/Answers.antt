@@ -1,9 +1,9 @@
 use Rattle.std.proofs.Common.{◌≡◌, ℕ, ◌<◌, List, [], ◌∷◌, map, take, length, get_or, length-set, ◌∙◌, ap, sym, subst, arith}
 use Rattle.std.proofs.lemmas.List.{take_all, length-map}
-use Rattle.ic_lock_free_stack.specs.declared.hand.HeldAccounts.{HeldAccounts}
-use Rattle.ic_lock_free_stack.specs.declared.hand.Account.{Account}
+use Rattle.ic_lock_free_stack.specs.declared.held.HeldAccounts.{HeldAccounts}
+use Rattle.ic_lock_free_stack.specs.declared.held.Account.{Account}
 use Rattle.ic_lock_free_stack.specs.declared.stacks.Holder.{Holder}
-use Rattle.ic_lock_free_stack.specs.Hands.{hand, both_hands}
+use Rattle.ic_lock_free_stack.specs.Held.{hand, both_hands}
 use Rattle.ic_lock_free_stack.specs.Holders.{account_of, party_of, AreOneHistory}
 use Rattle.ic_lock_free_stack.proofs.MovingLemmas.{compares}
 use Rattle.ic_lock_free_stack.proofs.AuditLemmas.{HasAccounts, seeing, rest_back, first_back, one_back, others_empty, account_back, holder_back, chain_back, all_back, answered, told_whole, none_twice}

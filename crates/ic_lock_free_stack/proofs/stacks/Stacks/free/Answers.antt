@@ -1,6 +1,6 @@
 use Rattle.std.proofs.Common.{ℕ, List, [], subst, sym, arith}
-use Rattle.ic_lock_free_stack.specs.declared.hand.Size.{Size}
-use Rattle.ic_lock_free_stack.specs.Hands.{all_fresh}
+use Rattle.ic_lock_free_stack.specs.declared.held.Size.{Size}
+use Rattle.ic_lock_free_stack.specs.Held.{all_fresh}
 use Rattle.ic_lock_free_stack.specs.Rule.{Rule}
 use Rattle.atomic_table.specs.Table.{opening}
 use Rattle.ic_lock_free_stack.proofs.MovingLemmas.{opens}

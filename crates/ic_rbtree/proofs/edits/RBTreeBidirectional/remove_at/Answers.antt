@@ -11,13 +11,13 @@ pub remove-requires : goal.remove-requires
 remove-requires g c =
     let k = gap_there c.requires.stands in record { member = (k.0, k.1, sym c.in_ok-place.was ∙ (c.get.ensures ∙ k.2)) }
 
--- the member is gone, of whatever sequence was represented
+-- the member at the position is removed from every sequence that the table represented for the tree
 removes : (g : Over) (c : goal.After-remove g) (gap : Cut) → RepresentsKept g.E.TreeHead.kept g.L.RBTreeOps.node (g.L.LinkOps.table c.args.links.now) c.args.self.now.head (join gap)
     → IsBefore gap c.args.at.now
     → Removes (RepresentsKept g.E.TreeHead.kept g.L.RBTreeOps.node) (g.L.LinkOps.table c.args.links.now) (g.L.LinkOps.table c.remove.new.links) c.remove.new.head gap
 removes g c gap shown before = c.remove.ensures.removed gap shown (sym c.in_ok-place.was ∙ (c.get.ensures ∙ before))
 
--- and the position is on the one after it
+-- the position is on the member after the removed member
 moves : (g : Over) (c : goal.After-remove g) (gap : Cut) → RepresentsKept g.E.TreeHead.kept g.L.RBTreeOps.node (g.L.LinkOps.table c.args.links.now) c.args.self.now.head (join gap)
     → IsBefore gap c.args.at.now → IsSecondAfter gap c.next_of.result
 moves g c gap shown before =

@@ -10,7 +10,7 @@ use Rattle.ic_rbtree.proofs.edits.RBTreeBidirectional.replace_at.Given.{Over}
 pub replace-requires-clause-member : goal.replace-requires-clause-member
 replace-requires-clause-member g c = let k = gap_there c.requires.stands in (k.0, k.1, sym c.in-Some.is ∙ (c.get.ensures ∙ k.2))
 
--- the object stands in the member's place, in whatever sequence was represented
+-- the object replaces the member at the position in every sequence that the table represented for the tree
 replaces : (g : Over) (c : goal.After-of g) (gap : Cut) → RepresentsKept g.E.TreeHead.kept g.L.RBTreeOps.node (g.L.LinkOps.table c.args.links.now) c.args.self.now.head (join gap)
     → IsBefore gap c.args.at.now
     → Replaces (RepresentsKept g.E.TreeHead.kept g.L.RBTreeOps.node) (g.L.LinkOps.table c.args.links.now) (g.L.LinkOps.table c.replace.new.links) c.replace.new.head gap c.args.object

@@ -7,7 +7,7 @@ use Rattle.ic_rbtree.specs.Ends.{end_on}
 use Rattle.ic_rbtree.specs.Sides.{nearest}
 use Rattle.ic_rbtree.proofs.head.RootTreeHead.end.Goals as goal
 
--- the outermost member on a side is the end there
+-- the outermost member of a sequence on side d is the end of the sequence on side d
 same_end : (d : Side) (s : List Place) → nearest (across d) s ≡ end_on d s
 same_end Left s = refl
 same_end Right s = refl

@@ -13,7 +13,7 @@ step-self-requires g c = record { stands = (last_stands g.L.RBTreeOps.node g.L.L
 pub value-value-requires : goal.value-value-requires
 value-value-requires g c = let k = c.requires in record { placed = last_placed (g.O.Values.values c.args.self.now.objects.now) k.0 k.2 (sym c.in_ok-place.was ∙ k.1.ends) }
 
--- this call is a step of the walk
+-- the call of `next_back` is a step of the walk that returns the last remaining member
 step : (g : Over) (c : goal.Joined-is_at g) → Steps g.L.RBTreeOps.node g.L.LinkOps.table g.O.Values.values c.args.self.now c.if-is_at.self (λ w. w ++ c.in_ok-place.place ∷ [])
 step g c =
     elim c.if-is_at.branch [

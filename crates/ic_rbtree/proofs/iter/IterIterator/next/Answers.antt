@@ -13,7 +13,7 @@ step-self-requires g c = record { stands = (first_stands g.L.RBTreeOps.node g.L.
 pub value-value-requires : goal.value-value-requires
 value-value-requires g c = let k = c.requires in record { placed = first_placed (g.O.Values.values c.args.self.now.objects.now) k.0 k.2 (sym c.in_ok-place.was ∙ k.1.starts) }
 
--- this call is a step of the walk
+-- the call of `next` is a step of the walk that returns the first remaining member
 step : (g : Over) (c : goal.Joined-is_at g) → Steps g.L.RBTreeOps.node g.L.LinkOps.table g.O.Values.values c.args.self.now c.if-is_at.self (λ w. c.in_ok-place.place ∷ w)
 step g c =
     elim c.if-is_at.branch [

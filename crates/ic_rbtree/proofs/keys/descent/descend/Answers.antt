@@ -21,8 +21,8 @@ right-right-requires g c =
     let r = c.requires.placed in
     record { linked = sym (g.met.L.RBTreeOps.linked_alike _) ∙ sent_linked g.L.RBTreeOps.node (c.loop-at.invariant.each r.members r.shown) c.in-Some.is }
 
-pub look-goes_left-requires : goal.look-goes_left-requires
-look-goes_left-requires g c =
+pub compare-goes_left-requires : goal.compare-goes_left-requires
+compare-goes_left-requires g c =
     let r = c.requires.placed in
     let x = c.loop-at.invariant.each r.members r.shown in
     record {
@@ -30,24 +30,24 @@ look-goes_left-requires g c =
       room = sent_room g.L.RBTreeOps.node x c.in-Some.is r.shown refl c.requires.room;
     }
 
--- past the member, to the child that was picked
+-- the child that the descent selects is the child on the side to which it goes
 picked_child : (left : Bool) (n : Node) {a b : Option Place} → a ≡ n.left → b ≡ n.right → cond left a b ≡ child_on (side_of left) n
 picked_child true n a_is b_is = a_is
 picked_child false n a_is b_is = b_is
 
 to_picked : (g : Over) (c : After-pick g) (next : Option Place) → c.pick.result ≡ next
-    → Comes g.L.RBTreeOps.node g.P.Probe.order g.P.Probe.count (g.O.Values.values c.args.objects.now) (g.L.LinkOps.table c.args.links.now) c.args.root c.args.equals c.args.probe.now c.look-goes_left.new.probe next c.look-goes_left.new.self
+    → Comes g.L.RBTreeOps.node g.P.Probe.order g.P.Probe.count (g.O.Values.values c.args.objects.now) (g.L.LinkOps.table c.args.links.now) c.args.root c.args.equals c.args.probe.now c.compare-goes_left.new.probe next c.compare-goes_left.new.self
 to_picked g c next is =
     comes_on g.L.RBTreeOps.node g.P.Probe.order g.P.Probe.count (g.O.Values.values c.args.objects.now)
-    c.loop-at.invariant c.in-Some.is c.look-goes_left.result c.look-goes_left.ensures.passed c.look-goes_left.ensures.left
-    (sym is ∙ c.pick.ensures ∙ picked_child c.look-goes_left.result (node_at g.L.RBTreeOps.node (g.L.LinkOps.table c.args.links.now) c.in-Some.place) c.left-left.ensures c.right-right.ensures)
-    c.look-goes_left.ensures.counted c.look-goes_left.ensures.same
+    c.loop-at.invariant c.in-Some.is c.compare-goes_left.result c.compare-goes_left.ensures.passed c.compare-goes_left.ensures.left
+    (sym is ∙ c.pick.ensures ∙ picked_child c.compare-goes_left.result (node_at g.L.RBTreeOps.node (g.L.LinkOps.table c.args.links.now) c.in-Some.place) c.left-left.ensures c.right-right.ensures)
+    c.compare-goes_left.ensures.counted c.compare-goes_left.ensures.same
 
 pub loop-at-smaller : goal.loop-at-smaller
 loop-at-smaller g c =
     let r = c.requires.placed in
     let room = sent_room g.L.RBTreeOps.node (c.loop-at.invariant.each r.members r.shown) c.in-Some.is r.shown refl c.requires.room in
-    omega (arith, room, c.look-goes_left.ensures.counted)
+    omega (arith, room, c.compare-goes_left.ensures.counted)
 
 pub loop-at-preserved : goal.loop-at-preserved
 loop-at-preserved g c = to_picked g c.before (Some c.in-Some-pick.next) c.in-Some-pick.is

@@ -3,7 +3,7 @@ use Rattle.ic_unsafe_ref.specs.declared.place.Place.{Place}
 use Rattle.ic_link_ops.proofs.SequenceLemmas.{none_not}
 use Rattle.ic_rbtree.specs.Closed.{IsIn}
 use Rattle.ic_rbtree.specs.Pieces.{Represented}
-use Rattle.ic_rbtree.proofs.Attaching.{hole, attached_first, attached_red}
+use Rattle.ic_rbtree.proofs.Attaching.{insert_pos, attached_first, attached_red}
 use Rattle.ic_rbtree.proofs.Closed.{in_there, in_linked, restarted}
 use Rattle.ic_rbtree.proofs.Low.{frames_low}
 use Rattle.ic_rbtree.proofs.repair.insertion.attach.Goals as goal
@@ -43,7 +43,7 @@ returns-in-None-clause-safe g c S h i =
 pub returns-in-Some-clause-attached : goal.returns-in-Some-clause-attached
 returns-in-Some-clause-attached g c base gap ps shown at =
     let n = g.N.NodeStore.node in
-    let x = hole n c.args.parent c.in-Some.above c.args.side gap c.in-Some.is shown at in
+    let x = insert_pos n c.args.parent c.in-Some.above c.args.side gap c.in-Some.is shown at in
     (c.insert_fixup.ensures.restored _
     (attached_red n c.in-Some.above c.args.side gap.front gap.back c.args.place c.set_node-in-Some.ensures.set c.set_node-in-Some.ensures.frame c.set_child.ensures.set c.set_child.ensures.frame x)
     refl

@@ -8,8 +8,8 @@ use Rattle.ic_rbtree.proofs.KeptHeads.{shown}
 use Rattle.ic_rbtree.proofs.PlacedMembers.{kept_placed}
 use Rattle.ic_rbtree.proofs.tree.RBTree.insert_keyed_by.Goals as goal
 
-pub hole_for-parent-requires-clause-placed : goal.hole_for-parent-requires-clause-placed
-hole_for-parent-requires-clause-placed g c =
+pub insert_pos_for-parent-requires-clause-placed : goal.insert_pos_for-parent-requires-clause-placed
+insert_pos_for-parent-requires-clause-placed g c =
     let alike = g.met.L.RBTreeOps.linked_alike in
     let kept = g.E.TreeHead.kept c.args.self.now.head in
     let r = c.requires.shown in
@@ -24,7 +24,7 @@ attach-requires g c =
     let kept = g.E.TreeHead.kept c.args.self.now.head in
     let r = c.requires.shown in
     let l = g.met.L.LinkOps.does_replay _ _ _ c.if-not-acquire_link.ensures.acquired in
-    let x = c.hole_for-parent.ensures.hole r.0 (still_kept n g.L.LinkOps.linked alike l.was l.is c.acquire_link.ensures.frame kept r.0 r.1) in
+    let x = c.insert_pos_for-parent.ensures.insert_pos r.0 (still_kept n g.L.LinkOps.linked alike l.was l.is c.acquire_link.ensures.frame kept r.0 r.1) in
     fits_safe n g.L.LinkOps.linked alike l.was l.is c.acquire_link.ensures.frame (shown kept r.1) x
 
 pub returns-clause-inserted : goal.returns-clause-inserted
@@ -37,7 +37,7 @@ returns-clause-inserted g c s h =
     let before = g.L.LinkOps.table c.args.links.now in
     let after = g.L.LinkOps.table c.attach.new.nodes in
     let head = c.attach.new.self in
-    let x = c.hole_for-parent.ensures.hole s (still_kept n g.L.LinkOps.linked alike l.was l.is c.acquire_link.ensures.frame (g.E.TreeHead.kept c.args.self.now.head) s h) in
+    let x = c.insert_pos_for-parent.ensures.insert_pos s (still_kept n g.L.LinkOps.linked alike l.was l.is c.acquire_link.ensures.frame (g.E.TreeHead.kept c.args.self.now.head) s h) in
     subst (λ (p : Place). InsertsInOrder Represents (compared order (g.L.Values.values c.args.links.now)) before after head s p) c.place-place.ensures
     (subst (λ (o : Objects g.row.A-Value.Denot). InsertsInOrder Represents (compared order o) before after head s c.place-place.result)
     (g.met.L.LinkValues.values_stay _ _ c.acquire_link.ensures.frame.extent)
@@ -52,6 +52,6 @@ pub returns-clause-looks : goal.returns-clause-looks
 returns-clause-looks g c s h =
     let l = g.met.L.LinkOps.does_replay _ _ _ c.if-not-acquire_link.ensures.acquired in
     let kept = g.E.TreeHead.kept c.args.self.now.head in
-    subst (λ (o : Objects g.row.A-Value.Denot). InsertLooks g.P.Probe.order g.P.Probe.count kept o c.args.probe.now c.hole_for-parent.new.probe s)
+    subst (λ (o : Objects g.row.A-Value.Denot). InsertLooks g.P.Probe.order g.P.Probe.count kept o c.args.probe.now c.insert_pos_for-parent.new.probe s)
     (g.met.L.LinkValues.values_stay _ _ c.acquire_link.ensures.frame.extent)
-    (c.hole_for-parent.ensures.looks s (still_kept g.L.RBTreeOps.node g.L.LinkOps.linked g.met.L.RBTreeOps.linked_alike l.was l.is c.acquire_link.ensures.frame kept s h))
+    (c.insert_pos_for-parent.ensures.looks s (still_kept g.L.RBTreeOps.node g.L.LinkOps.linked g.met.L.RBTreeOps.linked_alike l.was l.is c.acquire_link.ensures.frame kept s h))

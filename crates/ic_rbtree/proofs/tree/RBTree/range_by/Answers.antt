@@ -13,7 +13,7 @@ use Rattle.ic_rbtree.proofs.Sending.{lower_same, upper_same}
 use Rattle.ic_rbtree.proofs.Walking.{none_between}
 use Rattle.ic_rbtree.proofs.tree.RBTree.range_by.Goals as goal
 
--- all members are placed, so those beside a gap are
+-- all members of the tree are placed, so the members beside a gap of the tree are placed
 beside : (g : Over) (c : goal.After-get-high g) (f : Place → Bool) → ArePlaced (g.O.Values.values c.args.objects.now) (join (gap_in f (placed_root (g.E.TreeHead.kept c.args.self.now.head) c.requires.placed).shown.tree))
 beside g c f = let r = placed_root (g.E.TreeHead.kept c.args.self.now.head) c.requires.placed in subst (ArePlaced (g.O.Values.values c.args.objects.now)) (sym (gap_join f r.shown.tree ∙ r.shown.held.order)) r.placed
 

@@ -7,22 +7,22 @@ use Rattle.ic_rbtree.proofs.KeptHeads.{shown, printed, member_root, splits_kept}
 use Rattle.ic_rbtree.proofs.Removing.{represented_of}
 use Rattle.ic_rbtree.proofs.tree.RBTree.split_off.Goals as goal
 
-pub hole_beside-parent-requires : goal.hole_beside-parent-requires
-hole_beside-parent-requires g c =
+pub insert_pos_beside-parent-requires : goal.insert_pos_beside-parent-requires
+insert_pos_beside-parent-requires g c =
     record { stands = rw c.root.ensures (stands_on (member_root (g.E.TreeHead.kept c.args.self.now.head) c.requires.member) (ap (λ p. Some p) c.place-place.ensures)) }
 
 pub cut_at-front-requires : goal.cut_at-front-requires
 cut_at-front-requires g c =
     let m = member_root (g.E.TreeHead.kept c.args.self.now.head) c.requires.member in
     let gap : Cut = record { front = m.front; back = c.args.object.now ∷ m.back } in
-    (_, _, gap, [], represented_of g.L.RBTreeOps.node m.shown, c.hole_beside-parent.ensures gap (rw c.root.ensures m.shown) (ap (λ p. Some p) c.place-place.ensures))
+    (_, _, gap, [], represented_of g.L.RBTreeOps.node m.shown, c.insert_pos_beside-parent.ensures gap (rw c.root.ensures m.shown) (ap (λ p. Some p) c.place-place.ensures))
 
 pub split-rest-requires : goal.split-rest-requires
 split-rest-requires g c =
     let n = g.L.RBTreeOps.node in
     let m = member_root (g.E.TreeHead.kept c.args.self.now.head) c.requires.member in
     let gap : Cut = record { front = m.front; back = c.args.object.now ∷ m.back } in
-    record { shown = (m.front, (splits n m.shown (c.cut_at-front.ensures.cut _ _ gap [] (represented_of n m.shown) (c.hole_beside-parent.ensures gap (rw c.root.ensures m.shown) (ap (λ p. Some p) c.place-place.ensures)))).keeps) }
+    record { shown = (m.front, (splits n m.shown (c.cut_at-front.ensures.cut _ _ gap [] (represented_of n m.shown) (c.insert_pos_beside-parent.ensures gap (rw c.root.ensures m.shown) (ap (λ p. Some p) c.place-place.ensures)))).keeps) }
 
 pub returns-clause-split : goal.returns-clause-split
 returns-clause-split g c front back h =
@@ -31,7 +31,7 @@ returns-clause-split g c front back h =
     let k = kept c.args.self.now.head in
     let x = shown k h in
     let gap : Cut = record { front = front; back = c.args.object.now ∷ back } in
-    let s = splits n x (c.cut_at-front.ensures.cut _ _ gap [] (represented_of n x) (c.hole_beside-parent.ensures gap (rw c.root.ensures x) (ap (λ p. Some p) c.place-place.ensures))) in
+    let s = splits n x (c.cut_at-front.ensures.cut _ _ gap [] (represented_of n x) (c.insert_pos_beside-parent.ensures gap (rw c.root.ensures x) (ap (λ p. Some p) c.place-place.ensures))) in
     let place : c.args.object.now ≡ c.place-place.result = sym c.place-place.ensures in
     let t = c.split-rest.ensures.ends front back s.keeps (subst (λ (z : Place). TellsEnds k (front ++ z ∷ back)) place (printed n (g.L.LinkOps.table c.args.links.now) k (front ++ c.args.object.now ∷ back) h)) in
     splits_kept kept c.split-rest.new.self c.split-rest.result

@@ -37,7 +37,7 @@ unlink-requires g c = record {
 pub returns-clause-answer : goal.returns-clause-answer
 returns-clause-answer g c = (c.new.ensures, tested_other c.args.self.now.at c.args.self.now.head (sym c.eq.ensures ∙ c.if-eq.false))
 
--- the ring, read from the member, what is left of it, and where the cursor is then
+-- after the removal, the ring has the members before the removed member and the members after it
 pub returns-clause-removed : goal.returns-clause-removed
 returns-clause-removed g c gap shown is =
     let head = c.args.self.now.head in

@@ -6,7 +6,7 @@ use Rattle.ic_ring.proofs.RingWalks.{StepsBack, steps_back, none_left, gives_bac
 use Rattle.ic_ring.proofs.iter.IterDoubleEndedIterator.next_back.Goals as goal
 use Rattle.ic_ring.proofs.iter.IterDoubleEndedIterator.next_back.Given.{Over}
 
--- this call is a step of the walk
+-- a call of `next_back` is a step of the walk from the back
 step : (g : Over) (c : goal.After-place-1 g)
     → StepsBack g.L.LinkedListOps.neighbors g.L.LinkOps.table g.O.Values.values c.args.self.now (record c.args.self.now { end = c.prev_of-place.result }) c.prev_of-place.result
 step g c = steps_back _ _ _ c.args.self.now c.prev_of-place.result c.requires (tested_other _ _ (sym c.eq.ensures ∙ c.if-eq.false)) c.prev_of-place.ensures

@@ -8,7 +8,7 @@ use Rattle.ic_ring.proofs.iter.IterIterator.next.Given.{Over}
 pub next_of-self-requires : goal.next_of-self-requires
 next_of-self-requires g c = front_stands _ _ _ c.args.self.now c.requires
 
--- this call is a step of the walk
+-- a call of `next` is a step of the walk
 step : (g : Over) (c : goal.After-self-1 g)
     → Steps g.L.LinkedListOps.neighbors g.L.LinkOps.table g.O.Values.values c.args.self.now (record c.args.self.now { front = c.next_of-self.result }) c.args.self.now.front
 step g c = steps_on _ _ _ c.args.self.now c.next_of-self.result c.requires (tested_other _ _ (sym c.eq.ensures ∙ c.if-eq.false)) c.next_of-self.ensures

@@ -44,7 +44,7 @@ returns-clause-split g c front back t shown is_at other =
     (cut.0, rotated t (k ∷ back) (rw (append_assoc t (k ∷ []) back) at cut.1))
 
 module _ (g : Over) (c : goal.After-exchange-2 g) where
-  -- nothing is changed but entries of both rings
+  -- no entries are changed except those of this ring and of the ring that receives the members
   kept : (front back t : List Place) → Represents g.L.LinkedListOps.neighbors (g.L.LinkOps.table c.args.links.now) c.args.self.now (front ++ back)
       → Some c.args.at ≡ last (c.args.self.now ∷ front) → Represents g.L.LinkedListOps.neighbors (g.L.LinkOps.table c.args.links.now) c.args.rest.now t
       → ChangesOnlyIn (g.L.LinkOps.table c.args.links.now) (g.L.LinkOps.table c.exchange-2.new.links) ((c.args.self.now ∷ (front ++ back)) ++ (c.args.rest.now ∷ t))

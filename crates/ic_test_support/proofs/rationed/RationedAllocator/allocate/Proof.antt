@@ -1,4 +1,5 @@
--- The count is asked first: where it refuses, the answer is an error, and otherwise the answer of the allocator below.
+-- The call `allocate` counts the request first. If this request is to be refused, the result is an error, and otherwise the result is the one of the
+-- allocator below.
 use Rattle.std.proofs.Common.{◌≡◌, ℕ, ◌+◌, ◌^◌, ◌<◌, true, false, List, [], ◌∷◌, Ok, Err, refl, w64, Bor}
 use Rattle.std.proofs.alloc.Calls.{Al, α, seen, Answer, answer_val, Answer-typed, Answer-Ok, Answer-err, takes_key, Takes, at_takes, Answered, Takes-goes, Takes-gives, answers}
 use Rattle.std.proofs.VecSteps.Shapes.{after}
@@ -81,7 +82,7 @@ module _ (Z : Al) {M : Type 1} {𝓤 : Ura M} (𝓛 : Logic 𝓤) (at_mem : Memo
     abbrev Others : Item 𝓤
     Others = ‵ (flft κ' q') ⊛ ‵ ftrue
 
-    -- an error is answered with nothing but the tokens
+    -- if the result is an error, then the tokens are all that the call has to give back
     gives_up : Sq 𝓛 (‵ (flft κ q) ∷ Others ∷ []) (prop (Post (answer_val false 0 0)))
     gives_up =
         nothing ! $ suffices ! _ (ends_at 𝓛 (ended Z) (stayed Z) said y (answer_val false 0 0) (Err (record {})) (tt, (tt, (tt, tt))) (tt, (tt, (tt, tt)))) $
@@ -99,14 +100,14 @@ module _ (Z : Al) {M : Type 1} {𝓤 : Ura M} (𝓛 : Logic 𝓤) (at_mem : Memo
         move ! (1 ∷ []) $ split ! $ heard ! (κ' ⊑ Z.row.lives) (λ outlives. heard ! Sizes (λ sizes.
         split ! $ split ! $ move ! (2 ∷ []) $ fsplit ! $ fsplit ! $ move ! (1 ∷ []) $ unhide ! $ fsplit ! $ fsplit ! $
         use1 𝓛 (‵ (seen Z κ at handle)) (id⊢ 𝓤 _) $ move ! (1 ∷ []) $ fsplit ! $ keep ! (0 ∷ 6 ∷ 2 ∷ 7 ∷ []) $
-        -- [the count; its token; the handle; the other tokens]
+        -- at this step the proof has, in this order, the count, its token, the handle of the allocator below, and the other tokens
         enter ! 𝓣.C 𝓣.Λ (body Z) vs _ $ alloc_all ! (λ l. pass_all ! refl ((tt, tt), ((tt, record { fits = n_fits }), ((tt, record { fits = a_fits }), tt))) $
         sets ! (addr ! (through ! refl (fld ! refl (stop !)))) refl (tt, tt) $
         use2 𝓛 (raw ((Ask 𝓛 at_mem run).pre (at_ask 𝓛 at_mem run κ q beside self.now.count n))) (Ask-goes 𝓛 at_mem run κ q beside self.now.count n n_fits) $
         calls_at ! (fm_of 𝓤 H 𝓛.laws 𝓣) (Ask 𝓛 at_mem run) asked (at_ask 𝓛 at_mem run κ q beside self.now.count n) (and_then ! (get ! refl) (and_then ! (get ! refl) (no_more !))) (λ v.
         use1 𝓛 (later (some (λ refuses. given (v ≡ vbool refuses) (‵ (flft κ q))))) (Ask-gives 𝓛 at_mem run κ q beside self.now.count n v) $ await ! tt $ pick ! (λ refuses. learn ! (λ is.
         lands_as ! is refl (tt, tt) $
-        -- [the token; the handle; the other tokens]
+        -- at this step the proof has, in this order, the token, the handle of the allocator below, and the other tokens
         first ! $ branches ! (get ! refl)
         (λ _. sets ! (agg ! (no_more !)) refl (tt, tt) $ sets ! (agg ! (and_then ! (lit ! tt) (and_then ! (get ! refl) (no_more !)))) refl (Answer-typed false 0 0) $
         returns_within ! Post refl (look_at ! 0 refl) $ free_all ! refl $ keep ! (0 ∷ 2 ∷ []) $ gives_up)

@@ -1,4 +1,4 @@
--- The block goes back to the allocator below, which gave it out. The count is not asked.
+-- The call `deallocate` gives the block back to the allocator below, from which the block came. The call neither reads nor changes the count.
 use Rattle.std.proofs.Common.{◌≡◌, ℕ, ◌+◌, ◌^◌, ◌<◌, List, [], ◌∷◌, refl, w64, Bor}
 use Rattle.std.proofs.alloc.Calls.{Al, α, seen, token, gives_key, Gives, at_gives, Gives-goes, Gives-Gives}
 use Rattle.std.proofs.raw_atomic.Walks.{proved}
@@ -77,7 +77,7 @@ module _ (Z : Al) {M : Type 1} {𝓤 : Ura M} (𝓛 : Logic 𝓤) (at_mem : Memo
     abbrev Sizes : Type 0
     Sizes = (capped (size τ) ≡ n) × (capped (align τ) ≡ a)
 
-    -- no block lies at null
+    -- the pointer is not null, because there is no block at null
     walk : n < 2 ^ 64 → a < 2 ^ 64 → (x : Ptr) → ent 𝓤 ((walk_of 𝓛 (ended Z) (stayed Z) said).pre (y x)) (WpFn 𝓤 H 𝓣.C 𝓣.Λ (body Z) (vs x) (Post x))
     walk n_fits a_fits null_ptr =
         qed 𝓛 (Given null_ptr ∷ (raw (fact 𝓤 (κ' ⊑ Z.row.lives)) ⊛ raw (fact 𝓤 Sizes) ⊛ ‵ (fsep ffalse (token Z self.now.alloc τ null_ptr))) ∷ []) ∵
@@ -89,10 +89,11 @@ module _ (Z : Al) {M : Type 1} {𝓤 : Ura M} (𝓛 : Logic 𝓤) (at_mem : Memo
         let z : (Gives Z 𝓛 at_mem run).Ghost = at_gives Z 𝓛 at_mem run κ q at handle b o n a τ in
         qed 𝓛 (Given x ∷ (raw (fact 𝓤 (κ' ⊑ Z.row.lives)) ⊛ raw (fact 𝓤 Sizes) ⊛ ‵ (fsep (froom τ b o) (token Z handle τ x))) ∷ []) ∵
         move ! (1 ∷ []) $ split3 ! $ heard ! (κ' ⊑ Z.row.lives) (λ outlives. heard ! Sizes (λ sizes. fsplit ! $
-        -- [the room; the right to free it; what was given]
+        -- at this step the proof has, in this order, the room of the block, the right to free it, and the arguments of the call
         move ! (2 ∷ []) $ split ! $ split ! $ move ! (2 ∷ []) $ fsplit ! $ fsplit ! $ move ! (1 ∷ []) $ unhide ! $ fsplit ! $ fsplit ! $
         use1 𝓛 (‵ (seen Z κ at handle)) (id⊢ 𝓤 _) $ keep ! (7 ∷ 8 ∷ 0 ∷ 5 ∷ 6 ∷ []) $
-        -- [the room; the right to free it; the handle; its token; the other tokens]
+        -- at this step the proof has, in this order, the room of the block, the right to free it, the handle of the allocator below, its token, and the
+        -- other tokens
         enter ! 𝓣.C 𝓣.Λ (body Z) (vs x) _ $ alloc_all ! (λ l. pass_all ! refl ((tt, tt), ((tt, tt), ((tt, record { fits = n_fits }), ((tt, record { fits = a_fits }), tt)))) $
         sets ! (addr ! (through ! refl (fld ! refl (stop !)))) refl (tt, tt) $
         move ! (2 ∷ 3 ∷ []) $ join ! $ move ! (2 ∷ 0 ∷ []) $ join ! $ move ! (1 ∷ 0 ∷ []) $ join ! $

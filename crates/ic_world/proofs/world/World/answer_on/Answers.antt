@@ -6,8 +6,8 @@ returns-in-Put g c = rw (c.in-Put.is, c.done.ensures) c.call.ensures
 pub returns-in-Seek : goal.returns-in-Seek
 returns-in-Seek g c = rw (c.in-Seek.is, c.done-in-Seek.ensures) c.call-in-Seek.ensures
 
-pub returns-in-Whole : goal.returns-in-Whole
-returns-in-Whole g c = rw (c.in-Whole.is, c.done-in-Whole.ensures) c.call-in-Whole.ensures
+pub returns-in-BulkEdit : goal.returns-in-BulkEdit
+returns-in-BulkEdit g c = rw (c.in-BulkEdit.is, c.done-in-BulkEdit.ensures) c.call-in-BulkEdit.ensures
 
 pub returns-in-Take : goal.returns-in-Take
 returns-in-Take g c = rw (c.in-Take.is, c.object.ensures) c.call-in-Take.ensures

@@ -8,7 +8,7 @@ use Rattle.ic_world.specs.Replies.{reply_of}
 use Rattle.ic_world.specs.Step.{StepOn}
 use Rattle.ic_world.specs.Tables.{table_of, at, family_of}
 use Rattle.ic_world.proofs.Readings.{found, missing, is_there, some_read, none_there, one_read, with_is}
-use Rattle.ic_world.proofs.OneCall.{room_for, placed_by, kept_by, step_by, step_unplaced}
+use Rattle.ic_world.proofs.CollectionCall.{room_for, placed_by, kept_by, step_by, step_unplaced}
 use Rattle.ic_world.proofs.world.World.call.Goals as goal
 
 pub returns-in_default : goal.returns-in_default
@@ -21,7 +21,7 @@ returns-then-not-is_placed g c =
     let cs = c.self.inside.collections in
     let n = c.args.collection in
     let k = some_read (at cs n) (sym c.in-Some.is ∙ c.field_of.ensures) in
-    step_unplaced g.A.Key.Ord.cmp g.A.KeyAdapter.key_of c.self.inside.adapter c.self.inside.objects (map table_of c.self.inside.fields.items) cs n k.0 (g.C.OneCall.call c.args.call.now) c.self.view_is k.1 (sym c.is_placed.ensures ∙ c.if-not-is_placed.true)
+    step_unplaced g.A.Key.Ord.cmp g.A.KeyAdapter.key_of c.self.inside.adapter c.self.inside.objects (map table_of c.self.inside.fields.items) cs n k.0 (g.C.CollectionCall.call c.args.call.now) c.self.view_is k.1 (sym c.is_placed.ensures ∙ c.if-not-is_placed.true)
 
 pub index_mut-requires : goal.index_mut-requires
 index_mut-requires g c =
@@ -43,7 +43,7 @@ run-requires g c =
     let is = one_read (at cs n) c.in-Some.field c.members_mut-members.result.now (sym c.in-Some.is ∙ c.field_of.ensures) c.members_mut-members.ensures.value in
     let at_k = found fields c.self.invariant is c.index_mut.ensures.value in
     let placed = sym c.is_placed.ensures ∙ c.if-not-is_placed.false in
-    record { held = at_k.held; covered = room_for c.self.invariant at_k (names (g.C.OneCall.call c.args.call.now)) placed; named = placed; placed = placed_by c.self.invariant at_k }
+    record { held = at_k.held; covered = room_for c.self.invariant at_k (names (g.C.CollectionCall.call c.args.call.now)) placed; named = placed; placed = placed_by c.self.invariant at_k }
 
 pub invariant_of-self : goal.invariant_of-self
 invariant_of-self g c =
@@ -54,7 +54,7 @@ invariant_of-self g c =
     let at_k = found fields c.self.invariant is c.index_mut.ensures.value in
     let placed = sym c.is_placed.ensures ∙ c.if-not-is_placed.false in
     subst (IsKept c.self.inside.adapter c.self.inside.objects c.self.inside.room _) (sym (with_is cs n _ is c.run.new.members))
-    (kept_by c.self.invariant at_k g.A.Key.Ord.cmp g.A.KeyAdapter.key_of (g.C.OneCall.call c.args.call.now) placed g.C.OneCall.reply c.run.result c.run.new.links c.run.new.members c.run.ensures)
+    (kept_by c.self.invariant at_k g.A.Key.Ord.cmp g.A.KeyAdapter.key_of (g.C.CollectionCall.call c.args.call.now) placed g.C.CollectionCall.reply c.run.result c.run.new.links c.run.new.members c.run.ensures)
 
 pub returns : goal.returns
 returns g c =
@@ -63,8 +63,8 @@ returns g c =
     let n = c.args.collection in
     let is = one_read (at cs n) c.in-Some.field c.members_mut-members.result.now (sym c.in-Some.is ∙ c.field_of.ensures) c.members_mut-members.ensures.value in
     let at_k = found fields c.self.invariant is c.index_mut.ensures.value in
-    let call = g.C.OneCall.call c.args.call.now in
+    let call = g.C.CollectionCall.call c.args.call.now in
     let placed = sym c.is_placed.ensures ∙ c.if-not-is_placed.false in
     let shown = family_of c.self.inside.adapter c.self.inside.objects (map table_of (set fields c.in-Some.field (record c.index_mut.result.now { links = c.run.new.links }))) in
-    subst (λ x. StepOn g.A.Key.Ord.cmp g.A.KeyAdapter.key_of c.args.self.now n call (reply_of g.C.OneCall.reply c.run.result) (shown x)) (sym (with_is cs n _ is c.run.new.members))
-    (step_by c.self.invariant at_k g.A.Key.Ord.cmp g.A.KeyAdapter.key_of call placed g.C.OneCall.reply c.run.result c.run.new.links c.run.new.members c.run.ensures c.self.view_is)
+    subst (λ x. StepOn g.A.Key.Ord.cmp g.A.KeyAdapter.key_of c.args.self.now n call (reply_of g.C.CollectionCall.reply c.run.result) (shown x)) (sym (with_is cs n _ is c.run.new.members))
+    (step_by c.self.invariant at_k g.A.Key.Ord.cmp g.A.KeyAdapter.key_of call placed g.C.CollectionCall.reply c.run.result c.run.new.links c.run.new.members c.run.ensures c.self.view_is)

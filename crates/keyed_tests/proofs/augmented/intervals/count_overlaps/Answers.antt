@@ -3,7 +3,7 @@ use Rattle.std.specs.Ordering.{nat_cmp}
 use Rattle.ic_link_ops.specs.Prelude.{Place, ArePlaced}
 use Rattle.ic_link_ops.specs.RedBlackTree.{Represents}
 use Rattle.ic_rbtree.specs.Borders.{IsSorted}
-use Rattle.ic_augmented.specs.Consistent.{RepresentsSummed}
+use Rattle.ic_augmented.specs.Consistent.{RepresentsAugmented}
 use Rattle.ic_augmented.specs.Greatest.{greatest}
 use Rattle.ic_augmented.specs.Intervals.{start_in}
 use Rattle.keyed_tests.proofs.Intervals.{in_order_at, none_counted, found, in_front, parted, one_more, few_counted, all_counted}
@@ -47,7 +47,7 @@ loop-at-preserved g c = record {
       let starts = g.L.Values.values c.args.summed.now.links in
       one_more _ s k c.in-Some.is
       (c.next_overlap-at.ensures _ (in_front _ s k c.in-Some.is) (found _ s k c.in-Some.is).back
-      (subst (RepresentsSummed g.L.RBTreeOps.node (greatest c.args.summed.now.summaries) (g.L.LinkOps.table c.args.summed.now.links) _) parts shown)
+      (subst (RepresentsAugmented g.L.RBTreeOps.node (greatest c.args.summed.now.summaries) (g.L.LinkOps.table c.args.summed.now.links) _) parts shown)
       (subst (λ (t : List Place). IsSorted nat_cmp (map (start_in starts) t)) parts (in_order_at shown.shows c.requires.intervals.sorted).1));
 }
 

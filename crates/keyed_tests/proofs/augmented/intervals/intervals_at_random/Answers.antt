@@ -1,7 +1,7 @@
 use Rattle.std.proofs.Common.{◌≡◌, length, rules}
 use Rattle.ic_rbtree.specs.KeyedTrees.{keys_of}
 use Rattle.ic_rbtree.proofs.SortedKeys.{new_is_sorted}
-use Rattle.ic_augmented.specs.Summed.{links_of}
+use Rattle.ic_augmented.specs.Augmented.{links_of}
 use Rattle.keyed_tests.proofs.Intervals.{own}
 use Rattle.keyed_tests.proofs.augmented.intervals.intervals_at_random.Goals as goal
 

@@ -1,5 +1,5 @@
 use Rattle.std.proofs.Common.{◌≡◌}
-use Rattle.ic_augmented.specs.Summed.{links_of}
+use Rattle.ic_augmented.specs.Augmented.{links_of}
 use Rattle.keyed_tests.specs.Ready.{AreIntervals}
 use Rattle.keyed_tests.proofs.augmented.intervals.play.Given as goal
 

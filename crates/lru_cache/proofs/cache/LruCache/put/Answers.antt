@@ -6,7 +6,7 @@ use Rattle.lru_cache.specs.Cache.{Cache, cache_of, entry_of, pair_of}
 use Rattle.lru_cache.proofs.Leaving.{few_found, inserted_found, inserted_full, left_more, inserted_more, same_cache}
 use Rattle.lru_cache.proofs.cache.LruCache.put.Goals as goal
 
--- one has its key
+-- The following proofs are for the case that an entry has the key of the inserted entry, and is replaced
 pub invariant_of-self : goal.invariant_of-self
 invariant_of-self g c =
     let e = c.in-Ok.ensures.replaced in
@@ -18,7 +18,7 @@ returns-in-Ok-clause-inserted g c =
     let cache : Cache g.row.V.Denot = cache_of c.self.inside.capacity c.self.inside.entries in
     rw (← c.self.view_is) (same_cache c.self.inside.capacity c.self.inside.entries e.1 (inserted_found (entry_of c.args.key c.args.value) cache c.in-Ok.gone e.0 c.self.invariant))
 
--- the oldest of a full one leaves
+-- The following proofs are for the case that the cache is full, and the oldest entry leaves
 pub replace_last-requires : goal.replace_last-requires
 replace_last-requires g c = let a = c.in-Err.ensures.absent in record { new = rw (a.0, a.2) a.1 }
 
@@ -31,7 +31,7 @@ returns-in-Ok-replace_last-clause-inserted g c =
     rw (← c.self.view_is)
     (same_cache c.self.inside.capacity c.self.inside.entries r.2 (inserted_full (entry_of c.args.key c.args.value) cache a.1 r.0 c.in-Ok-replace_last.oldest r.1 full))
 
--- none leaves
+-- The following proofs are for the case that no entry leaves the cache
 pub insert_new-requires : goal.insert_new-requires
 insert_new-requires g c = let a = c.in-Err.ensures.absent in record { new = rw (a.0, a.2) a.1 }
 

@@ -8,12 +8,12 @@ use Rattle.phone_book.specs.declared.entry.Entry.{Entry}
 use Rattle.phone_book.specs.Book.{number_of, person_of}
 use Rattle.phone_book.proofs.phone_book.PhoneBook.insert.Goals as goal
 
--- another entry has its number
+-- The following proof is for the case that another entry has the number
 pub returns-then-is_some-clause-refused : goal.returns-then-is_some-clause-refused
 returns-then-is_some-clause-refused g c =
     let other = found_some number_of c.args.self.now c.args.entry.number c.with_number.result (sym c.is_some.ensures ∙ c.if-is_some.true) c.with_number.ensures in ((refl, other.0, other.1), refl)
 
--- there is no place or no memory for it
+-- The following proofs are for the case that there is no place or no memory for the entry
 pub invariant_of-self : goal.invariant_of-self
 invariant_of-self g c =
     let k = c.self.invariant in
@@ -30,7 +30,7 @@ returns-in-Err-clause-refused g c =
     let fresh = found_none number_of c.args.self.now c.args.entry.number c.with_number.result (sym c.is_some.ensures ∙ c.if-is_some.false) c.with_number.ensures in
     ((e.refused.0, fresh, rw (← c.self.view_is) (lacks_exactly c.in-Err.refused _ e.full e.refused.0)), rw (← c.self.view_is) e.refused.1)
 
--- it is placed, and both trees lack it alone
+-- The following proofs are for the case that the entry is placed. It is then the only entry that is not in the two trees yet
 pub insert-requires-clause-lacks : goal.insert-requires-clause-lacks
 insert-requires-clause-lacks g c = let e = c.in-Ok.ensures in rw c.place-2.ensures (all_lacks number_of _ c.self.invariant.numbered c.place.new.self.links.0 e.keeps.0 e.placed)
 

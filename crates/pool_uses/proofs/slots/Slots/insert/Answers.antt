@@ -5,7 +5,7 @@ use Rattle.pool_uses.proofs.slots.Slots.insert.Goals as goal
 pub pop_front-requires : goal.pop_front-requires
 pop_front-requires g c = record { shown = (_, shown c.self.invariant) }
 
--- a vacant slot is filled
+-- The following proofs are for the case that a vacant slot gets the value
 pub overflow_add-self : goal.overflow_add-self
 overflow_add-self g c = omega (arith, few c.self.invariant.counted)
 
@@ -24,7 +24,7 @@ returns-in-Some-clause-reused g c can =
     let pop = c.in-Some.ensures in
     rw (c.place.ensures, ← c.self.view_is) (filled_usable c.self.invariant c.pop_front.new.links c.pop_front.new.self c.args.value pop.answer pop.removed pop.released pop.frame c.fill-generation.ensures.filled)
 
--- there is none, and no place or no memory
+-- The following proofs are for the case that no slot is vacant, and that there is no place or no memory for a new slot
 pub invariant_of-self-in-Err-NoPlaceLeft : goal.invariant_of-self-in-Err-NoPlaceLeft
 invariant_of-self-in-Err-NoPlaceLeft g c =
     let e = rw c.in-Err-NoPlaceLeft.field-0-is at c.in-Err-NoPlaceLeft.ensures in
@@ -41,7 +41,7 @@ invariant_of-self-in-Err-OutOfMemory g c =
 pub returns-in-Err-OutOfMemory-clause-ready : goal.returns-in-Err-OutOfMemory-clause-ready
 returns-in-Err-OutOfMemory-clause-ready g c can = let k = c.self.invariant in ap is_some (c.in_default.ensures.answer _ (shown k)) ∙ first_of_vacant k (rw (← c.self.view_is) at can)
 
--- a new slot has a place
+-- The following proofs are for the case that a new slot was placed
 pub overflow_add-self-2 : goal.overflow_add-self-2
 overflow_add-self-2 g c = omega (arith, few c.self.invariant.counted)
 
@@ -53,7 +53,7 @@ invariant_of-self-2 g c =
 pub returns-clause-inserted : goal.returns-clause-inserted
 returns-clause-inserted g c = rw (c.place-3.ensures, ← c.self.view_is) (inserts_new c.in-Ok.slot c.self.inside.len c.in-Ok.ensures.placed)
 
--- and no slot was vacant
+-- if a new slot was placed, then no slot was vacant, so that the condition of the clause `reused` does not hold
 pub returns-clause-reused : goal.returns-clause-reused
 returns-clause-reused g c can =
     let k = c.self.invariant in

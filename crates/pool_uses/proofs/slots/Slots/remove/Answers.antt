@@ -5,7 +5,7 @@ use Rattle.pool_uses.proofs.slots.Slots.remove.Goals as goal
 pub overflow_sub-self : goal.overflow_sub-self
 overflow_sub-self g c = emptied_some c.self.invariant c.args.handle (rw (← c.self.view_is) at c.in_ok-get.ensures) (rw c.new-slot.ensures at c.empty-value.ensures.emptied)
 
--- the slot is used up
+-- The following proofs are for the case that the slot is used up: its generations have ended, and it is not used again
 pub invariant_of-self : goal.invariant_of-self
 invariant_of-self g c =
     rw c.empty-value.ensures.links
@@ -17,7 +17,7 @@ returns-then-handle-eq18446744073709551615 g c =
     let empties = rw c.new-slot.ensures at c.empty-value.ensures.emptied in
     rw (← c.self.view_is) (record { value = emptied_value c.self.invariant c.args.handle is empties; removed = emptied_handle c.self.invariant c.args.handle is empties; unchanged = tt })
 
--- it is vacant, and goes to the front of the list
+-- The following proofs are for the case that the slot is vacant and is inserted at the front of the list
 pub push_front-requires-clause-shown : goal.push_front-requires-clause-shown
 push_front-requires-clause-shown g c = rw c.empty-value.ensures.links (members c.self.invariant, shown c.self.invariant)
 

@@ -5,7 +5,7 @@ use Rattle.scheduler.specs.Refusals.{refusal_number}
 use Rattle.scheduler.proofs.Keeping.{adds, kept_added, kept_grown, ready, same_grown, some_left}
 use Rattle.scheduler.proofs.scheduler.Scheduler.add.Goals as goal
 
--- there is no place left, or no memory
+-- The following proofs are for the case that a task is refused: all places are in use, or there is not enough memory
 pub invariant_of-self : goal.invariant_of-self
 invariant_of-self g c =
     let e = c.in-Err-NoPlaceLeft.ensures in
@@ -30,7 +30,7 @@ returns-in-Err-OutOfMemory-clause-refused g c =
     let full = rw c.in-Err-OutOfMemory.field-0-is at e.full in
     rw (← c.self.view_is, back.1) (ap (λ task. task.value) back.0, same_grown c.self.invariant c.place.new.self.links.1 c.place.new.self.links.0 e.keeps.1 e.keeps.0, ap refusal_number (lacks_exactly _ _ full back.0))
 
--- the task is placed
+-- The following proofs are for the case that the task was placed, so that it is then scheduled
 pub schedule-requires-clause-queue : goal.schedule-requires-clause-queue
 schedule-requires-clause-queue g c = let e = c.in-Ok.ensures in ready c.self.invariant c.place.new.self.links.1 c.place.new.self.links.0 e.keeps.1 e.keeps.0 e.placed
 

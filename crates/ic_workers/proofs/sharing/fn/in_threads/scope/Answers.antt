@@ -17,7 +17,7 @@ loop-party-init g c = record {
   count = omega (arith, c.new-threads.ensures.len);
 }
 
--- the party that is taken is ready
+-- the party that the loop takes is ready to claim the first places
 ready_one : (g : given.Over) (c : goal.After-of-in-loop-party g) → IsReady c.captures.claims.now c.in-Some.party
 ready_one g c =
     All-head (IsReady c.captures.claims.now) c.in-Some.party (into_iter_items c.next.new.self)
@@ -61,7 +61,7 @@ loop-party-preserved g c =
       count = omega (arith, was.count, step.1, c.in_ok-push.ensures.len);
     }
 
--- what has been brought back at a place keeps the promise of the thread there, which is of these claims and of the number
+-- the result of the thread at position k has what this thread guarantees, for these claims and for the number k + 1
 module _ (g : given.Over) (c : goal.In_ok-join_promised g) (k : ℕ) (d : Gathered g.row.A.Denot) (low : k < length c.in_ok-join_promised.field-0.items) where
   kept : HasGathered c.captures.claims.now (slice_index_or c.in_ok-join_promised.field-0.items k d) × g.G.Gate.Reported c.captures.gate.now (k + 1) (places_of c.captures.claims.now)
   kept =

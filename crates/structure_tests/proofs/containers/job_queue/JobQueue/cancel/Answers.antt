@@ -1,6 +1,6 @@
 use Rattle.std.proofs.Common.{sym, ap, ◌∙◌}
 use Rattle.ic_link_ops.proofs.SequenceLemmas.{some_same}
-use Rattle.ic_container.proofs.LaneLemmas.{laned_freed, laned_stands, lanes_freed}
+use Rattle.ic_container.proofs.ListArrayLemmas.{laned_freed, laned_stands, lanes_freed}
 use Rattle.structure_tests.specs.Jobs.{lane_of_job}
 use Rattle.structure_tests.proofs.containers.job_queue.JobQueue.cancel.Goals as goal
 

@@ -1,4 +1,4 @@
-use Rattle.ic_container.proofs.LaneLemmas.{laned_none, lanes_empty}
+use Rattle.ic_container.proofs.ListArrayLemmas.{laned_none, lanes_empty}
 use Rattle.structure_tests.specs.Jobs.{lane_of_job}
 use Rattle.structure_tests.proofs.containers.job_queue.JobQueue.new.Goals as goal
 

@@ -1,4 +1,4 @@
-use Rattle.ic_container.proofs.LaneLemmas.{first_is_taken, if_first_taken, laned_unchanged, none_first}
+use Rattle.ic_container.proofs.ListArrayLemmas.{first_is_taken, if_first_taken, laned_unchanged, none_first}
 use Rattle.structure_tests.specs.Jobs.{lane_of_job}
 use Rattle.structure_tests.proofs.containers.job_queue.JobQueue.pop.Goals as goal
 

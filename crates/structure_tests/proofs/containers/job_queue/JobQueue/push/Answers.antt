@@ -1,4 +1,4 @@
-use Rattle.ic_container.proofs.LaneLemmas.{laned_grown, laned_new, laned_off, lanes_grown, lanes_new}
+use Rattle.ic_container.proofs.ListArrayLemmas.{laned_grown, laned_new, laned_off, lanes_grown, lanes_new}
 use Rattle.structure_tests.specs.Jobs.{lane_of_job}
 use Rattle.structure_tests.proofs.containers.job_queue.JobQueue.push.Goals as goal
 

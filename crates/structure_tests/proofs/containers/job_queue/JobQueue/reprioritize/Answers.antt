@@ -1,7 +1,7 @@
 use Rattle.std.proofs.Common.{ap, sym}
-use Rattle.ic_container.specs.Lanes.{in_lane}
+use Rattle.ic_container.specs.ListArray.{in_lane}
 use Rattle.ic_container.specs.Rows.{owner_of, owner_or}
-use Rattle.ic_container.proofs.LaneLemmas.{laned_renewed, lanes_renewed}
+use Rattle.ic_container.proofs.ListArrayLemmas.{laned_renewed, lanes_renewed}
 use Rattle.structure_tests.specs.Jobs.{job_of, lane_of_job}
 use Rattle.structure_tests.proofs.containers.job_queue.JobQueue.reprioritize.Goals as goal
 

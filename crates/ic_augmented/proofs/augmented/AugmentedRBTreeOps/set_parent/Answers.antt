@@ -1,0 +1,14 @@
+use Rattle.std.proofs.Common.{refl, ap}
+use Rattle.ic_link_ops.specs.RedBlackTree.{Node}
+use Rattle.ic_augmented.specs.MarkLaws.{marks_still}
+use Rattle.ic_augmented.proofs.StepLemmas.{set_beside}
+use Rattle.ic_augmented.proofs.augmented.AugmentedRBTreeOps.set_parent.Goals as goal
+
+pub returns-clause-trace_stays : goal.returns-clause-trace_stays
+returns-clause-trace_stays g c = record {
+  links = c.set_parent.ensures.trace_stays;
+  right = set_beside g.L.RBTreeOps.node _ _ _ (ap (λ (x : Node). x.left) c.set_parent.ensures.set) (ap (λ (x : Node). x.right) c.set_parent.ensures.set) c.set_parent.ensures.frame;
+  marks = marks_still _;
+  covers = λ q h. h;
+  join = refl;
+}

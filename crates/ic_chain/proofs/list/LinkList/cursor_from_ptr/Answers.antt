@@ -1,0 +1,11 @@
+use Rattle.std.proofs.Common.{◌∙◌, ap, refl, Some}
+use Rattle.ic_chain.proofs.Standing.{stands_on_member}
+use Rattle.ic_chain.proofs.list.LinkList.cursor_from_ptr.Goals as goal
+
+pub returns-clause-position : goal.returns-clause-position
+returns-clause-position g c = rw c.new.ensures.position (c.of-at.ensures.on ∙ ap Some c.place.ensures)
+
+pub returns-clause-kept : goal.returns-clause-kept
+returns-clause-kept g c =
+    let m = c.requires.member in
+    rw (c.new.ensures.list, c.new.ensures.links, c.new.ensures.position) (stands_on_member m.front m.back _ m.shown (c.of-at.ensures.on ∙ ap Some c.place.ensures) (g.met.K.NamesNext.caches_nothing _ _) refl)

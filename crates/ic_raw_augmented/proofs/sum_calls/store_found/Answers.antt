@@ -1,0 +1,64 @@
+use Rattle.std.proofs.Common.{[], Option, Some, None, refl, sym, ap, ◌∙◌, subst}
+use Rattle.ic_link_ops.specs.Prelude.{Place, join}
+use Rattle.ic_link_ops.specs.declared.side.Side.TheVariants.{Right}
+use Rattle.ic_link_ops.proofs.SequenceLemmas.{some_same}
+use Rattle.ic_rbtree.proofs.Closed.{in_there, read_in}
+use Rattle.ic_raw.specs.Gaps.{IsNoneOrLinked}
+use Rattle.ic_raw.specs.Tree.{lent_table}
+use Rattle.ic_raw.specs.TreeShape.{IsSeen}
+use Rattle.ic_raw.specs.Words.{is_linked_three}
+use Rattle.ic_raw.proofs.Gaps.{never}
+use Rattle.ic_raw.proofs.Trees.{beside_stands, in_range, root_stands, seen_represents}
+use Rattle.ic_raw_augmented.specs.Find.{IsFirstBeyond}
+use Rattle.ic_raw_augmented.specs.Sums.{value_at}
+use Rattle.ic_raw_augmented.proofs.Viewed.{beyond_linked}
+use Rattle.ic_raw_augmented.proofs.sum_calls.store_found.Goals as goal
+
+pub returns-then-not-is_searchable-clause-found : goal.returns-then-not-is_searchable-clause-found
+returns-then-not-is_searchable-clause-found c cut enough at shown right =
+    let v = lent_table c.args.links.now in
+    absurd (never c.if-not-is_searchable.true (c.is_searchable.ensures.shown enough
+    (subst (λ (o : Option Place). IsNoneOrLinked is_linked_three v o) (sym c.place_of-from.ensures) (beside_stands Right cut shown at))
+    (subst (λ (o : Option Place). IsNoneOrLinked is_linked_three v o) (sym c.place_in-root.ensures) (root_stands shown))))
+
+pub returns-in_default-clause-found : goal.returns-in_default-clause-found
+returns-in_default-clause-found c cut enough at shown right =
+    let v = lent_table c.args.links.now in
+    let f = c.find.ensures.found cut (subst (λ (o : Option Place). IsSeen v o (join cut)) (sym c.place_in-root.ensures) (seen_represents v (in_range c.args.links.now) shown)) (c.place_of-from.ensures ∙ at) right in
+    absurd (c.in_default.not-Some f.0 f.1)
+
+pub returns-in_default-position-clause-found : goal.returns-in_default-position-clause-found
+returns-in_default-position-clause-found c cut enough at shown right =
+    let v = lent_table c.args.links.now in
+    let f = c.find.ensures.found cut (subst (λ (o : Option Place). IsSeen v o (join cut)) (sym c.place_in-root.ensures) (seen_represents v (in_range c.args.links.now) shown)) (c.place_of-from.ensures ∙ at) right in
+    let one = some_same (sym f.1 ∙ c.in-Some.is) ∙ c.in_default-position.is in
+    (None, subst (λ (o : Option Place). IsFirstBeyond c.args.kind (value_at c.args.sums.now) [] c.args.bound cut.back o) one f.2, refl)
+
+pub returns-then-not-is_linked-clause-found : goal.returns-then-not-is_linked-clause-found
+returns-then-not-is_linked-clause-found c cut enough at shown right =
+    let v = lent_table c.args.links.now in
+    let f = c.find.ensures.found cut (subst (λ (o : Option Place). IsSeen v o (join cut)) (sym c.place_in-root.ensures) (seen_represents v (in_range c.args.links.now) shown)) (c.place_of-from.ensures ∙ at) right in
+    let one = some_same (sym f.1 ∙ c.in-Some.is) ∙ c.in-Some-position.is in
+    let is = subst (λ (o : Option Place). IsFirstBeyond c.args.kind (value_at c.args.sums.now) [] c.args.bound cut.back o) one f.2 in
+    absurd (never (sym c.is_linked.ensures ∙ c.if-not-is_linked.true) (beyond_linked c.args.links.now _ cut shown c.args.kind (value_at c.args.sums.now) [] c.args.bound c.in-Some-position.member is))
+
+pub returns-clause-found : goal.returns-clause-found
+returns-clause-found c cut enough at shown right =
+    let v = lent_table c.args.links.now in
+    let f = c.find.ensures.found cut (subst (λ (o : Option Place). IsSeen v o (join cut)) (sym c.place_in-root.ensures) (seen_represents v (in_range c.args.links.now) shown)) (c.place_of-from.ensures ∙ at) right in
+    let one = some_same (sym f.1 ∙ c.in-Some.is) ∙ c.in-Some-position.is in
+    (Some c.in-Some-position.member, subst (λ (o : Option Place). IsFirstBeyond c.args.kind (value_at c.args.sums.now) [] c.args.bound cut.back o) one f.2, record { accepted = refl; done = c.number_of.ensures })
+
+pub returns-clause-reached : goal.returns-clause-reached
+returns-clause-reached c ok = (
+  c.in-Some-position.member,
+  sym c.is_linked.ensures ∙ c.if-not-is_linked.false,
+  c.number_of.ensures,
+  (λ S h ends.
+      let within = rw c.in-Some.is at (c.find.ensures.within S (rw c.place_in-root.ensures h) (read_in S ends.0 c.place_of-from.ensures)) in
+      in_there S within c.in-Some-position.is),
+)
+
+pub returns-in_default-position-clause-ended : goal.returns-in_default-position-clause-ended
+returns-in_default-position-clause-ended c null =
+    rw (c.place_in-root.ensures, c.place_of-from.ensures) at (c.find.ensures.ended (c.in-Some.is ∙ ap Some c.in_default-position.is))
