@@ -1,9 +1,10 @@
 /* This library has lists, rings, hash tables and a red-black tree over tables of links in your memory. The lists are doubly linked, singly
  * linked and XOR lists.
  *
- * An object is a place, which is an index of your own arrays. A table has a link for each place, and a list or a tree leads from place to place
- * through one table. A place is in at most one list or tree of a table. An object that has to be in several lists or trees at once has a link in
- * several tables. The library allocates nothing, keeps nothing between calls, and calls nothing.
+ * You name an object by its place, which is its index in your own arrays. A table is an array with a link for each place. A link consists of one to
+ * three words, which are integers. A place that is in a list or tree is linked, and is a member of the list or tree, and the words of its link lead
+ * to other members. A place is in at most one list or tree of a table. To have an object in several lists or trees at once, use a table for each. The
+ * library allocates nothing, keeps nothing between calls, and calls no other code.
  *
  *     struct ic_link2 links[100] = {0};                   // a hundred unlinked places
  *     struct ic_list list = {0};                          // a list with no members
@@ -14,30 +15,32 @@
  *         printf("%u\n", (unsigned)place);
  *     status = ic_list_pop_front(links, 100, &list, &oldest);
  *
- * Every bit pattern is a value, and zeroed memory is a table of unlinked places, an empty list and an empty tree. A copy of a table with
- * its lists and trees is as good as the original.
+ * Every bit pattern is a valid value of each struct. Zeroed memory is a table of unlinked places, an empty list and an empty tree. You can copy a
+ * table together with its lists and trees, and use the copy instead of the original.
  *
  * A call requires that `table` points to `places` links, `keys` to `key_count` keys, `hashes` to `hash_count` hashes, `buckets` to `bucket_count`
- * lists, and each other pointer to one value of its type. No two of these arrays and values overlap, and no other thread writes or reads them during
- * the call, except that threads may read what all their calls take as const. A call requires nothing else, so words, keys, hashes and places may have
- * any values. The one dangerous number is a length that is greater than its array, because with such a length a call may access memory that is not
- * yours. A length that is too small is safe.
+ * lists, and each other pointer to one value of its type. No two of these arrays and values may overlap. No other thread may access these arrays and
+ * values during the call, except that several threads may read an array or a value at once if each of their calls takes it as const. A call requires
+ * nothing else, so words, keys, hashes and places may have any values. If you pass a length that is greater than its array, a call may access memory
+ * that is not yours. A length that is too small is safe.
  *
- * This is what every call does, whatever you pass to it:
+ * Every call does this, whatever words, keys, hashes and places you pass:
  *   - The call returns one of the statuses below.
- *   - The call writes only to the first `places` links of the table, the lists, the tree, the tree's ends, the buckets that the hashes choose, and
- *     the out parameter that you pass.
- *   - If the status is not IC_OK, the call has changed nothing, out parameters included. The status says what is wrong with the first named member,
- *     or else with the next named member, or else with the place to insert, or else that the words do not fit together (IC_BROKEN). If the comment of
- *     a call says what the call does with IC_NONE for a place, you may pass IC_NONE for this place.
- *   - The call takes at most as many steps as its cost says, in which n is the number of members. If the links form no list or tree, a call whose
- *     cost depends on members takes at most a fixed number of steps for each place of the table, and for each bucket that it goes through.
+ *   - The call writes only to what you pass: the first `places` links of the table, the lists, the tree, its ends and sums, the buckets that the
+ *     hashes choose, and the out parameter.
+ *   - If the status is not IC_OK, the call has changed nothing, and has not set the out parameter. The status says what is wrong with a length or
+ *     with a member that you name, or else with the place to insert. If none of these is wrong, there is no member to remove or find (IC_NULL), or
+ *     the words contradict each other or do not allow the edit (IC_BROKEN). You may pass IC_NONE for a place if the comment of the call says what
+ *     the call then does.
+ *   - The call takes at most as many steps as its comment says, such as O(1) or O(n), where n is the number of members. If the links form no list or
+ *     tree, a call whose cost depends on members takes at most a fixed number of steps for each place of the table, and for each bucket that the call
+ *     reads.
  *
- * If the table holds the list or tree, and the member that you name is one of its members, the call makes the edit that its comment says. Every other
- * list and tree of the table stays as it was. A call refuses a member of another list of the same table with IC_BROKEN if it can detect this by the
- * words of the neighbors, as at an end of a doubly linked list. In the middle of a list, in singly linked lists and in trees a call cannot detect a
- * member of another list, and mixes up both lists, within the table. In an XOR list a call cannot always detect a wrong neighbor either, as the part
- * on XOR lists explains.
+ * If the links form the list or tree that you pass, and the members that you name are in it, the call makes the edit that its comment says. Every
+ * other list and tree of the table stays as it was. If you name a member of another list of the same table, the call returns IC_BROKEN only if the
+ * words of the neighbors show this, as at an end of a doubly linked list. In the middle of a list, in singly linked lists and in trees a call cannot
+ * detect a member of another list or tree, and damages both, but writes nothing outside the table. In an XOR list a call cannot always detect a wrong
+ * neighbor either, as the part on XOR lists explains.
  */
 #ifndef IC_H
 #define IC_H
@@ -50,9 +53,9 @@
 #define IC_VERSION_MINOR 1
 #define IC_VERSION_PATCH 0
 
-/* A program that includes this header needs code that defines the name ic_version_.. below, and only code of the same major and minor version defines
- * it. If a program contains code that needs two versions, the linker refuses the program, because both versions of the library define the same calls.
- * On Linux GNU ld also refuses a program with only the code of another version. The reference to ic_version_0_1 takes no memory when the program runs. */
+/* Code that includes this header refers to the symbol ic_version_.. below, which only a library of the same major and minor version defines. If
+ * parts of a program need two versions, the linker refuses the program, because both versions of the library define the same calls. On Linux, GNU
+ * ld also refuses to link this code with a library of another version. The reference to the symbol takes no memory when the program runs. */
 #if defined(__GNUC__) && defined(__ELF__)
 __asm__(".pushsection .ic_version, \"\"\n\t.long ic_version_0_1\n\t.popsection");
 #elif defined(__GNUC__) && !defined(__wasm__)
@@ -63,8 +66,9 @@ __asm__(".globl ic_version_0_1");
 extern "C" {
 #endif
 
-/* Marks a call that may be refused, so that the compiler warns if you ignore its status. -DIC_NODISCARD= switches the warning off. The older
- * attribute of GCC warns of (void)call, too, and the standard one, which GCC has from version 11 on, does not. */
+/* Marks a call that may be refused, so that the compiler warns if you ignore its status. -DIC_NODISCARD= switches the warning off. If the
+ * attribute is warn_unused_result, GCC warns even if you write (void) before the call. If the attribute is [[nodiscard]], which GCC has from
+ * version 11 on, GCC does not warn of a call with (void). */
 #ifndef IC_NODISCARD
 #if (defined(__cplusplus) && __cplusplus >= 201703L) || (defined(__STDC_VERSION__) && __STDC_VERSION__ >= 202311L)
 #define IC_NODISCARD [[nodiscard]]
@@ -77,25 +81,25 @@ extern "C" {
 #endif
 #endif
 
-/* ic_length is the type of the length of an array. A call takes a length of 64 bits, so on a processor whose size_t has 32 bits an ic_length is
- * longer than a size_t. The compiler converts each length that you pass to an ic_length. */
+/* ic_length is the type of the length of an array, and has 64 bits on every processor. If size_t has 32 bits, the compiler converts each length
+ * that you pass to an ic_length. */
 #if SIZE_MAX >= UINT64_MAX
 typedef size_t ic_length;
 #else
 typedef uint64_t ic_length;
 #endif
 
-/* Names no place. As a cursor of a list, IC_NONE is the position between the last member and the first. */
+/* IC_NONE names no place. If a call takes IC_NONE in place of a member, its comment says what IC_NONE means, for example the front of the list. */
 #define IC_NONE UINT32_MAX
 
 /* These are the statuses that a call returns. */
 enum ic_status {
-    IC_OK = 0,           /* the call has made the edit, or has found what it looked for */
+    IC_OK = 0,           /* the call has done what its comment says */
     IC_OUT_OF_RANGE = 1, /* a place is not below `places`, or there are fewer keys, hashes or sums than places, or there is no bucket */
     IC_LINKED = 2,       /* the place to insert is in a list or tree of this table */
-    IC_NOT_LINKED = 3,   /* the member that is named is in no list or tree of this table */
-    IC_NULL = 4,         /* the call needs a member, and there is none */
-    IC_BROKEN = 5        /* the table, the list or tree, and the members do not belong together */
+    IC_NOT_LINKED = 3,   /* a place that you name as a member is in no list or tree of this table */
+    IC_NULL = 4,         /* you passed IC_NONE for a place that the call needs, or there is no member to remove or find */
+    IC_BROKEN = 5        /* the words of the table, the list or the tree contradict each other, or do not allow the edit */
 };
 
 /* Returns the name of a status, such as "IC_OK", and "unknown" for any other number. */
@@ -111,7 +115,7 @@ static inline const char *ic_status_name(uint32_t status) {
     }
 }
 
-/* Drops the status of a call on purpose, without a warning from any compiler:
+/* Ignores the status of a call, without a warning from any compiler:
  *
  *     ic_ignore(ic_list_remove(links, 100, &list, 7));
  */
@@ -149,7 +153,7 @@ struct ic_list {
     uint64_t head, tail;
 };
 
-/* A struct ic_xor_list is an XOR list. The link of a member has the exclusive or of the member's two neighbors. */
+/* A struct ic_xor_list is an XOR list. The link of a member has one word, which is the exclusive or of the words for the member's two neighbors. */
 struct ic_xor_list {
     uint64_t head, tail;
 };
@@ -159,30 +163,31 @@ struct ic_tree {
     uint64_t root;
 };
 
-/* A struct ic_tree_ends has the first and the last member of a tree, for the calls that keep them. */
+/* A struct ic_tree_ends names the first and the last member of a tree. Only the calls ic_tree_ends_... read and write a struct ic_tree_ends. */
 struct ic_tree_ends {
     uint64_t first, last;
 };
 
-/* Each place of a tree with sums has a struct ic_sum beside its link. You write the value, and calls write the sum. */
+/* Each place of a tree with sums has a struct ic_sum, in a second array. You write the value, and calls write the sum. */
 struct ic_sum {
     uint64_t value, sum;
 };
 
 /* ---- Words -------------------------------------------------------------------------------------------------------------------- */
 
-/* Returns the word for a place, which is 8 * (place + 1), or 0 for IC_NONE. The first word of a link is 1 more if the place is linked, and
- * `parent` is 1 more if the place is black in its tree. */
+/* Returns the word for a place, which is 8 * (place + 1), or 0 for IC_NONE. Bit 0 of the first word of a link is set if the place of this link is
+ * linked, and bit 0 of `parent` is set if the place is black in its tree. */
 static inline uint64_t ic_word(uint32_t place) {
     return (uint64_t)(uint32_t)(place + 1u) * 8;
 }
 
-/* Returns the number that a word keeps, which is 0 for no place. The function ignores bits 0 to 2 and all bits from 36 on. */
+/* Returns bits 3 to 35 of a word as a number, which is the place that the word names plus 1, or 0 if the word names no place. */
 static inline uint64_t ic_number(uint64_t word) {
     return word / 8 % (UINT64_C(1) << 33);
 }
 
-/* Returns the place that a word names, or IC_NONE. A number of 2^32 or more is IC_NONE too, because no place has it. */
+/* Returns the place that a word names, or IC_NONE. The function also returns IC_NONE if ic_number returns 2^32 or more, because no place has such
+ * a number. */
 static inline uint32_t ic_place(uint64_t word) {
     uint64_t number = ic_number(word);
     return number <= UINT32_MAX ? (uint32_t)number - 1u : IC_NONE;
@@ -190,27 +195,28 @@ static inline uint32_t ic_place(uint64_t word) {
 
 /* ---- Reads and loops --------------------------------------------------------------------------------------------------------------
  *
- * An inline function that reads a link takes the table's length, as the calls do. It returns IC_NONE if the place is out of range or unlinked, and if
- * the word in the link names no place of the table. So an inline function never reads outside the table, whatever the words say. The functions that
- * read only a list or a tree, such as ic_list_first, take no length. If the words of the list or tree are broken, a function without a length may
- * return a place that is out of range.
+ * An inline function that reads a link takes the table's length, as the calls do. The function returns IC_NONE if the place is out of range or
+ * unlinked, and if the word in the link names no place of the table. So the function never reads outside the table, whatever the words are. A
+ * function that reads only a list or a tree, such as ic_list_first, takes no length. If the words of the list or tree are wrong, a function without a
+ * length may return a place that is out of range.
  *
- * A macro makes a loop, which runs its body once for each member. The macro declares `place` and the other variables that are named before `table`.
- * You can leave the loop with `break`, go on with `continue`, and write one loop inside another.
+ * A macro IC_..._FOREACH makes a loop, which runs its body once for each member. You pass names for `place` and for the other variables before
+ * `table`, and the macro declares these variables. You can leave the loop with `break`, go on with `continue`, and write one loop inside another.
  *
  *     IC_LIST_FOREACH(place, links, 100, &list)
  *         if (place % 2 == 0)
  *             printf("%u\n", (unsigned)place);
  *
- * Whatever the links are, a loop runs its body at most `places` times, each time for a linked place of the table. The loop ends at a word that names
- * no linked place of the table. A loop evaluates `table`, `places` and `list` in each round.
+ * Whatever the words are, a loop runs its body at most `places` times, each time for a linked place of the table. The loop ends at a word that names
+ * no linked place of the table. The loop evaluates `table`, `places` and `list` again in each round.
  *
- * A plain loop ends early if its body removes the current member. The body of a ..._SAFE loop may remove the current member, and may then insert the
- * member's place into another list or tree. The body has to leave the members beside the current member where they are. A ..._FROM loop begins at the
- * member `at`. To begin after a member, pass the next member, which ic_list_next returns.
+ * A loop without _SAFE in its name ends early if its body removes the current member. The body of a ..._SAFE loop may remove the current member, and
+ * may then insert the place of this member into another list or tree. The body must not move or remove the neighbors of the current member. A
+ * ..._FROM loop begins at the member `at`. To begin after a member, pass as `at` what ic_list_next returns for this member.
  *
- * If your objects are in an array, a ..._ENTRY loop gives you the object. You declare a pointer to an object, and pass its name to the loop. The
- * array has to have an object for each place of the table. After the last round the pointer is null, and after a `break` it still is the object:
+ * If your objects are in an array, a ..._ENTRY loop gives you a pointer to the object of each member. You declare the pointer, and pass its name to
+ * the loop. The array must have an object for each place of the table. After the last round the pointer is null, and after a `break` the pointer
+ * still points to the current object:
  *
  *     struct job jobs[100], *job;
  *     IC_LIST_FOREACH_ENTRY(job, jobs, links, 100, &list)
@@ -220,26 +226,27 @@ static inline uint32_t ic_place(uint64_t word) {
  *         status = ic_list_remove(links, 100, &list, IC_PLACE_OF(job, jobs));
  */
 
-/* Returns how many places of the table you can name, which is `places`, but at most IC_NONE, because IC_NONE itself names no place. */
+/* Returns how many places a table of this length has, which is `places`, or IC_NONE if `places` is greater, because all places are below IC_NONE. */
 static inline uint32_t ic_bound(ic_length places) {
     return places < IC_NONE ? (uint32_t)places : IC_NONE;
 }
 
-/* Returns the place whose number is in `word`, or IC_NONE if `word` contains no place or the table has no such place. */
+/* Returns the place that `word` names, or IC_NONE if `word` names no place or the table has no such place. */
 static inline uint32_t ic_place_within(ic_length places, uint64_t word) {
     uint32_t place = ic_place(word);
     return place < ic_bound(places) ? place : IC_NONE;
 }
 
-/* Returns the status of a call that needs `place` as a member and has to refuse it. `is_linked` says whether the place is linked. */
+/* Returns the status with which a call refuses `place` as a member. If the place is linked (`is_linked`), its links are wrong, and the status is
+ * IC_BROKEN. */
 static inline uint32_t ic_fault_of(ic_length places, uint32_t place, int is_linked) {
     if (place == IC_NONE)
         return IC_NULL;
     return place >= ic_bound(places) ? IC_OUT_OF_RANGE : is_linked ? IC_BROKEN : IC_NOT_LINKED;
 }
 
-/* The loops below are made of IC_LOOP and IC_LOOP_SAFE. These two macros run while `place` is a member, and go on to the member that `next` finds
- * from `place`. */
+/* The loop macros below expand to IC_LOOP or IC_LOOP_SAFE. The loop begins at `first`, runs while the expression `is_member` is true, and goes on
+ * from `place` to the value of the expression `next`. */
 #define IC_LOOP(place, first, places, is_member, next)                                                       \
     for (uint32_t place = (first), ic_rounds_##place = ic_bound(places); (is_member) && ic_rounds_##place--; \
          place = (next))
@@ -247,14 +254,14 @@ static inline uint32_t ic_fault_of(ic_length places, uint32_t place, int is_link
     for (uint32_t place = (first), follower = (next), ic_rounds_##place = ic_bound(places); \
          (is_member) && ic_rounds_##place--; place = follower, follower = (next))
 
-/* IC_ENTRY is the object of a place in the array `objects`, or a null pointer if the place is IC_NONE. IC_ENTRY evaluates `place` twice. IC_PLACE_OF
- * is the place of an object. If you pass IC_ENTRY a read of an end or a neighbor, you get the object at this end or neighbor, as with IC_ENTRY(jobs,
- * ic_list_front(links, 100, &list)). */
+/* IC_ENTRY is a pointer to the object of a place in the array `objects`, or a null pointer if the place is IC_NONE. IC_ENTRY evaluates `place`
+ * twice. For example, IC_ENTRY(jobs, ic_list_front(links, 100, &list)) points to the object of the first member. IC_PLACE_OF is the place of the
+ * object to which `object` points. */
 #define IC_ENTRY(objects, place) ((place) == IC_NONE ? NULL : &(objects)[place])
 #define IC_PLACE_OF(object, objects) ((uint32_t)((object) - (objects)))
 
-/* The loops that give objects are made of the three macros below. In each round `object` is the object of `place`, and after the last round `object`
- * is null. */
+/* The macros for ..._ENTRY loops use the three macros below. In each round IC_ENTRY_IF makes `object` point to the object of `place`, and after the
+ * last round it makes `object` null. */
 #define IC_ENTRY_IF(object, objects, place, is_member) ((is_member) ? ((object) = &(objects)[place], 1) : ((object) = NULL, 0))
 #define IC_LOOP_ENTRY(object, objects, place, first, places, is_member, next)              \
     for (uint32_t place = (first), ic_rounds_##place = ic_bound(places);                   \
@@ -265,7 +272,7 @@ static inline uint32_t ic_fault_of(ic_length places, uint32_t place, int is_link
 
 /* ---- Doubly linked lists: 16 bytes a place, calls O(1) except to fill, clear, check, sort and merge --------------------------------------
  *
- * Take doubly linked lists for queues, and for caches, where objects also leave from the middle.
+ * Doubly linked lists are good for queues, and for caches, where you also remove objects from the middle.
  */
 
 /* ---- Lists: functions for links of 8-byte and of 4-byte words ---- */
@@ -290,12 +297,12 @@ static inline uint32_t ic_list_last(const struct ic_list *list) {
     return ic_place(list->tail);
 }
 
-/* Returns the member after the member `at`, or IC_NONE. */
+/* Returns the member after the member `at`, or IC_NONE if there is none. */
 static inline uint32_t ic_list_next(const struct ic_link2 *table, ic_length places, uint32_t at) {
     return ic_list_is_linked(table, places, at) ? ic_place_within(places, table[at].next) : IC_NONE;
 }
 
-/* Returns the member before the member `at`, or IC_NONE. */
+/* Returns the member before the member `at`, or IC_NONE if there is none. */
 static inline uint32_t ic_list_prev(const struct ic_link2 *table, ic_length places, uint32_t at) {
     return ic_list_is_linked(table, places, at) ? ic_place_within(places, table[at].prev) : IC_NONE;
 }
@@ -325,8 +332,8 @@ static inline int ic_list_is_singular(const struct ic_link2 *table, ic_length pl
     return ic_list_is_first(table, places, list, ic_list_last(list));
 }
 
-/* These loops go from the first member to the last, and back. `next` is the member after `place`, and `prev` is the member before it. Beyond an end
- * of the list, `next` and `prev` are IC_NONE.
+/* The IC_LIST_FOREACH loops go from the first member to the last, and those with REVERSE in the name from the last to the first. `next` is the member
+ * after `place`, or IC_NONE at the last member. `prev` is the member before `place`, or IC_NONE at the first member.
  *
  *     IC_LIST_FOREACH_SAFE(place, next, links, 100, &list)
  *         if (is_done(place))
@@ -367,27 +374,29 @@ static inline int ic_list_is_singular(const struct ic_link2 *table, ic_length pl
 
 /* ---- Lists: to here ---- */
 
-/* tools/c-calls --write writes from here: list list-fill */
+/* Made by tools/c-calls --write: list list-fill */
 
 /* Inserts `place` at the front, in O(1).
- * IC_OUT_OF_RANGE: `place` is not below `places`. IC_LINKED: `place` is linked already. IC_BROKEN: the first member does not belong to this
- * table. */
+ * IC_OUT_OF_RANGE: `place` is not below `places`. IC_LINKED: `place` is linked already. IC_BROKEN: the first member is not linked in this
+ * table, or its link names a member before it. */
 IC_NODISCARD
 uint32_t ic_list_push_front(struct ic_link2 *table, ic_length places, struct ic_list *list, uint32_t place);
 
 /* Inserts `place` at the back, in O(1).
- * IC_OUT_OF_RANGE: `place` is not below `places`. IC_LINKED: `place` is linked already. IC_BROKEN: the last member does not belong to this
- * table. */
+ * IC_OUT_OF_RANGE: `place` is not below `places`. IC_LINKED: `place` is linked already. IC_BROKEN: the last member is not linked in this
+ * table, or its link names a member after it. */
 IC_NODISCARD
 uint32_t ic_list_push_back(struct ic_link2 *table, ic_length places, struct ic_list *list, uint32_t place);
 
 /* Removes the first member, and sets *popped to it, in O(1).
- * IC_NULL: the list is empty. IC_BROKEN: the first member does not belong to this table. */
+ * IC_NULL: the list is empty. IC_BROKEN: the first member is not linked in this table, or its link names a member before it, or the second
+ * member's link does not name the first. */
 IC_NODISCARD
 uint32_t ic_list_pop_front(struct ic_link2 *table, ic_length places, struct ic_list *list, uint32_t *popped);
 
 /* Removes the last member, and sets *popped to it, in O(1).
- * IC_NULL: the list is empty. IC_BROKEN: the last member does not belong to this table. */
+ * IC_NULL: the list is empty. IC_BROKEN: the last member is not linked in this table, or its link names a member after it, or the link of
+ * the last member but one does not name the last. */
 IC_NODISCARD
 uint32_t ic_list_pop_back(struct ic_link2 *table, ic_length places, struct ic_list *list, uint32_t *popped);
 
@@ -410,35 +419,34 @@ IC_NODISCARD
 uint32_t ic_list_remove(struct ic_link2 *table, ic_length places, struct ic_list *list, uint32_t at);
 
 /* Removes the member `at`, and inserts `place` where it was, in O(1).
- * IC_NULL: the place `at` is IC_NONE. IC_OUT_OF_RANGE: `at` or `place` is not below `places`. IC_LINKED: `place` is linked already, also if
- * `at` and `place` are the same. IC_NOT_LINKED: the place `at` is not linked. IC_BROKEN: `at` is no member of the list. */
+ * IC_NULL: the place `at` is IC_NONE. IC_OUT_OF_RANGE: `at` or `place` is not below `places`. IC_LINKED: `place` is linked already, or is
+ * `at` itself. IC_NOT_LINKED: the place `at` is not linked. IC_BROKEN: `at` is no member of the list. */
 IC_NODISCARD
 uint32_t ic_list_replace(struct ic_link2 *table, ic_length places, struct ic_list *list, uint32_t at, uint32_t place);
 
-/* Moves the member `place` after the member `at`, or to the front if `at` is IC_NONE, in O(1). The place stays linked, and nothing changes
- * if it is there already, or if `at` and `place` are the same.
+/* Moves the member `place` after the member `at`, or to the front if `at` is IC_NONE, in O(1). `place` stays linked during the call.
+ * Nothing changes if `place` is there already, or if `at` and `place` are the same.
  * IC_NULL: `place` is IC_NONE. IC_OUT_OF_RANGE: `at` or `place` is not below `places`. IC_NOT_LINKED: `at` or `place` is not linked.
  * IC_BROKEN: `at` or `place` is no member of the list. */
 IC_NODISCARD
 uint32_t ic_list_move_after(struct ic_link2 *table, ic_length places, struct ic_list *list, uint32_t at, uint32_t place);
 
-/* Moves the member `place` before the member `at`, or to the back if `at` is IC_NONE, in O(1). The place stays linked, and nothing changes
- * if it is there already, or if `at` and `place` are the same.
+/* Moves the member `place` before the member `at`, or to the back if `at` is IC_NONE, in O(1). `place` stays linked during the call.
+ * Nothing changes if `place` is there already, or if `at` and `place` are the same.
  * IC_NULL: `place` is IC_NONE. IC_OUT_OF_RANGE: `at` or `place` is not below `places`. IC_NOT_LINKED: `at` or `place` is not linked.
  * IC_BROKEN: `at` or `place` is no member of the list. */
 IC_NODISCARD
 uint32_t ic_list_move_before(struct ic_link2 *table, ic_length places, struct ic_list *list, uint32_t at, uint32_t place);
 
-/* Moves the member `place` to the front, as a cache does with the object that it used last, in O(1). The place stays linked during the
- * call.
+/* Moves the member `place` to the front, as a cache does with the object that it used last, in O(1). `place` stays linked during the call.
  * IC_NULL: `place` is IC_NONE. IC_OUT_OF_RANGE: `place` is not below `places`. IC_NOT_LINKED: `place` is not linked. IC_BROKEN: `place` is
- * no member of the list, or the first member does not belong to this table. */
+ * no member of the list, or the first member is not linked in this table, or its link names a member before it. */
 IC_NODISCARD
 uint32_t ic_list_move_to_front(struct ic_link2 *table, ic_length places, struct ic_list *list, uint32_t place);
 
-/* Moves the member `place` to the back, in O(1). The place stays linked during the call.
+/* Moves the member `place` to the back, in O(1). `place` stays linked during the call.
  * IC_NULL: `place` is IC_NONE. IC_OUT_OF_RANGE: `place` is not below `places`. IC_NOT_LINKED: `place` is not linked. IC_BROKEN: `place` is
- * no member of the list, or the last member does not belong to this table. */
+ * no member of the list, or the last member is not linked in this table, or its link names a member after it. */
 IC_NODISCARD
 uint32_t ic_list_move_to_back(struct ic_link2 *table, ic_length places, struct ic_list *list, uint32_t place);
 
@@ -457,15 +465,15 @@ IC_NODISCARD
 uint32_t ic_list_splice_before(struct ic_link2 *table, ic_length places, struct ic_list *list, uint32_t at, struct ic_list *given);
 
 /* Moves all members of `given`, in their order, to the back, and leaves `given` empty, in O(1).
- * IC_BROKEN: the last member does not belong to this table, or `given` is no list of this table, or both lists begin with the same member,
- * as a list and its copy do. */
+ * IC_BROKEN: the last member is not linked in this table, or its link names a member after it, or `given` is no list of this table, or both
+ * lists begin with the same member, as a list and its copy do. */
 IC_NODISCARD
 uint32_t ic_list_append(struct ic_link2 *table, ic_length places, struct ic_list *list, struct ic_list *given);
 
-/* Inserts the `count` places `first`, `first` + 1 and so on at the back, in rising order, in O(count). The call changes nothing if `count`
- * is 0.
- * IC_OUT_OF_RANGE: the first of these places that the call refuses is not below `places`. IC_LINKED: the first of these places that the
- * call refuses is linked already. IC_BROKEN: the last member does not belong to this table. */
+/* Inserts the `count` places `first`, `first` + 1 and so on at the back, in rising order, in O(count). If `count` is 0, the call changes
+ * nothing.
+ * IC_OUT_OF_RANGE: none of these places is linked, but one is not below `places`. IC_LINKED: one of these places is linked already.
+ * IC_BROKEN: the last member is not linked in this table, or its link names a member after it. */
 IC_NODISCARD
 uint32_t ic_list_fill(struct ic_link2 *table, ic_length places, struct ic_list *list, uint32_t first, uint32_t count);
 
@@ -486,8 +494,8 @@ uint32_t ic_list_split_after(struct ic_link2 *table, ic_length places, struct ic
 IC_NODISCARD
 uint32_t ic_list_split_before(struct ic_link2 *table, ic_length places, struct ic_list *list, uint32_t at, struct ic_list *rest);
 
-/* Counts the members, and sets *members to how many there are, in O(n). Call it if the words come from a file, or from memory that others
- * write. If the status is IC_OK, every other call on this list does what the comment of that call says.
+/* Counts the members, and sets *members to how many there are, in O(n). Make this call if the words come from a file, or from memory that
+ * others write. If the status is IC_OK, every other call on this list does what its own comment says.
  * IC_BROKEN: the links do not lead from the first member to the last, or the links of two neighbors do not name each other. */
 IC_NODISCARD
 uint32_t ic_list_check(const struct ic_link2 *table, ic_length places, const struct ic_list *list, uint64_t *members);
@@ -496,12 +504,12 @@ uint32_t ic_list_check(const struct ic_link2 *table, ic_length places, const str
 
 /* ---- Lists by keys ----
  *
- * The keys are numbers, of which the least comes first. There has to be a key for each place, and the calls read only the keys of members. A sort and
- * a merge check the lists before they change anything, so neither is refused when it is half done. A sort is recursive, to a depth of at most 33
- * calls.
+ * A key is a number, and a smaller key comes before a greater one. The key of `place` is keys[place], so there must be a key for each place, but the
+ * calls read only the keys of members. A sort and a merge check the lists before they change anything, so a refused call has changed nothing. A sort
+ * is recursive, to a depth of at most 33 calls.
  */
 
-/* tools/c-calls --write writes from here: list-keys */
+/* Made by tools/c-calls --write: list-keys */
 
 /* Sorts the members by their keys, in O(n log n). Members with equal keys keep their order.
  * IC_OUT_OF_RANGE: there are fewer keys than places. IC_BROKEN: the links do not lead from the first member to the last, or the links of
@@ -509,8 +517,8 @@ uint32_t ic_list_check(const struct ic_link2 *table, ic_length places, const str
 IC_NODISCARD
 uint32_t ic_list_sort(struct ic_link2 *table, ic_length places, const uint64_t *keys, ic_length key_count, struct ic_list *list);
 
-/* Moves all members of `given` to where their keys belong, if both lists are in the order of their keys, in O(n). Of members with equal
- * keys, those of `list` come first. The call leaves `given` empty.
+/* Moves all members of `given` into `list`, which the call leaves sorted by keys if both lists were sorted by keys, in O(n). Of members
+ * with equal keys, those of `list` come first. Afterwards `given` is empty.
  * IC_OUT_OF_RANGE: there are fewer keys than places. IC_BROKEN: the links of one of the lists do not lead from its first member to its
  * last, or the links of two neighbors do not name each other, or both lists begin with the same member, as a list and its copy do. */
 IC_NODISCARD
@@ -521,16 +529,17 @@ uint32_t ic_list_merge(struct ic_link2 *table, ic_length places, const uint64_t 
 
 /* ---- Members that go from list to list ----
  *
- * A transfer moves one member of another list of the same table, as a scheduler does with a task that no longer waits:
+ * A transfer moves one member from one list to another list of the same table, as a scheduler does with a task that no longer waits:
  *
  *     status = ic_list_transfer_before(links, 100, &ready, IC_NONE, &waiting, 7);  // 7 becomes the last member of `ready`
  *
- * A splice moves all members, and a move within one list is ic_list_move_after. Members of rings go from ring to ring by ic_ring_move_after.
+ * To move all members, call ic_list_splice_after. To move a member within its list, call ic_list_move_after. To move a member from one ring to
+ * another, call ic_ring_move_after.
  */
 
-/* tools/c-calls --write writes from here: list-transfer */
+/* Made by tools/c-calls --write: list-transfer */
 
-/* Moves the member `place` of `given` after the member `at`, or to the front if `at` is IC_NONE, in O(1). The place stays linked during the
+/* Moves the member `place` of `given` after the member `at`, or to the front if `at` is IC_NONE, in O(1). `place` stays linked during the
  * call.
  * IC_NULL: `place` is IC_NONE. IC_OUT_OF_RANGE: `at` or `place` is not below `places`. IC_NOT_LINKED: `at` or `place` is not linked.
  * IC_BROKEN: `at` is no member of the list, or `place` is no member of `given`, or both lists begin with the same member, as a list and its
@@ -539,7 +548,7 @@ IC_NODISCARD
 uint32_t ic_list_transfer_after(struct ic_link2 *table, ic_length places, struct ic_list *list, uint32_t at, struct ic_list *given,
                                 uint32_t place);
 
-/* Moves the member `place` of `given` before the member `at`, or to the back if `at` is IC_NONE, in O(1). The place stays linked during the
+/* Moves the member `place` of `given` before the member `at`, or to the back if `at` is IC_NONE, in O(1). `place` stays linked during the
  * call.
  * IC_NULL: `place` is IC_NONE. IC_OUT_OF_RANGE: `at` or `place` is not below `places`. IC_NOT_LINKED: `at` or `place` is not linked.
  * IC_BROKEN: `at` is no member of the list, or `place` is no member of `given`, or both lists begin with the same member, as a list and its
@@ -552,9 +561,10 @@ uint32_t ic_list_transfer_before(struct ic_link2 *table, ic_length places, struc
 
 /* ---- Doubly linked lists with words of 4 bytes: 8 bytes a place, calls O(1) except to clear and check ---------------------------------------
  *
- * Lists with words of 4 bytes take half the memory for their links. A word of 4 bytes is the word of an 8-byte link, cut to 4 bytes, so a word of 4
- * bytes can name the places below 536,870,911. Other places are out of range. A list with words of 4 bytes is a struct ic_list, too. Each call, read
- * and loop does what the call, read or loop without the 32 in its name does. Lists with words of 4 bytes have no fills, sorts and merges.
+ * Words of 4 bytes take half the memory of the words of 8 bytes that other lists have. A word of 4 bytes is the lower half of the word of 8 bytes
+ * for the same place, so a word of 4 bytes can name only places below 536,870,911. Calls treat all other places as out of range. A list with words
+ * of 4 bytes is a struct ic_list, too. Each call, read and loop does the same as the call, read or loop without 32 in its name. There is no fill,
+ * sort or merge for lists with words of 4 bytes.
  *
  *     struct ic_link2_32 links[100] = {0};               // 100 unlinked places
  *     struct ic_list list = {0};                         // a list with no members
@@ -567,27 +577,29 @@ static inline ic_length ic_places_32(ic_length places) {
     return places < 536870911 ? places : 536870911;
 }
 
-/* tools/c-calls --write writes from here: list32 */
+/* Made by tools/c-calls --write: list32 */
 
 /* Inserts `place` at the front, in O(1).
  * IC_OUT_OF_RANGE: `place` is not below `places`, or is 536,870,911 or more. IC_LINKED: `place` is linked already. IC_BROKEN: the first
- * member does not belong to this table. */
+ * member is not linked in this table, or its link names a member before it. */
 IC_NODISCARD
 uint32_t ic_list32_push_front(struct ic_link2_32 *table, ic_length places, struct ic_list *list, uint32_t place);
 
 /* Inserts `place` at the back, in O(1).
  * IC_OUT_OF_RANGE: `place` is not below `places`, or is 536,870,911 or more. IC_LINKED: `place` is linked already. IC_BROKEN: the last
- * member does not belong to this table. */
+ * member is not linked in this table, or its link names a member after it. */
 IC_NODISCARD
 uint32_t ic_list32_push_back(struct ic_link2_32 *table, ic_length places, struct ic_list *list, uint32_t place);
 
 /* Removes the first member, and sets *popped to it, in O(1).
- * IC_NULL: the list is empty. IC_BROKEN: the first member does not belong to this table. */
+ * IC_NULL: the list is empty. IC_BROKEN: the first member is not linked in this table, or its link names a member before it, or the second
+ * member's link does not name the first. */
 IC_NODISCARD
 uint32_t ic_list32_pop_front(struct ic_link2_32 *table, ic_length places, struct ic_list *list, uint32_t *popped);
 
 /* Removes the last member, and sets *popped to it, in O(1).
- * IC_NULL: the list is empty. IC_BROKEN: the last member does not belong to this table. */
+ * IC_NULL: the list is empty. IC_BROKEN: the last member is not linked in this table, or its link names a member after it, or the link of
+ * the last member but one does not name the last. */
 IC_NODISCARD
 uint32_t ic_list32_pop_back(struct ic_link2_32 *table, ic_length places, struct ic_list *list, uint32_t *popped);
 
@@ -611,35 +623,34 @@ uint32_t ic_list32_remove(struct ic_link2_32 *table, ic_length places, struct ic
 
 /* Removes the member `at`, and inserts `place` where it was, in O(1).
  * IC_NULL: the place `at` is IC_NONE. IC_OUT_OF_RANGE: `at` or `place` is not below `places`, or is 536,870,911 or more. IC_LINKED: `place`
- * is linked already, also if `at` and `place` are the same. IC_NOT_LINKED: the place `at` is not linked. IC_BROKEN: `at` is no member of
- * the list. */
+ * is linked already, or is `at` itself. IC_NOT_LINKED: the place `at` is not linked. IC_BROKEN: `at` is no member of the list. */
 IC_NODISCARD
 uint32_t ic_list32_replace(struct ic_link2_32 *table, ic_length places, struct ic_list *list, uint32_t at, uint32_t place);
 
-/* Moves the member `place` after the member `at`, or to the front if `at` is IC_NONE, in O(1). The place stays linked, and nothing changes
- * if it is there already, or if `at` and `place` are the same.
+/* Moves the member `place` after the member `at`, or to the front if `at` is IC_NONE, in O(1). `place` stays linked during the call.
+ * Nothing changes if `place` is there already, or if `at` and `place` are the same.
  * IC_NULL: `place` is IC_NONE. IC_OUT_OF_RANGE: `at` or `place` is not below `places`, or is 536,870,911 or more. IC_NOT_LINKED: `at` or
  * `place` is not linked. IC_BROKEN: `at` or `place` is no member of the list. */
 IC_NODISCARD
 uint32_t ic_list32_move_after(struct ic_link2_32 *table, ic_length places, struct ic_list *list, uint32_t at, uint32_t place);
 
-/* Moves the member `place` before the member `at`, or to the back if `at` is IC_NONE, in O(1). The place stays linked, and nothing changes
- * if it is there already, or if `at` and `place` are the same.
+/* Moves the member `place` before the member `at`, or to the back if `at` is IC_NONE, in O(1). `place` stays linked during the call.
+ * Nothing changes if `place` is there already, or if `at` and `place` are the same.
  * IC_NULL: `place` is IC_NONE. IC_OUT_OF_RANGE: `at` or `place` is not below `places`, or is 536,870,911 or more. IC_NOT_LINKED: `at` or
  * `place` is not linked. IC_BROKEN: `at` or `place` is no member of the list. */
 IC_NODISCARD
 uint32_t ic_list32_move_before(struct ic_link2_32 *table, ic_length places, struct ic_list *list, uint32_t at, uint32_t place);
 
-/* Moves the member `place` to the front, as a cache does with the object that it used last, in O(1). The place stays linked during the
- * call.
+/* Moves the member `place` to the front, as a cache does with the object that it used last, in O(1). `place` stays linked during the call.
  * IC_NULL: `place` is IC_NONE. IC_OUT_OF_RANGE: `place` is not below `places`, or is 536,870,911 or more. IC_NOT_LINKED: `place` is not
- * linked. IC_BROKEN: `place` is no member of the list, or the first member does not belong to this table. */
+ * linked. IC_BROKEN: `place` is no member of the list, or the first member is not linked in this table, or its link names a member before
+ * it. */
 IC_NODISCARD
 uint32_t ic_list32_move_to_front(struct ic_link2_32 *table, ic_length places, struct ic_list *list, uint32_t place);
 
-/* Moves the member `place` to the back, in O(1). The place stays linked during the call.
+/* Moves the member `place` to the back, in O(1). `place` stays linked during the call.
  * IC_NULL: `place` is IC_NONE. IC_OUT_OF_RANGE: `place` is not below `places`, or is 536,870,911 or more. IC_NOT_LINKED: `place` is not
- * linked. IC_BROKEN: `place` is no member of the list, or the last member does not belong to this table. */
+ * linked. IC_BROKEN: `place` is no member of the list, or the last member is not linked in this table, or its link names a member after it. */
 IC_NODISCARD
 uint32_t ic_list32_move_to_back(struct ic_link2_32 *table, ic_length places, struct ic_list *list, uint32_t place);
 
@@ -658,8 +669,8 @@ IC_NODISCARD
 uint32_t ic_list32_splice_before(struct ic_link2_32 *table, ic_length places, struct ic_list *list, uint32_t at, struct ic_list *given);
 
 /* Moves all members of `given`, in their order, to the back, and leaves `given` empty, in O(1).
- * IC_BROKEN: the last member does not belong to this table, or `given` is no list of this table, or both lists begin with the same member,
- * as a list and its copy do. */
+ * IC_BROKEN: the last member is not linked in this table, or its link names a member after it, or `given` is no list of this table, or both
+ * lists begin with the same member, as a list and its copy do. */
 IC_NODISCARD
 uint32_t ic_list32_append(struct ic_link2_32 *table, ic_length places, struct ic_list *list, struct ic_list *given);
 
@@ -680,13 +691,13 @@ uint32_t ic_list32_split_after(struct ic_link2_32 *table, ic_length places, stru
 IC_NODISCARD
 uint32_t ic_list32_split_before(struct ic_link2_32 *table, ic_length places, struct ic_list *list, uint32_t at, struct ic_list *rest);
 
-/* Counts the members, and sets *members to how many there are, in O(n). Call it if the words come from a file, or from memory that others
- * write. If the status is IC_OK, every other call on this list does what the comment of that call says.
+/* Counts the members, and sets *members to how many there are, in O(n). Make this call if the words come from a file, or from memory that
+ * others write. If the status is IC_OK, every other call on this list does what its own comment says.
  * IC_BROKEN: the links do not lead from the first member to the last, or the links of two neighbors do not name each other. */
 IC_NODISCARD
 uint32_t ic_list32_check(const struct ic_link2_32 *table, ic_length places, const struct ic_list *list, uint64_t *members);
 
-/* Moves the member `place` of `given` after the member `at`, or to the front if `at` is IC_NONE, in O(1). The place stays linked during the
+/* Moves the member `place` of `given` after the member `at`, or to the front if `at` is IC_NONE, in O(1). `place` stays linked during the
  * call.
  * IC_NULL: `place` is IC_NONE. IC_OUT_OF_RANGE: `at` or `place` is not below `places`, or is 536,870,911 or more. IC_NOT_LINKED: `at` or
  * `place` is not linked. IC_BROKEN: `at` is no member of the list, or `place` is no member of `given`, or both lists begin with the same
@@ -695,7 +706,7 @@ IC_NODISCARD
 uint32_t ic_list32_transfer_after(struct ic_link2_32 *table, ic_length places, struct ic_list *list, uint32_t at, struct ic_list *given,
                                   uint32_t place);
 
-/* Moves the member `place` of `given` before the member `at`, or to the back if `at` is IC_NONE, in O(1). The place stays linked during the
+/* Moves the member `place` of `given` before the member `at`, or to the back if `at` is IC_NONE, in O(1). `place` stays linked during the
  * call.
  * IC_NULL: `place` is IC_NONE. IC_OUT_OF_RANGE: `at` or `place` is not below `places`, or is 536,870,911 or more. IC_NOT_LINKED: `at` or
  * `place` is not linked. IC_BROKEN: `at` is no member of the list, or `place` is no member of `given`, or both lists begin with the same
@@ -706,7 +717,7 @@ uint32_t ic_list32_transfer_before(struct ic_link2_32 *table, ic_length places, 
 
 /* to here */
 
-/* tools/c-calls --write writes from here, of list: list32 */
+/* Made by tools/c-calls --write of list: list32 */
 
 /* Returns whether a place is in a list of the table. */
 static inline int ic_list32_is_linked(const struct ic_link2_32 *table, ic_length places, uint32_t place) {
@@ -728,12 +739,12 @@ static inline uint32_t ic_list32_last(const struct ic_list *list) {
     return ic_place(list->tail);
 }
 
-/* Returns the member after the member `at`, or IC_NONE. */
+/* Returns the member after the member `at`, or IC_NONE if there is none. */
 static inline uint32_t ic_list32_next(const struct ic_link2_32 *table, ic_length places, uint32_t at) {
     return ic_list32_is_linked(table, places, at) ? ic_place_within(places, table[at].next) : IC_NONE;
 }
 
-/* Returns the member before the member `at`, or IC_NONE. */
+/* Returns the member before the member `at`, or IC_NONE if there is none. */
 static inline uint32_t ic_list32_prev(const struct ic_link2_32 *table, ic_length places, uint32_t at) {
     return ic_list32_is_linked(table, places, at) ? ic_place_within(places, table[at].prev) : IC_NONE;
 }
@@ -763,8 +774,8 @@ static inline int ic_list32_is_singular(const struct ic_link2_32 *table, ic_leng
     return ic_list32_is_first(table, places, list, ic_list32_last(list));
 }
 
-/* These loops go from the first member to the last, and back. `next` is the member after `place`, and `prev` is the member before it. Beyond an end
- * of the list, `next` and `prev` are IC_NONE.
+/* The IC_LIST32_FOREACH loops go from the first member to the last, and those with REVERSE in the name from the last to the first. `next` is the member
+ * after `place`, or IC_NONE at the last member. `prev` is the member before `place`, or IC_NONE at the first member.
  *
  *     IC_LIST32_FOREACH_SAFE(place, next, links, 100, &list)
  *         if (is_done(place))
@@ -807,17 +818,18 @@ static inline int ic_list32_is_singular(const struct ic_link2_32 *table, ic_leng
 
 /* ---- Rings: 16 bytes a place, calls O(1) except to check and sort -----------------------------------------------------------------------
  *
- * A ring is a doubly linked list whose head is a place of the table. The head and the members of a ring form a circle. To remove a member, or to
- * insert a place beside a member, you do not name the ring. So rings are good if the code that removes an object does not know which queue has the
- * object. Rings are like the lists of Linux (list.h). Rings and lists may be in one table. For the heads of rings, take places that have no object.
+ * A ring is a doubly linked list that you name by its head, which is a place of the table and no member. The head and the members of a ring form a
+ * circle. To remove a member, or to insert a place beside a member, you do not name the ring. So rings are good if the code that removes an object
+ * does not know which queue has the object. Rings are like the lists of Linux (list.h). Rings and lists may be in one table. Use places without an
+ * object as the heads of rings.
  *
  *     struct ic_link2 links[65] = {0};               // 64 objects, and a head at 64
  *     status = ic_ring_init(links, 65, 64);          // a ring with no members
  *     status = ic_ring_push_back(links, 65, 64, 7);
  *     status = ic_ring_remove(links, 65, 7);         // from whichever ring it is in
  *
- * Each call tests the places that it writes, and the places beside them. A member in the middle of a doubly linked list passes these tests, too, and
- * a call treats such a member as a member of a ring, which does no harm. No call can tell whether two places are in one ring or in two.
+ * Each call tests the links of the places that you name and of their neighbors. A member in the middle of a doubly linked list passes these tests,
+ * too, and a call treats such a member as a member of a ring, which does no harm. No call can detect whether two places are in one ring or in two.
  */
 
 /* ---- Rings: functions for links of 8-byte and of 4-byte words ---- */
@@ -827,12 +839,13 @@ static inline int ic_ring_is_linked(const struct ic_link2 *table, ic_length plac
     return place < ic_bound(places) && (table[place].next & 1);
 }
 
-/* Returns the place after the place `at` of a ring, or IC_NONE. After a head comes the first member, and after the last member comes the head. */
+/* Returns the place after the place `at` of a ring, or IC_NONE if `at` is not linked. After a head comes the first member, and after the last
+ * member comes the head. */
 static inline uint32_t ic_ring_next(const struct ic_link2 *table, ic_length places, uint32_t at) {
     return ic_ring_is_linked(table, places, at) ? ic_place_within(places, table[at].next) : IC_NONE;
 }
 
-/* Returns the place before the place `at` of a ring, or IC_NONE. */
+/* Returns the place before the place `at` of a ring, or IC_NONE if `at` is not linked. */
 static inline uint32_t ic_ring_prev(const struct ic_link2 *table, ic_length places, uint32_t at) {
     return ic_ring_is_linked(table, places, at) ? ic_place_within(places, table[at].prev) : IC_NONE;
 }
@@ -869,7 +882,9 @@ static inline int ic_ring_is_singular(const struct ic_link2 *table, ic_length pl
     return ic_ring_is_first(table, places, head, ic_ring_back(table, places, head));
 }
 
-/* The IC_RING_FOREACH loops go from the first member of a ring to the last, and back. You name the ring by its head. */
+/* The IC_RING_FOREACH loops go from the first member of the ring with the head `head` to the last, and those with REVERSE in the name from the
+ * last to the first. `next` is the place after `place`, or the head if `place` is the last member. `prev` is the place before `place`, or the head
+ * if `place` is the first member. */
 #define IC_RING_FOREACH(place, table, places, head)                                                                                   \
     IC_LOOP(place, ic_ring_next(table, places, head), places, place != (head) && ic_ring_is_linked(table, places, place),             \
             ic_ring_next(table, places, place))
@@ -907,7 +922,7 @@ static inline int ic_ring_is_singular(const struct ic_link2 *table, ic_length pl
     IC_LOOP_ENTRY_SAFE(object, objects, ic_at_##object, ic_next_##object, at, places, \
                        ic_at_##object != (head) && ic_ring_is_linked(table, places, ic_at_##object), ic_ring_next(table, places, ic_at_##object))
 
-/* tools/c-calls --write writes from here: ring ring-check */
+/* Made by tools/c-calls --write: ring ring-check */
 
 /* Makes `head` the head of a ring with no members, as INIT_LIST_HEAD of Linux does, in O(1).
  * IC_OUT_OF_RANGE: `head` is not below `places`. IC_LINKED: `head` is linked already. */
@@ -915,61 +930,61 @@ IC_NODISCARD
 uint32_t ic_ring_init(struct ic_link2 *table, ic_length places, uint32_t head);
 
 /* Inserts `place` after the place `at` of a ring, as list_add of Linux does, in O(1). If `at` is a head, `place` becomes the first member.
- * IC_NULL: the place `at` is IC_NONE. IC_OUT_OF_RANGE: `at` or `place` is not below `places`. IC_LINKED: `place` is linked already, also if
- * `at` and `place` are the same. IC_NOT_LINKED: the place `at` is not linked. IC_BROKEN: `at` is in no ring. */
+ * IC_NULL: the place `at` is IC_NONE. IC_OUT_OF_RANGE: `at` or `place` is not below `places`. IC_LINKED: `place` is linked already, or is
+ * `at` itself. IC_NOT_LINKED: the place `at` is not linked. IC_BROKEN: `at` is in no ring. */
 IC_NODISCARD
 uint32_t ic_ring_insert_after(struct ic_link2 *table, ic_length places, uint32_t at, uint32_t place);
 
 /* Inserts `place` before the place `at` of a ring, as list_add_tail of Linux does, in O(1). If `at` is a head, `place` becomes the last
  * member.
- * IC_NULL: the place `at` is IC_NONE. IC_OUT_OF_RANGE: `at` or `place` is not below `places`. IC_LINKED: `place` is linked already, also if
- * `at` and `place` are the same. IC_NOT_LINKED: the place `at` is not linked. IC_BROKEN: `at` is in no ring. */
+ * IC_NULL: the place `at` is IC_NONE. IC_OUT_OF_RANGE: `at` or `place` is not below `places`. IC_LINKED: `place` is linked already, or is
+ * `at` itself. IC_NOT_LINKED: the place `at` is not linked. IC_BROKEN: `at` is in no ring. */
 IC_NODISCARD
 uint32_t ic_ring_insert_before(struct ic_link2 *table, ic_length places, uint32_t at, uint32_t place);
 
-/* Removes `place` from its ring, whichever ring that is, as list_del of Linux does, in O(1). If `place` is a head without members, its ring
- * no longer exists.
+/* Removes `place` from its ring, which you do not name, as list_del of Linux does, in O(1). If `place` is a head without members, the ring
+ * no longer exists after the call.
  * IC_NULL: `place` is IC_NONE. IC_OUT_OF_RANGE: `place` is not below `places`. IC_NOT_LINKED: `place` is not linked. IC_BROKEN: `place` is
  * in no ring. */
 IC_NODISCARD
 uint32_t ic_ring_remove(struct ic_link2 *table, ic_length places, uint32_t place);
 
-/* Exchanges the place that follows `one` and the place that follows `other`, in O(1). Both `one` and `other` are in rings. If `one` and
- * `other` are in two rings, the call joins the rings. If they are different places of one ring, it splits that ring into two. If you repeat
- * the call, you undo it. If `one` is the last member of a ring and `other` the head of another one, all members of the second ring, and
- * then its head, come after `one`.
+/* Makes the place after `one` follow `other`, and the place after `other` follow `one`, in O(1). `one` and `other` must be in rings. If
+ * `one` and `other` are in two rings, the call joins the rings. If `one` and `other` are different places of one ring, the call splits this
+ * ring into two. A second call with the same places undoes the first call. If `one` is the last member of a ring, and `other` is the head
+ * of another ring, all members of the other ring then follow `one`, and `other` follows these members.
  * IC_NULL: `one` or `other` is IC_NONE. IC_OUT_OF_RANGE: `one` or `other` is not below `places`. IC_NOT_LINKED: `one` or `other` is not
  * linked. IC_BROKEN: `one` or `other` is in no ring. */
 IC_NODISCARD
 uint32_t ic_ring_exchange(struct ic_link2 *table, ic_length places, uint32_t one, uint32_t other);
 
 /* Removes the first member of the ring with the head `head`, and sets *popped to it, in O(1).
- * IC_NULL: `head` is IC_NONE, or `head` has no members. IC_OUT_OF_RANGE: `head` is not below `places`. IC_NOT_LINKED: `head` is not linked.
- * IC_BROKEN: `head` or its first member is in no ring. */
+ * IC_NULL: `head` is IC_NONE, or the ring has no members. IC_OUT_OF_RANGE: `head` is not below `places`. IC_NOT_LINKED: `head` is not
+ * linked. IC_BROKEN: `head` or its first member is in no ring. */
 IC_NODISCARD
 uint32_t ic_ring_pop_front(struct ic_link2 *table, ic_length places, uint32_t head, uint32_t *popped);
 
 /* Removes the last member of the ring with the head `head`, and sets *popped to it, in O(1).
- * IC_NULL: `head` is IC_NONE, or `head` has no members. IC_OUT_OF_RANGE: `head` is not below `places`. IC_NOT_LINKED: `head` is not linked.
- * IC_BROKEN: `head` or its last member is in no ring. */
+ * IC_NULL: `head` is IC_NONE, or the ring has no members. IC_OUT_OF_RANGE: `head` is not below `places`. IC_NOT_LINKED: `head` is not
+ * linked. IC_BROKEN: `head` or its last member is in no ring. */
 IC_NODISCARD
 uint32_t ic_ring_pop_back(struct ic_link2 *table, ic_length places, uint32_t head, uint32_t *popped);
 
 /* Removes the place `at` from its ring, and inserts `place` where it was, as list_replace of Linux does, in O(1).
- * IC_NULL: the place `at` is IC_NONE. IC_OUT_OF_RANGE: `at` or `place` is not below `places`. IC_LINKED: `place` is linked already, also if
- * `at` and `place` are the same. IC_NOT_LINKED: the place `at` is not linked. IC_BROKEN: `at` is in no ring. */
+ * IC_NULL: the place `at` is IC_NONE. IC_OUT_OF_RANGE: `at` or `place` is not below `places`. IC_LINKED: `place` is linked already, or is
+ * `at` itself. IC_NOT_LINKED: the place `at` is not linked. IC_BROKEN: `at` is in no ring. */
 IC_NODISCARD
 uint32_t ic_ring_replace(struct ic_link2 *table, ic_length places, uint32_t at, uint32_t place);
 
-/* Moves `place`, from whichever ring it is in, after the place `at` of a ring, as list_move of Linux does, in O(1). If `at` is a head,
- * `place` becomes the first member. The place stays linked, and nothing changes if `at` and `place` are the same.
+/* Moves `place` after the place `at` of the same ring or of another ring, as list_move of Linux does, in O(1). If `at` is a head, `place`
+ * becomes the first member. `place` stays linked during the call. Nothing changes if `at` and `place` are the same.
  * IC_NULL: `at` or `place` is IC_NONE. IC_OUT_OF_RANGE: `at` or `place` is not below `places`. IC_NOT_LINKED: `at` or `place` is not
  * linked. IC_BROKEN: `at` or `place` is in no ring. */
 IC_NODISCARD
 uint32_t ic_ring_move_after(struct ic_link2 *table, ic_length places, uint32_t at, uint32_t place);
 
-/* Moves `place`, from whichever ring it is in, before the place `at` of a ring, as list_move_tail of Linux does, in O(1). If `at` is a
- * head, `place` becomes the last member. The place stays linked, and nothing changes if `at` and `place` are the same.
+/* Moves `place` before the place `at` of the same ring or of another ring, as list_move_tail of Linux does, in O(1). If `at` is a head,
+ * `place` becomes the last member. `place` stays linked during the call. Nothing changes if `at` and `place` are the same.
  * IC_NULL: `at` or `place` is IC_NONE. IC_OUT_OF_RANGE: `at` or `place` is not below `places`. IC_NOT_LINKED: `at` or `place` is not
  * linked. IC_BROKEN: `at` or `place` is in no ring. */
 IC_NODISCARD
@@ -978,19 +993,19 @@ uint32_t ic_ring_move_before(struct ic_link2 *table, ic_length places, uint32_t 
 /* Moves all members of the ring with the head `head`, in their order, after the place `at` of another ring, as list_splice_init of Linux
  * does, in O(1). Afterwards `head` is the head of a ring with no members.
  * IC_NULL: `at` or `head` is IC_NONE. IC_OUT_OF_RANGE: `at` or `head` is not below `places`. IC_NOT_LINKED: `at` or `head` is not linked.
- * IC_BROKEN: `at` or `head` is in no ring, or `at` is `head` itself or its last member. */
+ * IC_BROKEN: `at` or `head` is in no ring, or `at` is `head` or the last member of the ring with the head `head`. */
 IC_NODISCARD
 uint32_t ic_ring_splice_after(struct ic_link2 *table, ic_length places, uint32_t at, uint32_t head);
 
 /* Moves all members of the ring with the head `head`, in their order, before the place `at` of another ring, as list_splice_tail_init of
  * Linux does, in O(1). Afterwards `head` is the head of a ring with no members.
  * IC_NULL: `at` or `head` is IC_NONE. IC_OUT_OF_RANGE: `at` or `head` is not below `places`. IC_NOT_LINKED: `at` or `head` is not linked.
- * IC_BROKEN: `at` or `head` is in no ring, or `at` is `head` itself or its first member. */
+ * IC_BROKEN: `at` or `head` is in no ring, or `at` is `head` or the first member of the ring with the head `head`. */
 IC_NODISCARD
 uint32_t ic_ring_splice_before(struct ic_link2 *table, ic_length places, uint32_t at, uint32_t head);
 
-/* Counts the members of the ring with the head `head`, and sets *members to how many there are, in O(n). Call it if the words come from a
- * file, or from memory that others write. If the status is IC_OK, every other call on this ring does what the comment of that call says.
+/* Counts the members of the ring with the head `head`, and sets *members to how many there are, in O(n). Make this call if the words come
+ * from a file, or from memory that others write. If the status is IC_OK, every other call on this ring does what its own comment says.
  * IC_NULL: `head` is IC_NONE. IC_OUT_OF_RANGE: `head` is not below `places`. IC_NOT_LINKED: `head` is not linked. IC_BROKEN: the links do
  * not lead from `head` around a ring and back to `head`, or the links of two neighbors do not name each other. */
 IC_NODISCARD
@@ -998,21 +1013,22 @@ uint32_t ic_ring_check(const struct ic_link2 *table, ic_length places, uint32_t 
 
 /* to here */
 
-/* ic_ring_push_front and ic_ring_push_back have the names that lists have for an insertion at an end. */
+/* The next two functions insert a member at an end of a ring, and have the names that the same calls of lists have. */
 
-/* Inserts `place` as the first member of the ring with the head `head`, and returns what ic_ring_insert_after returns. */
+/* Inserts `place` as the first member of the ring with the head `head`, and returns the status of ic_ring_insert_after. */
 IC_NODISCARD
 static inline uint32_t ic_ring_push_front(struct ic_link2 *table, ic_length places, uint32_t head, uint32_t place) {
     return ic_ring_insert_after(table, places, head, place);
 }
 
-/* Inserts `place` as the last member of the ring with the head `head`, and returns what ic_ring_insert_before returns. */
+/* Inserts `place` as the last member of the ring with the head `head`, and returns the status of ic_ring_insert_before. */
 IC_NODISCARD
 static inline uint32_t ic_ring_push_back(struct ic_link2 *table, ic_length places, uint32_t head, uint32_t place) {
     return ic_ring_insert_before(table, places, head, place);
 }
 
-/* Each of the following edits makes two calls. The edit first tests the links that its second call tests, so a refused edit has changed nothing. */
+/* Each of the functions ic_ring_swap, ic_ring_move_range_after and ic_ring_move_range_before makes two calls. Before the first call, the function
+ * also tests the links that the second call tests, so a refused edit has changed nothing. */
 
 /* Returns whether `after` is the place after `before` in a ring, and the link of `after` names `before`. */
 static inline int ic_ring_is_gap(const struct ic_link2 *table, ic_length places, uint32_t before, uint32_t after) {
@@ -1035,12 +1051,12 @@ static inline uint32_t ic_ring_swap(struct ic_link2 *table, ic_length places, ui
     return status == IC_OK ? ic_ring_exchange(table, places, one, other) : status;
 }
 
-/* Moves the places from `first` to `last` of a ring, in their order, after the place `at` of any ring, in O(1). With this call you can move the first
- * members of the ring with the head `head`, up to `entry`, to the ring with the head `list`, as list_cut_position(list, head, entry) of Linux does.
- * Nothing changes if the places already follow `at`, or if `at` is `last`. The call can't detect if `at` is between `first` and `last`, or if `last`
- * comes before `first`. In both cases the call leaves places in circles without a head.
- * IC_NULL: `at`, `first` or `last` is IC_NONE. IC_OUT_OF_RANGE: one of them is not below `places`. IC_NOT_LINKED: one of them is not
- * linked. IC_BROKEN: one of them is in no ring, or `at` is `first`, and `last` is another place. */
+/* Moves the places from `first` to `last` of a ring, in their order, after the place `at` of any ring, in O(1). If `first` is the first member of a
+ * ring, and `at` is the head of another ring, the members from `first` to `last` become the first members of this other ring, as with
+ * list_cut_position of Linux. Nothing changes if the places are already right after `at`, or if `at` is `last`. If `at` is between `first` and
+ * `last`, or if `last` comes before `first`, the call can't detect this, and leaves places in circles without a head.
+ * IC_NULL: `at`, `first` or `last` is IC_NONE. IC_OUT_OF_RANGE: `at`, `first` or `last` is not below `places`. IC_NOT_LINKED: `at`, `first` or
+ * `last` is not linked. IC_BROKEN: `at`, `first` or `last` is in no ring, or `at` is `first`, and `last` is another place. */
 IC_NODISCARD
 static inline uint32_t ic_ring_move_range_after(struct ic_link2 *table, ic_length places, uint32_t at, uint32_t first, uint32_t last) {
     const uint32_t before_first = ic_ring_prev(table, places, first);
@@ -1059,9 +1075,10 @@ static inline uint32_t ic_ring_move_range_after(struct ic_link2 *table, ic_lengt
 
 /* Moves the places from `first` to `last` of a ring, in their order, before the place `at` of any ring, in O(1). If `at` is a head, the places become
  * the last members of its ring, as with list_bulk_move_tail of Linux. Nothing changes if the places are already right before `at`, or if `at` is
- * `first`. The call can't detect the wrong ranges that ic_ring_move_range_after can't detect.
- * IC_NULL: `at`, `first` or `last` is IC_NONE. IC_OUT_OF_RANGE: one of them is not below `places`. IC_NOT_LINKED: one of them is not
- * linked. IC_BROKEN: one of them is in no ring, or `at` is `last`, and `first` is another place. */
+ * `first`. If `at` is between `first` and `last`, or if `last` comes before `first`, the call can't detect this, and leaves places in circles without
+ * a head.
+ * IC_NULL: `at`, `first` or `last` is IC_NONE. IC_OUT_OF_RANGE: `at`, `first` or `last` is not below `places`. IC_NOT_LINKED: `at`, `first` or
+ * `last` is not linked. IC_BROKEN: `at`, `first` or `last` is in no ring, or `at` is `last`, and `first` is another place. */
 IC_NODISCARD
 static inline uint32_t ic_ring_move_range_before(struct ic_link2 *table, ic_length places, uint32_t at, uint32_t first, uint32_t last) {
     const uint32_t before_at = ic_ring_prev(table, places, at);
@@ -1076,11 +1093,12 @@ static inline uint32_t ic_ring_move_range_before(struct ic_link2 *table, ic_leng
 
 /* ---- Rings by keys ----
  *
- * The keys are numbers, of which the least comes first, and there is one for each place, as for lists. A sort and a merge check the rings before they
- * change anything, so neither is refused when it is half done. A sort is recursive, to a depth of at most 33 calls.
+ * A key is a number, and a smaller key comes before a greater one. The key of `place` is keys[place], so there must be a key for each place. A sort
+ * and a merge check the rings before they change anything, so a refused call has changed nothing. A sort is recursive, to a depth of at most 33
+ * calls.
  */
 
-/* tools/c-calls --write writes from here: ring-keys */
+/* Made by tools/c-calls --write: ring-keys */
 
 /* Sorts the members of the ring with the head `head` by their keys, as list_sort of Linux does, in O(n log n). Members with equal keys keep
  * their order.
@@ -1090,9 +1108,9 @@ static inline uint32_t ic_ring_move_range_before(struct ic_link2 *table, ic_leng
 IC_NODISCARD
 uint32_t ic_ring_sort(struct ic_link2 *table, ic_length places, const uint64_t *keys, ic_length key_count, uint32_t head);
 
-/* Moves all members of the ring with the head `given` to where their keys belong among those of the ring with the head `head`, if both
- * rings are in the order of their keys, in O(n). Of members with equal keys, those of `head` come first. Afterwards `given` is the head of
- * a ring with no members.
+/* Moves all members of the ring with the head `given` into the ring with the head `head`, which the call leaves sorted by keys if both
+ * rings were sorted by keys, in O(n). Of members with equal keys, those that were in the ring with the head `head` come first. Afterwards
+ * `given` is the head of a ring with no members.
  * IC_NULL: `head` or `given` is IC_NONE. IC_OUT_OF_RANGE: there are fewer keys than places, or `head` or `given` is not below `places`.
  * IC_NOT_LINKED: `head` or `given` is not linked. IC_BROKEN: the links do not lead from `head` or from `given` around a ring and back to
  * the same place, or the links of two neighbors do not name each other, or `head` and `given` are in one ring. */
@@ -1103,8 +1121,9 @@ uint32_t ic_ring_merge(struct ic_link2 *table, ic_length places, const uint64_t 
 
 /* ---- Rings with words of 4 bytes: 8 bytes a place, calls O(1) ----------------------------------------------------------------------------
  *
- * Rings with words of 4 bytes take half the memory for their links, which are the same as in lists with words of 4 bytes. Rings and lists with words
- * of 4 bytes may be in one table. Each call, read and loop does what the call, read or loop without the 32 in its name does.
+ * Rings with words of 4 bytes take half the memory of rings with words of 8 bytes. Their links are struct ic_link2_32, as for lists with words of 4
+ * bytes. Rings and lists with words of 4 bytes may be in one table. Each call, read and loop does the same as the call, read or loop without 32 in
+ * its name.
  *
  *     struct ic_link2_32 links[65] = {0};             // 64 objects, and a head at 64
  *     status = ic_ring32_init(links, 65, 64);         // a ring with no members
@@ -1112,7 +1131,7 @@ uint32_t ic_ring_merge(struct ic_link2 *table, ic_length places, const uint64_t 
  *     status = ic_ring32_remove(links, 65, 7);        // from whichever ring it is in
  */
 
-/* tools/c-calls --write writes from here: ring32 */
+/* Made by tools/c-calls --write: ring32 */
 
 /* Makes `head` the head of a ring with no members, as INIT_LIST_HEAD of Linux does, in O(1).
  * IC_OUT_OF_RANGE: `head` is not below `places`, or is 536,870,911 or more. IC_LINKED: `head` is linked already. */
@@ -1121,60 +1140,60 @@ uint32_t ic_ring32_init(struct ic_link2_32 *table, ic_length places, uint32_t he
 
 /* Inserts `place` after the place `at` of a ring, as list_add of Linux does, in O(1). If `at` is a head, `place` becomes the first member.
  * IC_NULL: the place `at` is IC_NONE. IC_OUT_OF_RANGE: `at` or `place` is not below `places`, or is 536,870,911 or more. IC_LINKED: `place`
- * is linked already, also if `at` and `place` are the same. IC_NOT_LINKED: the place `at` is not linked. IC_BROKEN: `at` is in no ring. */
+ * is linked already, or is `at` itself. IC_NOT_LINKED: the place `at` is not linked. IC_BROKEN: `at` is in no ring. */
 IC_NODISCARD
 uint32_t ic_ring32_insert_after(struct ic_link2_32 *table, ic_length places, uint32_t at, uint32_t place);
 
 /* Inserts `place` before the place `at` of a ring, as list_add_tail of Linux does, in O(1). If `at` is a head, `place` becomes the last
  * member.
  * IC_NULL: the place `at` is IC_NONE. IC_OUT_OF_RANGE: `at` or `place` is not below `places`, or is 536,870,911 or more. IC_LINKED: `place`
- * is linked already, also if `at` and `place` are the same. IC_NOT_LINKED: the place `at` is not linked. IC_BROKEN: `at` is in no ring. */
+ * is linked already, or is `at` itself. IC_NOT_LINKED: the place `at` is not linked. IC_BROKEN: `at` is in no ring. */
 IC_NODISCARD
 uint32_t ic_ring32_insert_before(struct ic_link2_32 *table, ic_length places, uint32_t at, uint32_t place);
 
-/* Removes `place` from its ring, whichever ring that is, as list_del of Linux does, in O(1). If `place` is a head without members, its ring
- * no longer exists.
+/* Removes `place` from its ring, which you do not name, as list_del of Linux does, in O(1). If `place` is a head without members, the ring
+ * no longer exists after the call.
  * IC_NULL: `place` is IC_NONE. IC_OUT_OF_RANGE: `place` is not below `places`, or is 536,870,911 or more. IC_NOT_LINKED: `place` is not
  * linked. IC_BROKEN: `place` is in no ring. */
 IC_NODISCARD
 uint32_t ic_ring32_remove(struct ic_link2_32 *table, ic_length places, uint32_t place);
 
-/* Exchanges the place that follows `one` and the place that follows `other`, in O(1). Both `one` and `other` are in rings. If `one` and
- * `other` are in two rings, the call joins the rings. If they are different places of one ring, it splits that ring into two. If you repeat
- * the call, you undo it. If `one` is the last member of a ring and `other` the head of another one, all members of the second ring, and
- * then its head, come after `one`.
+/* Makes the place after `one` follow `other`, and the place after `other` follow `one`, in O(1). `one` and `other` must be in rings. If
+ * `one` and `other` are in two rings, the call joins the rings. If `one` and `other` are different places of one ring, the call splits this
+ * ring into two. A second call with the same places undoes the first call. If `one` is the last member of a ring, and `other` is the head
+ * of another ring, all members of the other ring then follow `one`, and `other` follows these members.
  * IC_NULL: `one` or `other` is IC_NONE. IC_OUT_OF_RANGE: `one` or `other` is not below `places`, or is 536,870,911 or more. IC_NOT_LINKED:
  * `one` or `other` is not linked. IC_BROKEN: `one` or `other` is in no ring. */
 IC_NODISCARD
 uint32_t ic_ring32_exchange(struct ic_link2_32 *table, ic_length places, uint32_t one, uint32_t other);
 
 /* Removes the first member of the ring with the head `head`, and sets *popped to it, in O(1).
- * IC_NULL: `head` is IC_NONE, or `head` has no members. IC_OUT_OF_RANGE: `head` is not below `places`, or is 536,870,911 or more.
+ * IC_NULL: `head` is IC_NONE, or the ring has no members. IC_OUT_OF_RANGE: `head` is not below `places`, or is 536,870,911 or more.
  * IC_NOT_LINKED: `head` is not linked. IC_BROKEN: `head` or its first member is in no ring. */
 IC_NODISCARD
 uint32_t ic_ring32_pop_front(struct ic_link2_32 *table, ic_length places, uint32_t head, uint32_t *popped);
 
 /* Removes the last member of the ring with the head `head`, and sets *popped to it, in O(1).
- * IC_NULL: `head` is IC_NONE, or `head` has no members. IC_OUT_OF_RANGE: `head` is not below `places`, or is 536,870,911 or more.
+ * IC_NULL: `head` is IC_NONE, or the ring has no members. IC_OUT_OF_RANGE: `head` is not below `places`, or is 536,870,911 or more.
  * IC_NOT_LINKED: `head` is not linked. IC_BROKEN: `head` or its last member is in no ring. */
 IC_NODISCARD
 uint32_t ic_ring32_pop_back(struct ic_link2_32 *table, ic_length places, uint32_t head, uint32_t *popped);
 
 /* Removes the place `at` from its ring, and inserts `place` where it was, as list_replace of Linux does, in O(1).
  * IC_NULL: the place `at` is IC_NONE. IC_OUT_OF_RANGE: `at` or `place` is not below `places`, or is 536,870,911 or more. IC_LINKED: `place`
- * is linked already, also if `at` and `place` are the same. IC_NOT_LINKED: the place `at` is not linked. IC_BROKEN: `at` is in no ring. */
+ * is linked already, or is `at` itself. IC_NOT_LINKED: the place `at` is not linked. IC_BROKEN: `at` is in no ring. */
 IC_NODISCARD
 uint32_t ic_ring32_replace(struct ic_link2_32 *table, ic_length places, uint32_t at, uint32_t place);
 
-/* Moves `place`, from whichever ring it is in, after the place `at` of a ring, as list_move of Linux does, in O(1). If `at` is a head,
- * `place` becomes the first member. The place stays linked, and nothing changes if `at` and `place` are the same.
+/* Moves `place` after the place `at` of the same ring or of another ring, as list_move of Linux does, in O(1). If `at` is a head, `place`
+ * becomes the first member. `place` stays linked during the call. Nothing changes if `at` and `place` are the same.
  * IC_NULL: `at` or `place` is IC_NONE. IC_OUT_OF_RANGE: `at` or `place` is not below `places`, or is 536,870,911 or more. IC_NOT_LINKED:
  * `at` or `place` is not linked. IC_BROKEN: `at` or `place` is in no ring. */
 IC_NODISCARD
 uint32_t ic_ring32_move_after(struct ic_link2_32 *table, ic_length places, uint32_t at, uint32_t place);
 
-/* Moves `place`, from whichever ring it is in, before the place `at` of a ring, as list_move_tail of Linux does, in O(1). If `at` is a
- * head, `place` becomes the last member. The place stays linked, and nothing changes if `at` and `place` are the same.
+/* Moves `place` before the place `at` of the same ring or of another ring, as list_move_tail of Linux does, in O(1). If `at` is a head,
+ * `place` becomes the last member. `place` stays linked during the call. Nothing changes if `at` and `place` are the same.
  * IC_NULL: `at` or `place` is IC_NONE. IC_OUT_OF_RANGE: `at` or `place` is not below `places`, or is 536,870,911 or more. IC_NOT_LINKED:
  * `at` or `place` is not linked. IC_BROKEN: `at` or `place` is in no ring. */
 IC_NODISCARD
@@ -1183,32 +1202,33 @@ uint32_t ic_ring32_move_before(struct ic_link2_32 *table, ic_length places, uint
 /* Moves all members of the ring with the head `head`, in their order, after the place `at` of another ring, as list_splice_init of Linux
  * does, in O(1). Afterwards `head` is the head of a ring with no members.
  * IC_NULL: `at` or `head` is IC_NONE. IC_OUT_OF_RANGE: `at` or `head` is not below `places`, or is 536,870,911 or more. IC_NOT_LINKED: `at`
- * or `head` is not linked. IC_BROKEN: `at` or `head` is in no ring, or `at` is `head` itself or its last member. */
+ * or `head` is not linked. IC_BROKEN: `at` or `head` is in no ring, or `at` is `head` or the last member of the ring with the head `head`. */
 IC_NODISCARD
 uint32_t ic_ring32_splice_after(struct ic_link2_32 *table, ic_length places, uint32_t at, uint32_t head);
 
 /* Moves all members of the ring with the head `head`, in their order, before the place `at` of another ring, as list_splice_tail_init of
  * Linux does, in O(1). Afterwards `head` is the head of a ring with no members.
  * IC_NULL: `at` or `head` is IC_NONE. IC_OUT_OF_RANGE: `at` or `head` is not below `places`, or is 536,870,911 or more. IC_NOT_LINKED: `at`
- * or `head` is not linked. IC_BROKEN: `at` or `head` is in no ring, or `at` is `head` itself or its first member. */
+ * or `head` is not linked. IC_BROKEN: `at` or `head` is in no ring, or `at` is `head` or the first member of the ring with the head `head`. */
 IC_NODISCARD
 uint32_t ic_ring32_splice_before(struct ic_link2_32 *table, ic_length places, uint32_t at, uint32_t head);
 
 /* to here */
 
-/* tools/c-calls --write writes from here, of ring: ring32 */
+/* Made by tools/c-calls --write of ring: ring32 */
 
 /* Returns whether a place is in a ring or a list of the table. */
 static inline int ic_ring32_is_linked(const struct ic_link2_32 *table, ic_length places, uint32_t place) {
     return place < ic_bound(ic_places_32(places)) && (table[place].next & 1);
 }
 
-/* Returns the place after the place `at` of a ring, or IC_NONE. After a head comes the first member, and after the last member comes the head. */
+/* Returns the place after the place `at` of a ring, or IC_NONE if `at` is not linked. After a head comes the first member, and after the last
+ * member comes the head. */
 static inline uint32_t ic_ring32_next(const struct ic_link2_32 *table, ic_length places, uint32_t at) {
     return ic_ring32_is_linked(table, places, at) ? ic_place_within(places, table[at].next) : IC_NONE;
 }
 
-/* Returns the place before the place `at` of a ring, or IC_NONE. */
+/* Returns the place before the place `at` of a ring, or IC_NONE if `at` is not linked. */
 static inline uint32_t ic_ring32_prev(const struct ic_link2_32 *table, ic_length places, uint32_t at) {
     return ic_ring32_is_linked(table, places, at) ? ic_place_within(places, table[at].prev) : IC_NONE;
 }
@@ -1245,7 +1265,9 @@ static inline int ic_ring32_is_singular(const struct ic_link2_32 *table, ic_leng
     return ic_ring32_is_first(table, places, head, ic_ring32_back(table, places, head));
 }
 
-/* The IC_RING32_FOREACH loops go from the first member of a ring to the last, and back. You name the ring by its head. */
+/* The IC_RING32_FOREACH loops go from the first member of the ring with the head `head` to the last, and those with REVERSE in the name from the
+ * last to the first. `next` is the place after `place`, or the head if `place` is the last member. `prev` is the place before `place`, or the head
+ * if `place` is the first member. */
 #define IC_RING32_FOREACH(place, table, places, head)                                                                         \
     IC_LOOP(place, ic_ring32_next(table, places, head), places, place != (head) && ic_ring32_is_linked(table, places, place), \
             ic_ring32_next(table, places, place))
@@ -1283,21 +1305,22 @@ static inline int ic_ring32_is_singular(const struct ic_link2_32 *table, ic_leng
     IC_LOOP_ENTRY_SAFE(object, objects, ic_at_##object, ic_next_##object, at, places, \
                        ic_at_##object != (head) && ic_ring32_is_linked(table, places, ic_at_##object), ic_ring32_next(table, places, ic_at_##object))
 
-/* ic_ring32_push_front and ic_ring32_push_back have the names that lists have for an insertion at an end. */
+/* The next two functions insert a member at an end of a ring, and have the names that the same calls of lists have. */
 
-/* Inserts `place` as the first member of the ring with the head `head`, and returns what ic_ring32_insert_after returns. */
+/* Inserts `place` as the first member of the ring with the head `head`, and returns the status of ic_ring32_insert_after. */
 IC_NODISCARD
 static inline uint32_t ic_ring32_push_front(struct ic_link2_32 *table, ic_length places, uint32_t head, uint32_t place) {
     return ic_ring32_insert_after(table, places, head, place);
 }
 
-/* Inserts `place` as the last member of the ring with the head `head`, and returns what ic_ring32_insert_before returns. */
+/* Inserts `place` as the last member of the ring with the head `head`, and returns the status of ic_ring32_insert_before. */
 IC_NODISCARD
 static inline uint32_t ic_ring32_push_back(struct ic_link2_32 *table, ic_length places, uint32_t head, uint32_t place) {
     return ic_ring32_insert_before(table, places, head, place);
 }
 
-/* Each of the following edits makes two calls. The edit first tests the links that its second call tests, so a refused edit has changed nothing. */
+/* Each of the functions ic_ring32_swap, ic_ring32_move_range_after and ic_ring32_move_range_before makes two calls. Before the first call, the function
+ * also tests the links that the second call tests, so a refused edit has changed nothing. */
 
 /* Returns whether `after` is the place after `before` in a ring, and the link of `after` names `before`. */
 static inline int ic_ring32_is_gap(const struct ic_link2_32 *table, ic_length places, uint32_t before, uint32_t after) {
@@ -1320,12 +1343,12 @@ static inline uint32_t ic_ring32_swap(struct ic_link2_32 *table, ic_length place
     return status == IC_OK ? ic_ring32_exchange(table, places, one, other) : status;
 }
 
-/* Moves the places from `first` to `last` of a ring, in their order, after the place `at` of any ring, in O(1). With this call you can move the first
- * members of the ring with the head `head`, up to `entry`, to the ring with the head `list`, as list_cut_position(list, head, entry) of Linux does.
- * Nothing changes if the places already follow `at`, or if `at` is `last`. The call can't detect if `at` is between `first` and `last`, or if `last`
- * comes before `first`. In both cases the call leaves places in circles without a head.
- * IC_NULL: `at`, `first` or `last` is IC_NONE. IC_OUT_OF_RANGE: one of them is not below `places`. IC_NOT_LINKED: one of them is not
- * linked. IC_BROKEN: one of them is in no ring, or `at` is `first`, and `last` is another place. */
+/* Moves the places from `first` to `last` of a ring, in their order, after the place `at` of any ring, in O(1). If `first` is the first member of a
+ * ring, and `at` is the head of another ring, the members from `first` to `last` become the first members of this other ring, as with
+ * list_cut_position of Linux. Nothing changes if the places are already right after `at`, or if `at` is `last`. If `at` is between `first` and
+ * `last`, or if `last` comes before `first`, the call can't detect this, and leaves places in circles without a head.
+ * IC_NULL: `at`, `first` or `last` is IC_NONE. IC_OUT_OF_RANGE: `at`, `first` or `last` is not below `places`. IC_NOT_LINKED: `at`, `first` or
+ * `last` is not linked. IC_BROKEN: `at`, `first` or `last` is in no ring, or `at` is `first`, and `last` is another place. */
 IC_NODISCARD
 static inline uint32_t ic_ring32_move_range_after(struct ic_link2_32 *table, ic_length places, uint32_t at, uint32_t first, uint32_t last) {
     const uint32_t before_first = ic_ring32_prev(table, places, first);
@@ -1344,9 +1367,10 @@ static inline uint32_t ic_ring32_move_range_after(struct ic_link2_32 *table, ic_
 
 /* Moves the places from `first` to `last` of a ring, in their order, before the place `at` of any ring, in O(1). If `at` is a head, the places become
  * the last members of its ring, as with list_bulk_move_tail of Linux. Nothing changes if the places are already right before `at`, or if `at` is
- * `first`. The call can't detect the wrong ranges that ic_ring32_move_range_after can't detect.
- * IC_NULL: `at`, `first` or `last` is IC_NONE. IC_OUT_OF_RANGE: one of them is not below `places`. IC_NOT_LINKED: one of them is not
- * linked. IC_BROKEN: one of them is in no ring, or `at` is `last`, and `first` is another place. */
+ * `first`. If `at` is between `first` and `last`, or if `last` comes before `first`, the call can't detect this, and leaves places in circles without
+ * a head.
+ * IC_NULL: `at`, `first` or `last` is IC_NONE. IC_OUT_OF_RANGE: `at`, `first` or `last` is not below `places`. IC_NOT_LINKED: `at`, `first` or
+ * `last` is not linked. IC_BROKEN: `at`, `first` or `last` is in no ring, or `at` is `last`, and `first` is another place. */
 IC_NODISCARD
 static inline uint32_t ic_ring32_move_range_before(struct ic_link2_32 *table, ic_length places, uint32_t at, uint32_t first, uint32_t last) {
     const uint32_t before_at = ic_ring32_prev(table, places, at);
@@ -1361,8 +1385,8 @@ static inline uint32_t ic_ring32_move_range_before(struct ic_link2_32 *table, ic
 
 /* ---- Singly linked lists: 8 bytes a place, calls O(1) except ic_stack_splice_after, and to fill, clear, check, sort and merge -----------
  *
- * Take singly linked lists for stacks and free lists. Calls edit a singly linked list after the member `at`, or at the front if `at` is IC_NONE. If
- * you also keep the last member yourself, a list can serve as a queue: insert after the last member, and pop at the front.
+ * Singly linked lists are good for stacks and free lists. Calls edit a singly linked list after the member `at`, or at the front if `at` is IC_NONE.
+ * If you store the last member in a variable of your own, you can use the list as a queue: insert after the last member, and remove the first.
  */
 
 /* Returns whether a place is in a list of the table. */
@@ -1380,7 +1404,7 @@ static inline uint32_t ic_stack_first(const struct ic_stack *list) {
     return ic_place(list->head);
 }
 
-/* Returns the member after the member `at`, or IC_NONE. */
+/* Returns the member after the member `at`, or IC_NONE if there is none. */
 static inline uint32_t ic_stack_next(const struct ic_link1 *table, ic_length places, uint32_t at) {
     return ic_stack_is_linked(table, places, at) ? ic_place_within(places, table[at].next) : IC_NONE;
 }
@@ -1405,8 +1429,9 @@ static inline int ic_stack_is_singular(const struct ic_link1 *table, ic_length p
     return ic_stack_is_last(table, places, ic_stack_first(list));
 }
 
-/* Returns the member to go on to from `place`, which was the member after *before, or the first member if *before is IC_NONE. If `place` is still a
- * member, *before becomes `place`. If `place` has been removed, the loop goes on to the member that now has the position of `place`. */
+/* Returns the next member for a loop that is at `place` and may have removed `place`. *before is the member before `place`, or IC_NONE if `place`
+ * was first. If `place` is still after *before, the function sets *before to `place`, and returns the member after `place`. Otherwise the function
+ * returns the member that is now after *before. */
 static inline uint32_t ic_stack_go_on(const struct ic_link1 *table, ic_length places, const struct ic_stack *list, uint32_t *before,
                                       uint32_t place) {
     uint32_t after = *before == IC_NONE ? ic_stack_first(list) : ic_stack_next(table, places, *before);
@@ -1416,8 +1441,8 @@ static inline uint32_t ic_stack_go_on(const struct ic_link1 *table, ic_length pl
     return ic_stack_next(table, places, place);
 }
 
-/* The IC_STACK_FOREACH loops go from the first member to the last. `before` is the member before `place`, or IC_NONE. Pass `before` to the calls that
- * edit the list:
+/* The IC_STACK_FOREACH loops go from the first member to the last. In a ..._SAFE loop `before` is the member before `place`, or IC_NONE at the first
+ * member. Pass `before` to the calls that edit the list:
  *
  *     IC_STACK_FOREACH_SAFE(before, place, links, 100, &list)
  *         if (is_done(place))
@@ -1442,67 +1467,67 @@ static inline uint32_t ic_stack_go_on(const struct ic_link1 *table, ic_length pl
          IC_ENTRY_IF(object, objects, ic_at_##object, ic_stack_is_linked(table, places, ic_at_##object) && ic_rounds_##object--); \
          ic_at_##object = ic_stack_go_on(table, places, list, &before, ic_at_##object))
 
-/* tools/c-calls --write writes from here: stack */
+/* Made by tools/c-calls --write: stack */
 
 /* Inserts `place` at the front, in O(1).
- * IC_OUT_OF_RANGE: `place` is not below `places`. IC_LINKED: `place` is linked already. IC_BROKEN: the first member does not belong to this
+ * IC_OUT_OF_RANGE: `place` is not below `places`. IC_LINKED: `place` is linked already. IC_BROKEN: the first member is not linked in this
  * table. */
 IC_NODISCARD
 uint32_t ic_stack_push_front(struct ic_link1 *table, ic_length places, struct ic_stack *list, uint32_t place);
 
 /* Removes the first member, and sets *popped to it, in O(1).
- * IC_NULL: the list is empty. IC_BROKEN: the first member does not belong to this table. */
+ * IC_NULL: the list is empty. IC_BROKEN: the first member is not linked in this table. */
 IC_NODISCARD
 uint32_t ic_stack_pop_front(struct ic_link1 *table, ic_length places, struct ic_stack *list, uint32_t *popped);
 
 /* Inserts `place` after the member `at`, or at the front if `at` is IC_NONE, in O(1).
  * IC_OUT_OF_RANGE: `at` or `place` is not below `places`. IC_LINKED: `place` is linked already. IC_NOT_LINKED: the place `at` is not
- * linked. IC_BROKEN: the next member does not belong to this table. */
+ * linked. IC_BROKEN: the member that is to follow `place` is not linked in this table. */
 IC_NODISCARD
 uint32_t ic_stack_insert_after(struct ic_link1 *table, ic_length places, struct ic_stack *list, uint32_t at, uint32_t place);
 
 /* Removes the member after the member `at`, or the first member if `at` is IC_NONE, and sets *removed to it, in O(1).
- * IC_NULL: there is no such member. IC_OUT_OF_RANGE: the place `at` is not below `places`. IC_NOT_LINKED: the place `at` is not linked.
- * IC_BROKEN: the next member does not belong to this table. */
+ * IC_NULL: `at` is the last member, or the list is empty. IC_OUT_OF_RANGE: the place `at` is not below `places`. IC_NOT_LINKED: the place
+ * `at` is not linked. IC_BROKEN: the member to remove is not linked in this table. */
 IC_NODISCARD
 uint32_t ic_stack_remove_after(struct ic_link1 *table, ic_length places, struct ic_stack *list, uint32_t at, uint32_t *removed);
 
 /* Removes the member after the member `at`, or the first member if `at` is IC_NONE, inserts `place` where it was, and sets *replaced to the
  * removed member, in O(1).
- * IC_NULL: there is no such member. IC_OUT_OF_RANGE: `at` or `place` is not below `places`. IC_LINKED: `place` is linked already.
- * IC_NOT_LINKED: the place `at` is not linked. IC_BROKEN: the next member does not belong to this table. */
+ * IC_NULL: `at` is the last member, or the list is empty. IC_OUT_OF_RANGE: `at` or `place` is not below `places`. IC_LINKED: `place` is
+ * linked already. IC_NOT_LINKED: the place `at` is not linked. IC_BROKEN: the member to remove is not linked in this table. */
 IC_NODISCARD
 uint32_t ic_stack_replace_after(struct ic_link1 *table, ic_length places, struct ic_stack *list, uint32_t at, uint32_t place,
                                 uint32_t *replaced);
 
 /* Moves all members of `given`, in their order, after the member `at`, or to the front if `at` is IC_NONE, and leaves `given` empty, in
  * O(members of `given`).
- * IC_OUT_OF_RANGE: the place `at` is not below `places`. IC_NOT_LINKED: the place `at` is not linked. IC_BROKEN: `given` is no list of this
- * table, or has no end within as many steps as the table has places, or both lists begin with the same member, as a list and its copy do. */
+ * IC_OUT_OF_RANGE: the place `at` is not below `places`. IC_NOT_LINKED: the place `at` is not linked. IC_BROKEN: the links of `given` run
+ * in a circle, or lead to a place that is not linked in this table, or both lists begin with the same member, as a list and its copy do. */
 IC_NODISCARD
 uint32_t ic_stack_splice_after(struct ic_link1 *table, ic_length places, struct ic_stack *list, uint32_t at, struct ic_stack *given);
 
 /* Moves the members after the member `at`, or all members if `at` is IC_NONE, to `rest`, which has to be empty, in O(1).
- * IC_OUT_OF_RANGE: the place `at` is not below `places`. IC_NOT_LINKED: the place `at` is not linked. IC_BROKEN: the next member does not
- * belong to this table, or `rest` has members. */
+ * IC_OUT_OF_RANGE: the place `at` is not below `places`. IC_NOT_LINKED: the place `at` is not linked. IC_BROKEN: the first member to move
+ * is not linked in this table, or `rest` has members. */
 IC_NODISCARD
 uint32_t ic_stack_split_after(struct ic_link1 *table, ic_length places, struct ic_stack *list, uint32_t at, struct ic_stack *rest);
 
 /* Inserts the `count` places `first`, `first` + 1 and so on at the front, in rising order, so that `first` becomes the first member, in
- * O(count). The call changes nothing if `count` is 0.
- * IC_OUT_OF_RANGE: the first of these places that the call refuses is not below `places`. IC_LINKED: the first of these places that the
- * call refuses is linked already. IC_BROKEN: the first member is not linked. */
+ * O(count). If `count` is 0, the call changes nothing.
+ * IC_OUT_OF_RANGE: none of these places is linked, but one is not below `places`. IC_LINKED: one of these places is linked already.
+ * IC_BROKEN: the first member is not linked in this table. */
 IC_NODISCARD
 uint32_t ic_stack_fill(struct ic_link1 *table, ic_length places, struct ic_stack *list, uint32_t first, uint32_t count);
 
 /* Removes all members, in O(n).
- * IC_BROKEN: the links lead to no end within as many steps as the table has places. */
+ * IC_BROKEN: the links from the first member on run in a circle, or lead to a place that is not linked in this table. */
 IC_NODISCARD
 uint32_t ic_stack_clear(struct ic_link1 *table, ic_length places, struct ic_stack *list);
 
-/* Counts the members, and sets *members to how many there are, in O(n). Call it if the words come from a file, or from memory that others
- * write. If the status is IC_OK, every other call on this list does what the comment of that call says.
- * IC_BROKEN: the links lead from the first member to no end within the table. */
+/* Counts the members, and sets *members to how many there are, in O(n). Make this call if the words come from a file, or from memory that
+ * others write. If the status is IC_OK, every other call on this list does what its own comment says.
+ * IC_BROKEN: the links from the first member on run in a circle, or lead to a place that is not linked in this table. */
 IC_NODISCARD
 uint32_t ic_stack_check(const struct ic_link1 *table, ic_length places, const struct ic_stack *list, uint64_t *members);
 
@@ -1510,21 +1535,23 @@ uint32_t ic_stack_check(const struct ic_link1 *table, ic_length places, const st
 
 /* ---- Singly linked lists by keys ----
  *
- * The keys are as for doubly linked lists. A sort and a merge check the lists before they change anything, so neither is refused when it is half
- * done. A sort is recursive, to a depth of at most 33 calls.
+ * A key is a number, and a smaller key comes before a greater one. The key of `place` is keys[place], so there must be a key for each place. A sort
+ * and a merge check the lists before they change anything, so a refused call has changed nothing. A sort is recursive, to a depth of at most 33
+ * calls.
  */
 
-/* tools/c-calls --write writes from here: stack-keys */
+/* Made by tools/c-calls --write: stack-keys */
 
 /* Sorts the members by their keys, in O(n log n). Members with equal keys keep their order.
- * IC_OUT_OF_RANGE: there are fewer keys than places. IC_BROKEN: the links lead from the first member to no end within the table. */
+ * IC_OUT_OF_RANGE: there are fewer keys than places. IC_BROKEN: the links from the first member on run in a circle, or lead to a place that
+ * is not linked in this table. */
 IC_NODISCARD
 uint32_t ic_stack_sort(struct ic_link1 *table, ic_length places, const uint64_t *keys, ic_length key_count, struct ic_stack *list);
 
-/* Moves all members of `given` to where their keys belong, if both lists are in the order of their keys, in O(n). Of members with equal
- * keys, those of `list` come first. The call leaves `given` empty.
- * IC_OUT_OF_RANGE: there are fewer keys than places. IC_BROKEN: the links of one of the lists lead from its first member to no end within
- * the table, or both lists end with the same member, as lists do that share one. */
+/* Moves all members of `given` into `list`, which the call leaves sorted by keys if both lists were sorted by keys, in O(n). Of members
+ * with equal keys, those of `list` come first. Afterwards `given` is empty.
+ * IC_OUT_OF_RANGE: there are fewer keys than places. IC_BROKEN: the links of one of the lists run in a circle, or lead to a place that is
+ * not linked in this table, or both lists have the same last member, as lists with a common member do. */
 IC_NODISCARD
 uint32_t ic_stack_merge(struct ic_link1 *table, ic_length places, const uint64_t *keys, ic_length key_count, struct ic_stack *list,
                         struct ic_stack *given);
@@ -1533,9 +1560,10 @@ uint32_t ic_stack_merge(struct ic_link1 *table, ic_length places, const uint64_t
 
 /* ---- Hash tables: 8 bytes a place and 8 a bucket ---------------------------------------------------------------------------------------
  *
- * Take hash tables to find objects by a key, if you need no order. A hash table is an array of buckets, and a bucket {0} is empty. A bucket is the
- * head of a singly linked list, whose members are its chain. Your hash function makes a number of each key, and a member is in the bucket whose index
- * is hash % bucket_count. So pass the same hash in each call for one object. If there are about as many buckets as members, chains are short.
+ * Hash tables are good for finding objects by a key, if you need no order. A hash table is an array of buckets. Each bucket is a singly linked list,
+ * which is called a chain, and a bucket {0} has no members. Your hash function computes a number, the hash, from each key. The chain of a hash is the
+ * bucket whose index is hash % bucket_count, and a member is in the chain of its hash. So pass the same hash in each call for one object. If there
+ * are about as many buckets as members, chains are short.
  *
  *     struct ic_link1 links[100] = {0};
  *     struct ic_stack buckets[64] = {0};
@@ -1543,29 +1571,30 @@ uint32_t ic_stack_merge(struct ic_link1 *table, ic_length places, const uint64_t
  *     status = ic_hash_find(links, 100, keys, 100, buckets, 64, hash_of(30), 30, &found);
  *     status = ic_hash_remove(links, 100, buckets, 64, hash_of(keys[7]), 7);
  *
- * ic_hash_find compares keys that are numbers in an array of your own, where the key of `place` is keys[place]. You make any other comparison in a
- * loop over the chain:
+ * ic_hash_find compares keys that are numbers in an array of your own, where the key of `place` is keys[place]. To compare keys that are no numbers,
+ * write a loop over the chain:
  *
  *     IC_HASH_FOREACH(place, links, 100, buckets, 64, hash_of(name))
  *         if (strcmp(names[place], name) == 0)
  *             break;
  *
  * IC_HASH_FOREACH_ALL goes over all members. You can pass a bucket to each call for singly linked lists, too: ic_stack_clear empties a bucket. A
- * place is in one chain or list of a table, so the free places may be in a list of the same table.
+ * place is in at most one chain or list of a table. The places that are in no chain can be in a list of the same table, for example a list of free
+ * places.
  *
- * A hash table grows or shrinks when you make another array of buckets, and call ic_hash_move_chain for each bucket of the old array, at once or over
- * time. In the following loop, `more` has the 128 new buckets, and `hashes` has a hash for each place:
+ * To grow or shrink a hash table, make another array of buckets, and call ic_hash_move_chain for each bucket of the old array, at once or over time.
+ * In the following loop `more` is the array of 128 new buckets, and `hashes` has a hash for each place:
  *
  *     for (uint32_t i = 0; i < 64; i++)
  *         status = ic_hash_move_chain(links, 100, hashes, 100, &buckets[i], more, 128);
  */
 
-/* Returns the first member of the chain of a hash, or IC_NONE. */
+/* Returns the first member of the chain of a hash, or IC_NONE if there is none. */
 static inline uint32_t ic_hash_first(const struct ic_stack *buckets, ic_length bucket_count, uint64_t hash) {
     return bucket_count ? ic_stack_first(&buckets[hash % bucket_count]) : IC_NONE;
 }
 
-/* The IC_HASH_FOREACH loops go over the chain of a hash, and the bodies of the loops leave the members where they are. */
+/* The IC_HASH_FOREACH loops go over the members of the chain of a hash. The body of a loop must not move or remove members. */
 #define IC_HASH_FOREACH(place, table, places, buckets, bucket_count, hash)                                                              \
     IC_LOOP(place, ic_hash_first(buckets, bucket_count, hash), places, ic_stack_is_linked(table, places, place),                        \
             ic_stack_next(table, places, place))
@@ -1573,8 +1602,8 @@ static inline uint32_t ic_hash_first(const struct ic_stack *buckets, ic_length b
     IC_LOOP_ENTRY(object, objects, ic_at_##object, ic_hash_first(buckets, bucket_count, hash), places,         \
                   ic_stack_is_linked(table, places, ic_at_##object), ic_stack_next(table, places, ic_at_##object))
 
-/* Returns `place` if it is linked. Otherwise the function returns the first member of the chains after *bucket, or IC_NONE, and sets *bucket to the
- * index of the returned member's chain. If *bucket is (ic_length)-1, the first chain is the next. */
+/* Returns `place` if it is linked. Otherwise the function returns the first member of the next chain after *bucket that has one, or IC_NONE, and
+ * sets *bucket to the index of this chain. If *bucket is (ic_length)-1, the function begins at the first chain. */
 static inline uint32_t ic_hash_go_on(const struct ic_link1 *table, ic_length places, const struct ic_stack *buckets, ic_length bucket_count,
                                      ic_length *bucket, uint32_t place) {
     while (!ic_stack_is_linked(table, places, place) && ++*bucket < bucket_count)
@@ -1582,7 +1611,8 @@ static inline uint32_t ic_hash_go_on(const struct ic_link1 *table, ic_length pla
     return *bucket < bucket_count ? place : IC_NONE;
 }
 
-/* Returns the member to go on to from `place`, as ic_stack_go_on does in a chain. At the end of a chain, the function goes on to the next chain. */
+/* Returns the next member for a loop that is at `place`, as ic_stack_go_on does in one chain. At the end of a chain, the function goes on to the
+ * next chain that has a member. */
 static inline uint32_t ic_hash_safe_go_on(const struct ic_link1 *table, ic_length places, const struct ic_stack *buckets,
                                           ic_length bucket_count, ic_length *bucket, uint32_t *before, uint32_t place) {
     const ic_length was = *bucket;
@@ -1593,9 +1623,9 @@ static inline uint32_t ic_hash_safe_go_on(const struct ic_link1 *table, ic_lengt
     return found;
 }
 
-/* The IC_HASH_FOREACH_ALL loops go over all members, chain by chain, in O(buckets + n). Whatever the words say, a loop makes at most `places` rounds
- * in all, and `break` leaves the whole loop. In a ..._SAFE loop `bucket` is the index of the chain, and `before` is the member before `place` in the
- * chain, or IC_NONE. The body of a ..._SAFE loop may remove `place`, and may then insert it into another array of buckets:
+/* The IC_HASH_FOREACH_ALL loops go over all members, chain by chain, in O(buckets + n). Whatever the words are, a loop runs its body at most `places`
+ * times, and `break` leaves the whole loop. In a ..._SAFE loop `bucket` is the index of the chain, and `before` is the member before `place` in the
+ * chain, or IC_NONE. The body of a ..._SAFE loop may remove `place`, and may then insert `place` into another array of buckets:
  *
  *     IC_HASH_FOREACH_ALL_SAFE(bucket, before, place, links, 100, buckets, 64)
  *         if (is_done(place))
@@ -1624,64 +1654,63 @@ static inline uint32_t ic_hash_safe_go_on(const struct ic_link1 *table, ic_lengt
              IC_ENTRY_IF(object, objects, ic_at_##object, ic_at_##object != IC_NONE && ic_rounds_##object--);                   \
              ic_at_##object = ic_hash_safe_go_on(table, places, buckets, bucket_count, &bucket, &before, ic_at_##object))
 
-/* tools/c-calls --write writes from here: hash hash-growth */
+/* Made by tools/c-calls --write: hash hash-growth */
 
 /* Inserts `place` at the front of the chain of `hash`, in O(1).
  * IC_OUT_OF_RANGE: there is no bucket, or `place` is not below `places`. IC_LINKED: `place` is linked already. IC_BROKEN: the first member
- * of the chain does not belong to this table. */
+ * of the chain is not linked in this table. */
 IC_NODISCARD
 uint32_t ic_hash_insert(struct ic_link1 *table, ic_length places, struct ic_stack *buckets, ic_length bucket_count, uint64_t hash,
                         uint32_t place);
 
-/* Removes `place` from the chain of `hash`, wherever it is in that chain, in O(members of the chain).
+/* Removes `place` from any position in the chain of `hash`, in O(members of the chain).
  * IC_NULL: `place` is IC_NONE. IC_OUT_OF_RANGE: there is no bucket, or `place` is not below `places`. IC_NOT_LINKED: `place` is not linked.
- * IC_BROKEN: `place` is no member of this chain, but perhaps of the chain of another hash, or the chain does not belong to this table. */
+ * IC_BROKEN: `place` is linked, for example in the chain of another hash, but the links of this chain do not lead to `place`. */
 IC_NODISCARD
 uint32_t ic_hash_remove(struct ic_link1 *table, ic_length places, struct ic_stack *buckets, ic_length bucket_count, uint64_t hash,
                         uint32_t place);
 
-/* Finds the first member of the chain of `hash` whose key is `key`, and sets *found to it, in O(members of the chain). Of several such
- * members, the first is the one that was inserted last.
- * IC_NULL: there is no such member. IC_OUT_OF_RANGE: there are fewer keys than places, or there is no bucket. IC_BROKEN: the chain does not
- * belong to this table. */
+/* Finds the first member of the chain of `hash` whose key is `key`, and sets *found to it, in O(members of the chain). If several members
+ * have this key, the first of them is the one that was inserted last.
+ * IC_NULL: no member of the chain has this key. IC_OUT_OF_RANGE: there are fewer keys than places, or there is no bucket. IC_BROKEN: the
+ * links of the chain run in a circle, or lead to a place that is not linked in this table. */
 IC_NODISCARD
 uint32_t ic_hash_find(const struct ic_link1 *table, ic_length places, const uint64_t *keys, ic_length key_count,
                       const struct ic_stack *buckets, ic_length bucket_count, uint64_t hash, uint64_t key, uint32_t *found);
 
-/* Finds the next member after the member `at`, in its chain, that has the same key as `at`, and sets *found to it, in O(members of the
+/* Finds the first member after the member `at` in the same chain that has the same key as `at`, and sets *found to it, in O(members of the
  * chain).
- * IC_NULL: the place `at` is IC_NONE, or there is no such member. IC_OUT_OF_RANGE: there are fewer keys than places, or the place `at` is
- * not below `places`. IC_NOT_LINKED: the place `at` is not linked. IC_BROKEN: the chain does not belong to this table. */
+ * IC_NULL: the place `at` is IC_NONE, or no later member of the chain has this key. IC_OUT_OF_RANGE: there are fewer keys than places, or
+ * the place `at` is not below `places`. IC_NOT_LINKED: the place `at` is not linked. IC_BROKEN: the links of the chain run in a circle, or
+ * lead to a place that is not linked in this table. */
 IC_NODISCARD
 uint32_t ic_hash_next_equal(const struct ic_link1 *table, ic_length places, const uint64_t *keys, ic_length key_count, uint32_t at,
                             uint32_t *found);
 
-/* Counts the members of all chains, and sets *members to how many there are, in O(buckets + n). Call it if the words come from a file, or
- * from memory that others write. `hashes` has the hash of each place. If the status is IC_OK, each member is in the chain of its hash and
- * in no other chain, and every other call on this hash table does what the comment of that call says.
- * IC_OUT_OF_RANGE: there are fewer hashes than places, or there is no bucket. IC_BROKEN: the links lead from a bucket to no end within the
- * table, or to a member that belongs in another bucket by its hash. */
+/* Counts the members of all chains, and sets *members to how many there are, in O(buckets + n). `hashes` has the hash of each place. Make
+ * this call if the words come from a file, or from memory that others write. If the status is IC_OK, each member is in the chain of its
+ * hash and in no other chain, and every other call on this hash table does what its own comment says.
+ * IC_OUT_OF_RANGE: there are fewer hashes than places, or there is no bucket. IC_BROKEN: the links of a chain run in a circle, or lead to a
+ * place that is not linked in this table, or to a member whose hash chooses another bucket. */
 IC_NODISCARD
 uint32_t ic_hash_check(const struct ic_link1 *table, ic_length places, const uint64_t *hashes, ic_length hash_count,
                        const struct ic_stack *buckets, ic_length bucket_count, uint64_t *members);
 
-/* Moves all members of `chain`, a bucket of another array, each to the front of the chain of its hash, and leaves `chain` empty, in
- * O(members of the chain). `hashes` has the hash of each place. Members that move to the same bucket keep their order, and come before the
- * members that the bucket had. So of moved members with one key a search still finds the one that was inserted last. Each place stays
- * linked during the call. To grow or to shrink a hash table, make another array of buckets, and make this call for each bucket of the old
- * array.
- * IC_OUT_OF_RANGE: there are fewer hashes than places, or there is no bucket. IC_BROKEN: the links lead from the first member of `chain` to
- * no end within the table, or a bucket to which a member moves begins with a place that does not belong to this table. */
+/* Moves each member of `chain`, a bucket of another array, to the chain of its hash, and leaves `chain` empty, in O(members of the chain).
+ * `hashes` has the hash of each place. Members that move to the same bucket keep their order, and come before the members that were in this
+ * bucket. So if several of the moved members have one key, a search still finds the one that was inserted last. Each place stays linked
+ * during the call. To grow or shrink a hash table, make another array of buckets, and make this call for each bucket of the old array.
+ * IC_OUT_OF_RANGE: there are fewer hashes than places, or there is no bucket. IC_BROKEN: the links of `chain` run in a circle, or lead to a
+ * place that is not linked in this table, or the first member of a bucket to which a member moves is not linked in this table. */
 IC_NODISCARD
 uint32_t ic_hash_move_chain(struct ic_link1 *table, ic_length places, const uint64_t *hashes, ic_length hash_count, struct ic_stack *chain,
                             struct ic_stack *buckets, ic_length bucket_count);
 
 /* to here */
 
-/* Removes `place` from a singly linked list, wherever in the list `place` is, in O(n). The function calls ic_hash_remove with the list as a hash
- * table of one bucket.
- * IC_NULL: `place` is IC_NONE. IC_OUT_OF_RANGE: `place` is not below `places`. IC_NOT_LINKED: `place` is not linked. IC_BROKEN: `place` is no member
- * of this list, but perhaps of another list, or the list does not belong to this table. */
+/* Removes `place` from any position in a singly linked list, in O(n). The function calls ic_hash_remove with the list as a hash table of one bucket.
+ * IC_NULL: `place` is IC_NONE. IC_OUT_OF_RANGE: `place` is not below `places`. IC_NOT_LINKED: `place` is not linked. IC_BROKEN: `place` is linked,
+ * for example in another list, but the links of this list do not lead to `place`. */
 IC_NODISCARD
 static inline uint32_t ic_stack_remove(struct ic_link1 *table, ic_length places, struct ic_stack *list, uint32_t place) {
     return ic_hash_remove(table, places, list, 1, 0, place);
@@ -1689,15 +1718,18 @@ static inline uint32_t ic_stack_remove(struct ic_link1 *table, ic_length places,
 
 /* ---- XOR lists: 8 bytes a place, calls O(1) except ic_xor_fill and ic_xor_clear -----------------------------------------------------
  *
- * Take XOR lists if you use a list at both ends and walk both ways, and memory is scarce. The link of a member does not name its neighbors one by
- * one, so you name a gap by both members beside it. In the calls `before` is the member before the gap, or IC_NONE at the front, and `after` is the
- * member after the gap, or IC_NONE at the back. In an empty list `before` and `after` are IC_NONE.
+ * XOR lists are good if you use a list at both ends and walk in both directions, and memory is scarce. Calls insert into a gap, which is the position
+ * between two neighbors or at an end of the list. The link of a member does not name its two neighbors separately, so you name a gap by the members
+ * on both sides. In the calls `before` is the member before the gap, or IC_NONE at the front, and `after` is the member after the gap, or IC_NONE at
+ * the back. In an empty list `before` and `after` are IC_NONE.
  *
- * A call at a gap tests that both members are linked. The call also tests that each member's word, combined with the other member, names a linked
- * place beyond the member, or no place at an end of the list. So the call refuses IC_NONE beside a member that is not at that end. If few places are
- * linked, the call also refuses most pairs of members that are not neighbors. Two neighbors in the wrong order pass the tests. In a table that is
- * nearly full most pairs that are not neighbors pass the tests: 26 of 36 in the list of the places 0 to 6, in their order, and 8,871 of 9,801 in the
- * list of the places 0 to 99. If a wrong pair passes, the call mixes the list up, within the table. So name members that you know to be neighbors.
+ * A call at a gap tests that `before` and `after` are linked. For each of these two members, the call computes the neighbor on the side opposite to
+ * the gap, and tests that this neighbor is linked, or that the member is an end of the list and has no such neighbor. If `before` is IC_NONE, the
+ * call refuses an `after` that is not the first member. If `after` is IC_NONE, the call refuses a `before` that is not the last member. If few
+ * places are linked, the call also refuses most pairs of members that are not neighbors. Two neighbors in the wrong order pass the tests if neither
+ * is an end of the list. If most places of the table are linked, most of the other wrong pairs pass, too. In the list of the places 0 to 6, in their
+ * order, 26 of the 36 wrong pairs pass, and in the list of the places 0 to 99, 8,871 of 9,801. If a wrong pair passes, the call damages the list,
+ * but writes nothing outside the table. So name members that you know to be neighbors.
  */
 
 /* Returns whether a place is in a list of the table. */
@@ -1720,9 +1752,9 @@ static inline uint32_t ic_xor_last(const struct ic_xor_list *list) {
     return ic_place(list->tail);
 }
 
-/* Returns the neighbor of the member `at` on the other side than its neighbor `from`, or IC_NONE. At an end of the list `from` is IC_NONE. With
- * IC_NONE as `from`, the step from the first member leads towards the back, and the step from the last member towards the front. If `from` is no
- * neighbor, the step leads to some place of the table or to IC_NONE. */
+/* Returns the neighbor of the member `at` that is not its neighbor `from`, or IC_NONE if there is no such neighbor. If `at` is the first or the
+ * last member, pass IC_NONE as `from` to get the only neighbor of `at`. If `from` is no neighbor of `at`, the function returns some place of the
+ * table or IC_NONE. */
 static inline uint32_t ic_xor_step(const struct ic_link1 *table, ic_length places, uint32_t from, uint32_t at) {
     return ic_xor_is_linked(table, places, at) ? ic_place_within(places, table[at].next ^ ic_word(from)) : IC_NONE;
 }
@@ -1752,21 +1784,22 @@ static inline int ic_xor_is_singular(const struct ic_link1 *table, ic_length pla
     return ic_xor_is_first(table, places, list, ic_xor_last(list));
 }
 
-/* Returns the member to which a loop goes on from `place`, which the loop reached from *from, and sets *from to `place`. */
+/* Returns the next member for a loop that has come from *from to `place`, and sets *from to `place`. */
 static inline uint32_t ic_xor_go_on(const struct ic_link1 *table, ic_length places, uint32_t *from, uint32_t place) {
     uint32_t next = ic_xor_step(table, places, *from, place);
     *from = place;
     return next;
 }
 
-/* The IC_XOR_FOREACH loops go from the first member to the last, and back. In both directions `before` is the member before `place`, and `after` is
- * the member after `place`. Beyond an end of the list `before` and `after` are IC_NONE.
+/* IC_XOR_FOREACH goes from the first member of an XOR list to the last member, and IC_XOR_FOREACH_REVERSE from the last member to the first. In the
+ * ..._SAFE loops of both directions, `before` is the member before `place` in the list, or IC_NONE if `place` is the first member. `after` is the
+ * member after `place` in the list, or IC_NONE if `place` is the last member.
  *
  *     IC_XOR_FOREACH_SAFE(before, place, after, links, 100, &list)
  *         if (is_done(place))
  *             status = ic_xor_remove(links, 100, &list, before, place);
  *
- * The body has to leave the next two members where they are.
+ * The body must not move or remove the two members to which the loop goes next.
  */
 #define IC_XOR_FOREACH(place, table, places, list) IC_XOR_LOOP(place, ic_xor_first(list), table, places)
 #define IC_XOR_FOREACH_REVERSE(place, table, places, list) IC_XOR_LOOP(place, ic_xor_last(list), table, places)
@@ -1783,9 +1816,9 @@ static inline uint32_t ic_xor_go_on(const struct ic_link1 *table, ic_length plac
 #define IC_XOR_FOREACH_ENTRY_REVERSE_SAFE(before, object, objects, after, table, places, list) \
     IC_XOR_LOOP_ENTRY_SAFE(object, objects, after, ic_at_##object, before, ic_xor_last(list), table, places)
 
-/* The two macros below make loops in both directions, which run while `is_member` is true. The safe loop reads the member beyond `next` before its
- * body runs. After the body has run, the loop finds from that member the other neighbor of `next`, which is `place`, or `from` if the body has
- * removed `place`. */
+/* IC_XOR_WALK and IC_XOR_WALK_SAFE make loops in both directions, which run while the expression `is_member` is true. Before the body runs,
+ * IC_XOR_WALK_SAFE finds the member that the loop visits after `next`. After the body has run, the loop computes from this member the other neighbor
+ * of `next`, which is `place`, or `from` if the body has removed `place`. */
 #define IC_XOR_WALK(place, first, table, places, is_member)                                                  \
     for (uint32_t place = (first), ic_from_##place = IC_NONE, ic_rounds_##place = ic_bound(places); is_member; \
          place = ic_xor_go_on(table, places, &ic_from_##place, place))
@@ -1804,106 +1837,107 @@ static inline uint32_t ic_xor_go_on(const struct ic_link1 *table, ic_length plac
 #define IC_XOR_LOOP_ENTRY_SAFE(object, objects, from, place, next, first, table, places) \
     IC_XOR_WALK_SAFE(from, place, next, first, table, places, IC_ENTRY_IF(object, objects, place, IC_XOR_ROUND(place, table, places)))
 
-/* tools/c-calls --write writes from here: xor */
+/* Made by tools/c-calls --write: xor */
 
 /* Inserts `place` at the front, in O(1).
- * IC_OUT_OF_RANGE: `place` is not below `places`. IC_LINKED: `place` is linked already. IC_BROKEN: the first member does not belong to this
- * table. */
+ * IC_OUT_OF_RANGE: `place` is not below `places`. IC_LINKED: `place` is linked already. IC_BROKEN: the first member or the member after it
+ * is not linked in this table. */
 IC_NODISCARD
 uint32_t ic_xor_push_front(struct ic_link1 *table, ic_length places, struct ic_xor_list *list, uint32_t place);
 
 /* Inserts `place` at the back, in O(1).
- * IC_OUT_OF_RANGE: `place` is not below `places`. IC_LINKED: `place` is linked already. IC_BROKEN: the last member does not belong to this
- * table. */
+ * IC_OUT_OF_RANGE: `place` is not below `places`. IC_LINKED: `place` is linked already. IC_BROKEN: the last member or the member before it
+ * is not linked in this table. */
 IC_NODISCARD
 uint32_t ic_xor_push_back(struct ic_link1 *table, ic_length places, struct ic_xor_list *list, uint32_t place);
 
 /* Removes the first member, and sets *popped to it, in O(1).
- * IC_NULL: the list is empty. IC_BROKEN: the first member does not belong to this table. */
+ * IC_NULL: the list is empty. IC_BROKEN: the first member or one of the two members after it is not linked in this table. */
 IC_NODISCARD
 uint32_t ic_xor_pop_front(struct ic_link1 *table, ic_length places, struct ic_xor_list *list, uint32_t *popped);
 
 /* Removes the last member, and sets *popped to it, in O(1).
- * IC_NULL: the list is empty. IC_BROKEN: the last member does not belong to this table. */
+ * IC_NULL: the list is empty. IC_BROKEN: the last member or one of the two members before it is not linked in this table. */
 IC_NODISCARD
 uint32_t ic_xor_pop_back(struct ic_link1 *table, ic_length places, struct ic_xor_list *list, uint32_t *popped);
 
 /* Inserts `place` between the neighbors `before` and `after`, in O(1). Pass IC_NONE as `before` to insert before the first member, and
  * IC_NONE as `after` to insert after the last.
  * IC_OUT_OF_RANGE: `before`, `place` or `after` is not below `places`. IC_LINKED: `place` is linked already. IC_NOT_LINKED: `before` or
- * `after` is not linked. IC_BROKEN: there is no such gap. */
+ * `after` is not linked. IC_BROKEN: by their links, `before` and `after` are not neighbors. */
 IC_NODISCARD
 uint32_t ic_xor_insert_between(struct ic_link1 *table, ic_length places, struct ic_xor_list *list, uint32_t before, uint32_t place,
                                uint32_t after);
 
-/* Removes the member `at`, in O(1). You also name the member before `at` as `before`, which is IC_NONE if `at` is the first member.
+/* Removes the member `at`, in O(1). Pass as `before` the member before `at`, or IC_NONE if `at` is the first member.
  * IC_NULL: the place `at` is IC_NONE. IC_OUT_OF_RANGE: `before` or `at` is not below `places`. IC_NOT_LINKED: `before` or `at` is not
  * linked. IC_BROKEN: `at` is no member of the list, or `before` is not the member before `at`. */
 IC_NODISCARD
 uint32_t ic_xor_remove(struct ic_link1 *table, ic_length places, struct ic_xor_list *list, uint32_t before, uint32_t at);
 
-/* Removes the member `at`, and inserts `place` where it was, in O(1). You also name the member before `at` as `before`, which is IC_NONE if
- * `at` is the first member.
+/* Removes the member `at`, and inserts `place` where it was, in O(1). Pass as `before` the member before `at`, or IC_NONE if `at` is the
+ * first member.
  * IC_NULL: the place `at` is IC_NONE. IC_OUT_OF_RANGE: `before`, `at` or `place` is not below `places`. IC_LINKED: `place` is linked
- * already, also if `at` and `place` are the same. IC_NOT_LINKED: `before` or `at` is not linked. IC_BROKEN: `at` is no member of the list,
- * or `before` is not the member before `at`. */
+ * already, or is `at` itself. IC_NOT_LINKED: `before` or `at` is not linked. IC_BROKEN: `at` is no member of the list, or `before` is not
+ * the member before `at`. */
 IC_NODISCARD
 uint32_t ic_xor_replace(struct ic_link1 *table, ic_length places, struct ic_xor_list *list, uint32_t before, uint32_t at, uint32_t place);
 
-/* Moves all members of `given`, in their order, into the gap between the members `before` and `after`, which are IC_NONE beyond an end, and
- * leaves `given` empty, in O(1).
- * IC_OUT_OF_RANGE: `before` or `after` is not below `places`. IC_NOT_LINKED: `before` or `after` is not linked. IC_BROKEN: there is no such
- * gap, or `given` is no list of this table, or both lists begin with the same member, as a list and its copy do. */
+/* Moves all members of `given`, in their order, between the neighbors `before` and `after`, and leaves `given` empty, in O(1). Pass IC_NONE
+ * as `before` to move the members to the front, and IC_NONE as `after` to move the members to the back.
+ * IC_OUT_OF_RANGE: `before` or `after` is not below `places`. IC_NOT_LINKED: `before` or `after` is not linked. IC_BROKEN: by their links,
+ * `before` and `after` are not neighbors, or `given` is no list of this table, or both lists begin with the same member, as a list and its
+ * copy do. */
 IC_NODISCARD
 uint32_t ic_xor_splice_between(struct ic_link1 *table, ic_length places, struct ic_xor_list *list, uint32_t before, struct ic_xor_list *given,
                                uint32_t after);
 
 /* Moves all members of `given`, in their order, to the back, and leaves `given` empty, in O(1).
- * IC_BROKEN: an end of one of the lists does not belong to this table, or both lists begin with the same member, as a list and its copy do. */
+ * IC_BROKEN: the last member of `list`, the first or the last member of `given`, or the neighbor of one of these members is not linked in
+ * this table, or both lists begin with the same member, as a list and its copy do. */
 IC_NODISCARD
 uint32_t ic_xor_append(struct ic_link1 *table, ic_length places, struct ic_xor_list *list, struct ic_xor_list *given);
 
-/* Inserts the `count` places `first`, `first` + 1 and so on at the back, in rising order, in O(count). The call changes nothing if `count`
- * is 0.
- * IC_OUT_OF_RANGE: the first of these places that the call refuses is not below `places`. IC_LINKED: the first of these places that the
- * call refuses is linked already. IC_BROKEN: the last member does not belong to this table. */
+/* Inserts the `count` places `first`, `first` + 1 and so on at the back, in rising order, in O(count). If `count` is 0, the call changes
+ * nothing.
+ * IC_OUT_OF_RANGE: none of these places is linked, but one is not below `places`. IC_LINKED: one of these places is linked already.
+ * IC_BROKEN: the last member or the member before it is not linked in this table. */
 IC_NODISCARD
 uint32_t ic_xor_fill(struct ic_link1 *table, ic_length places, struct ic_xor_list *list, uint32_t first, uint32_t count);
 
 /* Removes all members, in O(n).
- * IC_BROKEN: an end of the list does not belong to this table, or the links do not lead from one end to the other within as many steps as
- * the table has places. */
+ * IC_BROKEN: the links do not lead from the first member to the last through linked places of this table. */
 IC_NODISCARD
 uint32_t ic_xor_clear(struct ic_link1 *table, ic_length places, struct ic_xor_list *list);
 
-/* Moves the member `after` and all members that follow it to `rest`, which has to be empty, so that `before` becomes the last member, in
- * O(1). All members move if `before` is IC_NONE, and no member moves if `after` is IC_NONE.
- * IC_OUT_OF_RANGE: `before` or `after` is not below `places`. IC_NOT_LINKED: `before` or `after` is not linked. IC_BROKEN: there is no such
- * gap, or `rest` has members. */
+/* Moves the member `after` and all members after it to `rest`, which has to be empty, so that its neighbor `before` becomes the last
+ * member, in O(1). If `before` is IC_NONE, all members move. If `after` is IC_NONE, no member moves.
+ * IC_OUT_OF_RANGE: `before` or `after` is not below `places`. IC_NOT_LINKED: `before` or `after` is not linked. IC_BROKEN: by their links,
+ * `before` and `after` are not neighbors, or `rest` has members. */
 IC_NODISCARD
 uint32_t ic_xor_split_between(struct ic_link1 *table, ic_length places, struct ic_xor_list *list, uint32_t before, uint32_t after,
                               struct ic_xor_list *rest);
 
-/* Reverses the list, in O(1). The call reads and writes no table, and is never refused. */
+/* Reverses the list, in O(1). The call takes no table, and always succeeds. */
 uint32_t ic_xor_reverse(struct ic_xor_list *list);
 
 /* to here */
 
 /* ---- Red-black trees: 24 bytes a place, calls O(log n) except those that clear, check, append, join and split -----------------------
  *
- * Take trees for timers, priorities and indices: for objects in an order, which you insert and remove anywhere, and for which you search. You order
- * the members in one of two ways:
+ * Trees are good for timers, priorities and indices. Their members have an order, and you can insert, remove and find a member anywhere in it. You
+ * order the members in one of two ways:
  *
- *   - You give each place a number as its key, in an array of your own, where the key of `place` is keys[place]. ic_tree_insert inserts a place where
- *     its key belongs, and ic_tree_find and both bounds search by keys. To change a member's key, remove the member, change the key, and insert the
- *     member again.
- *   - You write a comparison of your own, as with sys/tree.h or the rb_link_node of Linux. In the comparison `at` is a member to compare with:
+ *   - You give each place a number as its key, in an array of your own, where the key of `place` is keys[place]. ic_tree_insert inserts a place in
+ *     the order of the keys, and ic_tree_find, ic_tree_lower_bound and ic_tree_upper_bound search by keys. To change a member's key, remove the
+ *     member, change the key, and insert the member again.
+ *   - You write a comparison of your own, as with sys/tree.h or the rb_link_node of Linux. In the comparison `at` is the member to compare with:
  *
  *         IC_TREE_INSERT_BY(status, at, links, 100, &tree, place, strcmp(names[place], names[at]));
  *         IC_TREE_FIND_BY(at, links, 100, &tree, strcmp("oak", names[at]));
  *
- * The calls that remove a member, and those that step to the next or the previous member, compare no keys. The calls that make one tree of two, or
- * two trees of one, compare no keys either, but first check in O(n) whether the links form the trees.
+ * The calls that remove a member or find the next or the previous member compare no keys. The calls that make one tree of two, or two trees of one,
+ * compare no keys either, but first check in O(n) whether the links form the trees.
  */
 
 /* Returns whether a place is in a tree of the table. */
@@ -1921,81 +1955,83 @@ static inline uint32_t ic_tree_root(const struct ic_tree *tree) {
     return ic_place(tree->root);
 }
 
-/* Returns the left child of the member `at`, or IC_NONE. The left child and the members under it come before `at`. */
+/* Returns the left child of the member `at`, or IC_NONE if there is none. The left child and the members under it come before `at`. */
 static inline uint32_t ic_tree_left(const struct ic_link3 *table, ic_length places, uint32_t at) {
     return ic_tree_is_linked(table, places, at) ? ic_place_within(places, table[at].left) : IC_NONE;
 }
 
-/* Returns the right child of the member `at`, or IC_NONE. The right child and the members under it come after `at`. */
+/* Returns the right child of the member `at`, or IC_NONE if there is none. The right child and the members under it come after `at`. */
 static inline uint32_t ic_tree_right(const struct ic_link3 *table, ic_length places, uint32_t at) {
     return ic_tree_is_linked(table, places, at) ? ic_place_within(places, table[at].right) : IC_NONE;
 }
 
-/* Returns the parent of the member `at`, or IC_NONE. */
+/* Returns the parent of the member `at`, or IC_NONE if there is none. */
 static inline uint32_t ic_tree_parent(const struct ic_link3 *table, ic_length places, uint32_t at) {
     return ic_tree_is_linked(table, places, at) ? ic_place_within(places, table[at].parent) : IC_NONE;
 }
 
-/* tools/c-calls --write writes from here: tree */
+/* Made by tools/c-calls --write: tree */
 
 /* Inserts `place` as the left child of the member `at`, which must have no left child, and balances the tree, in O(log n). So `place` comes
  * directly before `at` in the order of the members. If `at` is IC_NONE, the tree has to be empty, and `place` becomes its root.
  * IC_OUT_OF_RANGE: `at` or `place` is not below `places`. IC_LINKED: `place` is linked already. IC_NOT_LINKED: the place `at` is not
- * linked. IC_BROKEN: `at` has a left child, or `at` is IC_NONE and the tree has members, or the root does not belong to this table. */
+ * linked. IC_BROKEN: `at` has a left child, or `at` is IC_NONE and the tree has members, or the root is not linked in this table. */
 IC_NODISCARD
 uint32_t ic_tree_insert_left(struct ic_link3 *table, ic_length places, struct ic_tree *tree, uint32_t at, uint32_t place);
 
 /* Inserts `place` as the right child of the member `at`, which must have no right child, and balances the tree, in O(log n). So `place`
  * comes directly after `at` in the order of the members. If `at` is IC_NONE, the tree has to be empty, and `place` becomes its root.
  * IC_OUT_OF_RANGE: `at` or `place` is not below `places`. IC_LINKED: `place` is linked already. IC_NOT_LINKED: the place `at` is not
- * linked. IC_BROKEN: `at` has a right child, or `at` is IC_NONE and the tree has members, or the root does not belong to this table. */
+ * linked. IC_BROKEN: `at` has a right child, or `at` is IC_NONE and the tree has members, or the root is not linked in this table. */
 IC_NODISCARD
 uint32_t ic_tree_insert_right(struct ic_link3 *table, ic_length places, struct ic_tree *tree, uint32_t at, uint32_t place);
 
 /* Removes the member `at`, in O(log n).
  * IC_NULL: the place `at` is IC_NONE. IC_OUT_OF_RANGE: the place `at` is not below `places`. IC_NOT_LINKED: the place `at` is not linked.
- * IC_BROKEN: the root does not belong to this table. */
+ * IC_BROKEN: the root is not linked in this table, or `at` is the root of another tree. */
 IC_NODISCARD
 uint32_t ic_tree_remove(struct ic_link3 *table, ic_length places, struct ic_tree *tree, uint32_t at);
 
-/* Removes the member `at`, and inserts `place` where it was, in O(1). The call compares no keys, so pass a place that belongs at this
- * position.
- * IC_NULL: the place `at` is IC_NONE. IC_OUT_OF_RANGE: `at` or `place` is not below `places`. IC_LINKED: `place` is linked already, also if
- * `at` and `place` are the same. IC_NOT_LINKED: the place `at` is not linked. IC_BROKEN: the root does not belong to this table. */
+/* Removes the member `at`, and inserts `place` where it was, in O(1). The call compares no keys, so pass a place that comes between the
+ * neighbors of `at` in the order of the keys.
+ * IC_NULL: the place `at` is IC_NONE. IC_OUT_OF_RANGE: `at` or `place` is not below `places`. IC_LINKED: `place` is linked already, or is
+ * `at` itself. IC_NOT_LINKED: the place `at` is not linked. IC_BROKEN: the root is not linked in this table, or `at` is the root of another
+ * tree. */
 IC_NODISCARD
 uint32_t ic_tree_replace(struct ic_link3 *table, ic_length places, struct ic_tree *tree, uint32_t at, uint32_t place);
 
-/* Moves all members of `given`, in their order, after those of this tree, and leaves `given` empty, in O(n). The call compares no keys, so
- * pass as `given` a tree whose keys all come after the keys of this tree. It checks both trees first. In Rattle, where types vouch for the
- * links, this takes O(log n).
- * IC_BROKEN: the links form no red-black tree from one of the two roots on, or both trees have the same root. */
+/* Moves all members of `given`, in their order, after the members of this tree, and leaves `given` empty, in O(n). The call compares no
+ * keys, so pass as `given` a tree whose keys all come after the keys of this tree. The call takes O(n) because it checks both trees first.
+ * In Rattle, the language of this library, types guarantee that the links form a tree, and the same call takes O(log n).
+ * IC_BROKEN: the links below one of the two roots form no red-black tree, or both trees have the same root. */
 IC_NODISCARD
 uint32_t ic_tree_append(struct ic_link3 *table, ic_length places, struct ic_tree *tree, struct ic_tree *given);
 
-/* Inserts `place` after all members of this tree, moves all members of `given`, in their order, after the place, and leaves `given` empty,
- * in O(n). The call compares no keys, and checks both trees first. In Rattle, where types vouch for the links, this takes O(log n).
- * IC_OUT_OF_RANGE: `place` is not below `places`. IC_LINKED: `place` is linked already. IC_BROKEN: the links form no red-black tree from
- * one of the two roots on, or both trees have the same root. */
+/* Inserts `place` after all members of this tree, moves all members of `given`, in their order, after `place`, and leaves `given` empty, in
+ * O(n). The call compares no keys. The call takes O(n) because it checks both trees first. In Rattle, the language of this library, types
+ * guarantee that the links form a tree, and the same call takes O(log n).
+ * IC_OUT_OF_RANGE: `place` is not below `places`. IC_LINKED: `place` is linked already. IC_BROKEN: the links below one of the two roots
+ * form no red-black tree, or both trees have the same root. */
 IC_NODISCARD
 uint32_t ic_tree_join(struct ic_link3 *table, ic_length places, struct ic_tree *tree, uint32_t place, struct ic_tree *given);
 
 /* Removes all members, in O(n).
- * IC_BROKEN: the root does not belong to this table, or a walk from the first member on comes to a place that is not linked, or to no end
- * within as many steps as the table has places. */
+ * IC_BROKEN: the root is not linked in this table, or a walk from the first member on goes in a circle, or comes to a place that is not
+ * linked in this table. */
 IC_NODISCARD
 uint32_t ic_tree_clear(struct ic_link3 *table, ic_length places, struct ic_tree *tree);
 
-/* Moves the member `at` and all members after it to `rest`, which has to be empty, in O(n). The call checks the tree first. In Rattle,
- * where types vouch for the links, this takes O(log n).
+/* Moves the member `at` and all members after it to `rest`, which has to be empty, in O(n). The call takes O(n) because it checks the tree
+ * first. In Rattle, the language of this library, types guarantee that the links form a tree, and the same call takes O(log n).
  * IC_NULL: the place `at` is IC_NONE. IC_OUT_OF_RANGE: the place `at` is not below `places`. IC_NOT_LINKED: the place `at` is not linked.
- * IC_BROKEN: the links form no red-black tree from the root on, or `at` is no member of the tree, or `rest` has members. */
+ * IC_BROKEN: the links below the root form no red-black tree, or `at` is no member of the tree, or `rest` has members. */
 IC_NODISCARD
 uint32_t ic_tree_split(struct ic_link3 *table, ic_length places, struct ic_tree *tree, uint32_t at, struct ic_tree *rest);
 
-/* Counts the members, and sets *members to how many there are, in O(n). Call it if the words come from a file, or from memory that others
- * write. If the status is IC_OK, every other call on this tree does what the comment of that call says. The check reads no keys. It is
+/* Counts the members, and sets *members to how many there are, in O(n). Make this call if the words come from a file, or from memory that
+ * others write. If the status is IC_OK, every other call on this tree does what its own comment says. The call reads no keys, and is
  * recursive, to a depth of at most 67 calls.
- * IC_BROKEN: the links form no red-black tree from the root on, because a parent, a color or a child is wrong. */
+ * IC_BROKEN: the links below the root form no red-black tree, because a parent, a color or a child is wrong. */
 IC_NODISCARD
 uint32_t ic_tree_check(const struct ic_link3 *table, ic_length places, const struct ic_tree *tree, uint64_t *members);
 
@@ -2003,45 +2039,46 @@ uint32_t ic_tree_check(const struct ic_link3 *table, ic_length places, const str
 
 /* ---- Trees by keys ----
  *
- * The keys are numbers, of which the least comes first. There has to be a key for each place, and the calls read only the keys of members and of the
- * place to insert. The searches are for trees whose members are in the order of their keys. In another tree a search finds some member or none.
+ * A key is a number, and a smaller key comes before a greater one. The key of `place` is keys[place], so there must be a key for each place, but the
+ * calls read only the keys of members and of the place to insert. A search requires a tree whose members are sorted by keys. In another tree a search
+ * may find a wrong member or none.
  */
 
-/* tools/c-calls --write writes from here: tree-keys */
+/* Made by tools/c-calls --write: tree-keys */
 
 /* Inserts `place` by its key, after all members whose keys are not greater than `keys[place]`, in O(log n).
  * IC_OUT_OF_RANGE: there are fewer keys than places, or `place` is not below `places`. IC_LINKED: `place` is linked already. IC_BROKEN: the
- * root does not belong to this table. */
+ * root is not linked in this table. */
 IC_NODISCARD
 uint32_t ic_tree_insert(struct ic_link3 *table, ic_length places, const uint64_t *keys, ic_length key_count, struct ic_tree *tree,
                         uint32_t place);
 
 /* Finds the first member whose key is `key`, and sets *found to it, in O(log n).
- * IC_NULL: there is no such member. IC_OUT_OF_RANGE: there are fewer keys than places. IC_BROKEN: the root does not belong to this table. */
+ * IC_NULL: no member has this key. IC_OUT_OF_RANGE: there are fewer keys than places. IC_BROKEN: the root is not linked in this table. */
 IC_NODISCARD
 uint32_t ic_tree_find(const struct ic_link3 *table, ic_length places, const uint64_t *keys, ic_length key_count, const struct ic_tree *tree,
                       uint64_t key, uint32_t *found);
 
 /* Finds the first member whose key is not less than `key`, and sets *found to it, in O(log n).
- * IC_NULL: there is no such member. IC_OUT_OF_RANGE: there are fewer keys than places. IC_BROKEN: the root does not belong to this table. */
+ * IC_NULL: no member has such a key. IC_OUT_OF_RANGE: there are fewer keys than places. IC_BROKEN: the root is not linked in this table. */
 IC_NODISCARD
 uint32_t ic_tree_lower_bound(const struct ic_link3 *table, ic_length places, const uint64_t *keys, ic_length key_count,
                              const struct ic_tree *tree, uint64_t key, uint32_t *found);
 
 /* Finds the LAST member whose key is NOT GREATER than `key`, and sets *found to it, in O(log n). The upper_bound of C++ finds another
- * member, the first one whose key is greater. Both bounds have their names from the Rust crate intrusive-collections. If there are members
- * with keys from `low` to `high`, the lower bound of `low` is the first of them, and the upper bound of `high` is the last.
- * IC_NULL: there is no such member. IC_OUT_OF_RANGE: there are fewer keys than places. IC_BROKEN: the root does not belong to this table. */
+ * member, the first one whose key is greater. The lower and the upper bound have their names from the Rust crate intrusive-collections. If
+ * members have keys from `low` to `high`, the lower bound of `low` is the first of these members, and the upper bound of `high` is the
+ * last.
+ * IC_NULL: no member has such a key. IC_OUT_OF_RANGE: there are fewer keys than places. IC_BROKEN: the root is not linked in this table. */
 IC_NODISCARD
 uint32_t ic_tree_upper_bound(const struct ic_link3 *table, ic_length places, const uint64_t *keys, ic_length key_count,
                              const struct ic_tree *tree, uint64_t key, uint32_t *found);
 
 /* to here */
 
-/* Inserts `place` by its key if no member has that key, in O(log n). Sets *found to the first member that has the key, which is `place` if the call
- * has inserted `place`.
- * IC_OUT_OF_RANGE: there are fewer keys than places, or `place` is not below `places`. IC_LINKED: `place` is linked already. IC_BROKEN: the
- * root does not belong to this table. */
+/* Inserts `place` by its key if no member has this key, and sets *found to the first member with this key, which may be `place`, in O(log n).
+ * IC_OUT_OF_RANGE: there are fewer keys than places, or `place` is not below `places`. IC_LINKED: `place` is linked already. IC_BROKEN: the root
+ * is not linked in this table. */
 IC_NODISCARD
 static inline uint32_t ic_tree_insert_unique(struct ic_link3 *table, ic_length places, const uint64_t *keys, ic_length key_count,
                                              struct ic_tree *tree, uint32_t place, uint32_t *found) {
@@ -2058,9 +2095,10 @@ static inline uint32_t ic_tree_insert_unique(struct ic_link3 *table, ic_length p
 
 /* ---- Trees by a comparison ----
  *
- * The IC_TREE_..._BY macros search a tree whose keys are no numbers, from the root down, in O(log n). Each macro is a statement. `at` is the name of
- * a uint32_t variable of yours, and `comparison` is an expression in which `at` is the member to compare with. The value of `comparison` is negative
- * if what you look for comes before `at`, 0 if both are equal, and positive otherwise, as the value of strcmp.
+ * The IC_TREE_..._BY macros search a tree by a comparison that you write, for example if the keys are no numbers, in O(log n). Each macro is a
+ * statement. `at` is the name of a uint32_t variable of yours, and `comparison` is an expression in which `at` is the member to compare with. The
+ * value of `comparison` is negative if the key that you look for comes before the key of `at`, 0 if the two keys are equal, and positive otherwise,
+ * as with strcmp.
  *
  *     const char *names[100];
  *     uint32_t at, status;
@@ -2068,19 +2106,20 @@ static inline uint32_t ic_tree_insert_unique(struct ic_link3 *table, ic_length p
  *     if (at == IC_NONE)
  *         IC_TREE_INSERT_BY(status, at, links, 100, &tree, place, strcmp(names[place], names[at]));
  *
- * Whatever the words say, a macro makes at most `places` comparisons, each with a linked place of the table. A macro evaluates `table`, `places`,
+ * Whatever the words are, a macro makes at most `places` comparisons, each with a linked place of the table. A macro evaluates `table`, `places`,
  * `tree` and `place` several times.
  */
 
-/* Returns the left child of the member `at`, or the right one, or IC_NONE. */
+/* Returns the left child of the member `at` if `is_left` is not 0, or else the right child, or IC_NONE if there is no child on this side. */
 static inline uint32_t ic_tree_child(const struct ic_link3 *table, ic_length places, uint32_t at, int is_left) {
     if (!ic_tree_is_linked(table, places, at))
         return IC_NONE;
     return ic_place_within(places, is_left ? table[at].left : table[at].right);
 }
 
-/* The three macros below that search by a comparison expand to IC_SEARCH_BY. The search goes to the left of each member for which `comparison
- * goes_left 0` is true, and `at` becomes the last member for which `comparison is_found 0` is true. */
+/* The three macros below that search by a comparison expand to IC_SEARCH_BY. At each member the search goes to the left child if `comparison
+ * goes_left 0` is true, and else to the right child. `at` becomes the last member on this way for which `comparison is_found 0` is true. `goes_left`
+ * and `is_found` are operators such as <=. */
 #define IC_SEARCH_BY(at, table, places, tree, comparison, is_found, goes_left)                  \
     do {                                                                                        \
         uint32_t ic_found_##at = IC_NONE, ic_rounds_##at = ic_bound(places);                    \
@@ -2097,14 +2136,14 @@ static inline uint32_t ic_tree_child(const struct ic_link3 *table, ic_length pla
 /* Sets `at` to the first member for which the comparison is 0, or to IC_NONE if there is none. */
 #define IC_TREE_FIND_BY(at, table, places, tree, comparison) IC_SEARCH_BY(at, table, places, tree, comparison, ==, <=)
 
-/* Sets `at` to the first member that does not come before what you look for, or to IC_NONE if there is none. */
+/* Sets `at` to the first member for which the comparison is 0 or less, or to IC_NONE if there is none. */
 #define IC_TREE_LOWER_BOUND_BY(at, table, places, tree, comparison) IC_SEARCH_BY(at, table, places, tree, comparison, <=, <=)
 
-/* Sets `at` to the last member that does not come after what you look for, or to IC_NONE if there is none. */
+/* Sets `at` to the last member for which the comparison is 0 or greater, or to IC_NONE if there is none. */
 #define IC_TREE_UPPER_BOUND_BY(at, table, places, tree, comparison) IC_SEARCH_BY(at, table, places, tree, comparison, >=, <)
 
-/* The two macros below that insert expand to IC_DESCEND_AND_INSERT. If `place` cannot be inserted, the macro compares nothing, and the status says
- * why. */
+/* The two macros below that insert expand to IC_DESCEND_AND_INSERT. If `place` is out of range or linked already, the macro makes no comparison,
+ * and sets `status` to why. */
 #define IC_DESCEND_AND_INSERT(status, at, table, places, tree, place, comparison, is_unique)                                    \
     do {                                                                                                                        \
         uint32_t ic_under_##at = IC_NONE, ic_same_##at = IC_NONE, ic_rounds_##at = ic_bound(places);                            \
@@ -2126,49 +2165,50 @@ static inline uint32_t ic_tree_child(const struct ic_link3 *table, ic_length pla
         at = status != IC_OK ? IC_NONE : ic_same_##at != IC_NONE ? ic_same_##at : (place);                                      \
     } while (0)
 
-/* Inserts `place` after all members that, by the comparison, do not come after `place`. Sets `status` to what the call returns, and `at` to `place`,
- * or to IC_NONE if the call was refused.
- * IC_OUT_OF_RANGE: `place` is not below `places`. IC_LINKED: `place` is linked already. IC_BROKEN: the root does not belong to this table, or
- * the way down from it does not end. */
+/* Inserts `place` after all members for which the comparison is 0 or greater. Sets `status` to IC_OK and `at` to `place`, or, if the insertion is
+ * refused, `status` to the reason and `at` to IC_NONE.
+ * IC_OUT_OF_RANGE: `place` is not below `places`. IC_LINKED: `place` is linked already. IC_BROKEN: the root is not linked in this table, or the
+ * links below the root form no tree. */
 #define IC_TREE_INSERT_BY(status, at, table, places, tree, place, comparison) \
     IC_DESCEND_AND_INSERT(status, at, table, places, tree, place, comparison, 0)
 
-/* Inserts `place` if there is no member for which the comparison is 0. Sets `at` to a member for which the comparison is 0, or to `place` if it was
- * inserted, or to IC_NONE if the call was refused. Sets `status` to IC_OK, or to the status with which IC_TREE_INSERT_BY would be refused. */
+/* Inserts `place` if there is no member for which the comparison is 0. Sets `at` to a member for which the comparison is 0, or to `place` if the
+ * macro has inserted `place`, or to IC_NONE if the insertion is refused. Sets `status` to IC_OK, or to the reason for which IC_TREE_INSERT_BY
+ * would refuse the insertion. */
 #define IC_TREE_INSERT_UNIQUE_BY(status, at, table, places, tree, place, comparison) \
     IC_DESCEND_AND_INSERT(status, at, table, places, tree, place, comparison, 1)
 
 /* ---- Steps through a tree ----
  *
- * A walk over all n members takes O(n) steps. If you remove members during the walk, step on from a member before you remove it.
+ * A walk over all n members takes O(n). If you remove members during the walk, find the next member before you remove the current member.
  *
  * To dispose of a whole tree, walk over its members, free or reuse what each object owns, and then call ic_tree_clear, which takes O(n), too. The
- * links are in the table, so the walk goes on after an object is freed, and you may free the objects in any order.
+ * links are in the table and not in the objects, so the walk can go on after you have freed an object.
  */
 
-/* tools/c-calls --write writes from here: tree-steps */
+/* Made by tools/c-calls --write: tree-steps */
 
 /* Finds the member after the member `at`, or the first member if `at` is IC_NONE, and sets *found to it, in O(log n).
  * IC_NULL: `at` is the last member, or the tree is empty. IC_OUT_OF_RANGE: the place `at` is not below `places`. IC_NOT_LINKED: the place
- * `at` is not linked. IC_BROKEN: the root does not belong to this table. */
+ * `at` is not linked. IC_BROKEN: the root is not linked in this table. */
 IC_NODISCARD
 uint32_t ic_tree_next(const struct ic_link3 *table, ic_length places, const struct ic_tree *tree, uint32_t at, uint32_t *found);
 
 /* Finds the member before the member `at`, or the last member if `at` is IC_NONE, and sets *found to it, in O(log n).
  * IC_NULL: `at` is the first member, or the tree is empty. IC_OUT_OF_RANGE: the place `at` is not below `places`. IC_NOT_LINKED: the place
- * `at` is not linked. IC_BROKEN: the root does not belong to this table. */
+ * `at` is not linked. IC_BROKEN: the root is not linked in this table. */
 IC_NODISCARD
 uint32_t ic_tree_prev(const struct ic_link3 *table, ic_length places, const struct ic_tree *tree, uint32_t at, uint32_t *found);
 
 /* to here */
 
-/* Sets *found to the first member. IC_NULL: the tree is empty. */
+/* Sets *found to the first member, in O(log n). IC_NULL: the tree is empty. IC_BROKEN: the root is not linked in this table. */
 IC_NODISCARD
 static inline uint32_t ic_tree_first(const struct ic_link3 *table, ic_length places, const struct ic_tree *tree, uint32_t *found) {
     return ic_tree_next(table, places, tree, IC_NONE, found);
 }
 
-/* Sets *found to the last member. IC_NULL: the tree is empty. */
+/* Sets *found to the last member, in O(log n). IC_NULL: the tree is empty. IC_BROKEN: the root is not linked in this table. */
 IC_NODISCARD
 static inline uint32_t ic_tree_last(const struct ic_link3 *table, ic_length places, const struct ic_tree *tree, uint32_t *found) {
     return ic_tree_prev(table, places, tree, IC_NONE, found);
@@ -2186,7 +2226,8 @@ static inline uint32_t ic_tree_before(const struct ic_link3 *table, ic_length pl
     return ic_tree_prev(table, places, tree, at, &found) == IC_OK ? found : IC_NONE;
 }
 
-/* The IC_TREE_FOREACH loops go from the first member to the last, and back. `next` and `prev` are as in the loops of a list. */
+/* The IC_TREE_FOREACH loops go from the first member to the last, and those with REVERSE in the name from the last to the first. `next` is the
+ * member after `place`, or IC_NONE at the last member. `prev` is the member before `place`, or IC_NONE at the first member. */
 #define IC_TREE_FOREACH(place, table, places, tree) \
     IC_LOOP(place, ic_tree_after(table, places, tree, IC_NONE), places, place != IC_NONE, ic_tree_after(table, places, tree, place))
 #define IC_TREE_FOREACH_REVERSE(place, table, places, tree) \
@@ -2224,11 +2265,11 @@ static inline uint32_t ic_tree_before(const struct ic_link3 *table, ic_length pl
 
 /* ---- Trees that keep their first and last member ----
  *
- * The calls ic_tree_ends_... keep the first and the last member of a tree in two more words, a struct ic_tree_ends, so that the first member, such as
- * the next timer, is found at once. For an empty tree the ends are {0}. Edit a tree that keeps its ends only by these calls, since the other calls
- * leave the ends as they are. In a loop, remove a member by ic_tree_ends_remove. After ic_tree_clear set the ends to zero. After ic_tree_append,
- * ic_tree_join or ic_tree_split write the ends of each tree that keeps its ends: set ends.first to ic_word of the place that ic_tree_next finds from
- * IC_NONE, and ends.last to ic_word of the place that ic_tree_prev finds. In an empty tree ends.first and ends.last are 0.
+ * The ends of a tree are a struct ic_tree_ends, which has the words for the first and the last member, so that you find the first member, such as the
+ * next timer, in O(1). The ends of an empty tree are {0}. To insert, remove or replace a member, make only the calls ic_tree_ends_..., which update
+ * the ends. No other call changes the ends. So after ic_tree_clear set the ends to {0}. After ic_tree_append, ic_tree_join or ic_tree_split, set the
+ * ends of each empty tree to {0}. For each other tree set ends.first to ic_word of the member that ic_tree_first finds, and ends.last to ic_word of
+ * the member that ic_tree_last finds.
  *
  *     struct ic_tree_ends ends = {0};
  *     status = ic_tree_ends_insert(links, 100, keys, 100, &tree, &ends, 7);
@@ -2236,60 +2277,62 @@ static inline uint32_t ic_tree_before(const struct ic_link3 *table, ic_length pl
  *     status = ic_tree_ends_pop_first(links, 100, &tree, &ends, &next);
  */
 
-/* Returns the first member of a tree, in O(1), or IC_NONE if there is none or if it is no linked place of the table. */
+/* Returns the first member that `ends` names, in O(1), or IC_NONE if `ends` names no linked place of the table. */
 static inline uint32_t ic_tree_ends_first(const struct ic_link3 *table, ic_length places, const struct ic_tree_ends *ends) {
     uint32_t place = ic_place(ends->first);
     return ic_tree_is_linked(table, places, place) ? place : IC_NONE;
 }
 
-/* Returns the last member of a tree, in O(1), or IC_NONE if there is none or if it is no linked place of the table. */
+/* Returns the last member that `ends` names, in O(1), or IC_NONE if `ends` names no linked place of the table. */
 static inline uint32_t ic_tree_ends_last(const struct ic_link3 *table, ic_length places, const struct ic_tree_ends *ends) {
     uint32_t place = ic_place(ends->last);
     return ic_tree_is_linked(table, places, place) ? place : IC_NONE;
 }
 
-/* tools/c-calls --write writes from here: tree-ends */
+/* Made by tools/c-calls --write: tree-ends */
 
-/* Inserts `place` by its key, after all members whose keys are not greater than `keys[place]`, and keeps the ends of the tree, in O(log n).
+/* Inserts `place` by its key, after all members whose keys are not greater than `keys[place]`, and updates the ends of the tree, in O(log
+ * n).
  * IC_OUT_OF_RANGE: there are fewer keys than places, or `place` is not below `places`. IC_LINKED: `place` is linked already. IC_BROKEN: the
- * root does not belong to this table. */
+ * root is not linked in this table. */
 IC_NODISCARD
 uint32_t ic_tree_ends_insert(struct ic_link3 *table, ic_length places, const uint64_t *keys, ic_length key_count, struct ic_tree *tree,
                              struct ic_tree_ends *ends, uint32_t place);
 
-/* Inserts `place` as ic_tree_insert_left does, and keeps the ends of the tree, in O(log n).
+/* Inserts `place` as ic_tree_insert_left does, and updates the ends of the tree, in O(log n).
  * IC_OUT_OF_RANGE: `at` or `place` is not below `places`. IC_LINKED: `place` is linked already. IC_NOT_LINKED: the place `at` is not
- * linked. IC_BROKEN: `at` has a left child, or `at` is IC_NONE and the tree has members, or the root does not belong to this table. */
+ * linked. IC_BROKEN: `at` has a left child, or `at` is IC_NONE and the tree has members, or the root is not linked in this table. */
 IC_NODISCARD
 uint32_t ic_tree_ends_insert_left(struct ic_link3 *table, ic_length places, struct ic_tree *tree, struct ic_tree_ends *ends, uint32_t at,
                                   uint32_t place);
 
-/* Inserts `place` as ic_tree_insert_right does, and keeps the ends of the tree, in O(log n).
+/* Inserts `place` as ic_tree_insert_right does, and updates the ends of the tree, in O(log n).
  * IC_OUT_OF_RANGE: `at` or `place` is not below `places`. IC_LINKED: `place` is linked already. IC_NOT_LINKED: the place `at` is not
- * linked. IC_BROKEN: `at` has a right child, or `at` is IC_NONE and the tree has members, or the root does not belong to this table. */
+ * linked. IC_BROKEN: `at` has a right child, or `at` is IC_NONE and the tree has members, or the root is not linked in this table. */
 IC_NODISCARD
 uint32_t ic_tree_ends_insert_right(struct ic_link3 *table, ic_length places, struct ic_tree *tree, struct ic_tree_ends *ends, uint32_t at,
                                    uint32_t place);
 
-/* Removes the member `at`, in O(log n). If `at` is the first or the last member of the tree, the member next to it takes over as that end.
+/* Removes the member `at`, in O(log n). If `at` is the first or the last member, the ends of the tree then name its neighbor instead.
  * IC_NULL: the place `at` is IC_NONE. IC_OUT_OF_RANGE: the place `at` is not below `places`. IC_NOT_LINKED: the place `at` is not linked.
- * IC_BROKEN: the root does not belong to this table, or `at` is an end, and the links lead from it to a place that is not linked, or to
- * `at` itself. */
+ * IC_BROKEN: the root is not linked in this table, or `at` is the root of another tree, or `at` is an end, and the links lead from `at` to
+ * a place that is not linked, or back to `at`. */
 IC_NODISCARD
 uint32_t ic_tree_ends_remove(struct ic_link3 *table, ic_length places, struct ic_tree *tree, struct ic_tree_ends *ends, uint32_t at);
 
-/* Removes the member `at`, and inserts `place` where it was, in O(1). If `at` was the first or the last member of the tree, `place` takes
- * over as that end. The call compares no keys, so pass a place that belongs at this position.
- * IC_NULL: the place `at` is IC_NONE. IC_OUT_OF_RANGE: `at` or `place` is not below `places`. IC_LINKED: `place` is linked already, also if
- * `at` and `place` are the same. IC_NOT_LINKED: the place `at` is not linked. IC_BROKEN: the root does not belong to this table. */
+/* Removes the member `at`, and inserts `place` where it was, in O(1). If `at` is the first or the last member, the ends of the tree then
+ * name `place` instead. The call compares no keys, so pass a place that comes between the neighbors of `at` in the order of the keys.
+ * IC_NULL: the place `at` is IC_NONE. IC_OUT_OF_RANGE: `at` or `place` is not below `places`. IC_LINKED: `place` is linked already, or is
+ * `at` itself. IC_NOT_LINKED: the place `at` is not linked. IC_BROKEN: the root is not linked in this table, or `at` is the root of another
+ * tree. */
 IC_NODISCARD
 uint32_t ic_tree_ends_replace(struct ic_link3 *table, ic_length places, struct ic_tree *tree, struct ic_tree_ends *ends, uint32_t at,
                               uint32_t place);
 
-/* Removes the first member, and sets *popped to it, in O(log n). The call finds this member in `ends`, and the next member in constant time
- * on average, so it serves timers and schedulers.
- * IC_NULL: `ends` says that the tree is empty. IC_BROKEN: the root or the first member does not belong to this table, or the links lead
- * from the first member to a place that is not linked, or back to the first member. */
+/* Removes the first member, and sets *popped to it, in O(log n). The call reads this member from `ends`, and finds the next member in O(1)
+ * on average, which is good for timers and schedulers.
+ * IC_NULL: `ends` names no first member. IC_BROKEN: the root or the first member is not linked in this table, or the links lead from the
+ * first member to a place that is not linked, or back to the first member. */
 IC_NODISCARD
 uint32_t ic_tree_ends_pop_first(struct ic_link3 *table, ic_length places, struct ic_tree *tree, struct ic_tree_ends *ends, uint32_t *popped);
 
@@ -2297,9 +2340,10 @@ uint32_t ic_tree_ends_pop_first(struct ic_link3 *table, ic_length places, struct
 
 /* ---- Trees with sums ----
  *
- * An array of your own has a value and a sum for each place. You write the values. With IC_SUM the sum at a member is the total of the values of the
- * member and all members below it, and at most UINT64_MAX. With IC_GREATEST the sum at a member is the greatest of these values. If each value is 1,
- * the sum with IC_SUM is the number of the member and all members below it.
+ * An array of your own has a value and a sum for each place. You write the values, and pass IC_SUM or IC_GREATEST as `kind` to each call. The
+ * combined value of several members is with IC_SUM the total of their values, but at most UINT64_MAX, and with IC_GREATEST the greatest of their
+ * values. The sum at a member is the combined value of this member and all members below it in the tree. If each value is 1, the sum with IC_SUM is
+ * the number of these members.
  *
  *     struct ic_sum counts[100];                                             // with the value 1 at each place
  *     status = ic_tree_sums_renew(links, 100, counts, 100, IC_SUM, IC_NONE); // makes all sums right
@@ -2307,89 +2351,92 @@ uint32_t ic_tree_ends_pop_first(struct ic_link3 *table, ic_length places, struct
  *     status = ic_tree_sums_find(links, 100, counts, 100, IC_SUM, &tree, IC_NONE, 3, &found); // the member at position 3, from 0 on
  *     status = ic_tree_sums_before(links, 100, counts, 100, IC_SUM, found, &position);        // which is 3
  *
- * ic_tree_sums_insert and ic_tree_sums_remove edit the tree as ic_tree_insert and ic_tree_remove do, and keep the sums right, in O(log n). Other
- * edits leave the sums as they are. After other edits call ic_tree_sums_renew with IC_NONE, which makes all sums right. After you have changed the
- * value of one member, call ic_tree_sums_renew with that member. For an empty tree you need not call ic_tree_sums_renew.
+ * The sums of a tree are right if the array has for each member the sum at this member. The calls ic_tree_sums_insert... and ic_tree_sums_remove
+ * edit the tree as the calls without sums_ in their names do, and keep the sums right, in O(log n). The calls without sums_ leave the sums as they
+ * are. After an edit by such a call, call ic_tree_sums_renew with IC_NONE, which makes all sums right. After you have changed the value of one
+ * member, call ic_tree_sums_renew with this member. The sums of an empty tree are right.
  *
- * If the values are the lengths of lines, ic_tree_sums_find finds the line at an offset, and ic_tree_sums_before returns where a line begins. With
+ * If the values are the lengths of lines, ic_tree_sums_find finds the line at an offset, and ic_tree_sums_before finds where a line begins. With
  * IC_GREATEST, ic_tree_sums_find finds the first member whose value is greater than a bound, for example the first region that is long enough. If the
- * keys are the starts of intervals, and the values their ends, ic_tree_sums_overlap finds, one after the other, all intervals that overlap a given
- * one.
+ * keys are the starts of intervals, and the values are their ends, ic_tree_sums_overlap finds, one after the other, all intervals that overlap a
+ * given interval.
  */
 
-/* IC_SUM and IC_GREATEST say what a sum is made of. A call takes any other number as IC_GREATEST. */
+/* With IC_SUM a sum is the total of values, and with IC_GREATEST the greatest of these values. If you pass any other number as `kind`, a call
+ * takes it as IC_GREATEST. */
 enum { IC_SUM = 0, IC_GREATEST = 1 };
 
-/* If the sums of a tree are right, returns the sum of the values of all its members, or the greatest of these values, in O(1). Returns 0 if the tree
- * is empty. */
+/* Returns the sum at the root, in O(1), which is the combined value of all members if the sums of the tree are right. Returns 0 if the tree is
+ * empty. */
 static inline uint64_t ic_tree_sums_total(const struct ic_sum *sums, ic_length sum_count, const struct ic_tree *tree) {
     uint32_t root = ic_tree_root(tree);
     return root < ic_bound(sum_count) ? sums[root].sum : 0;
 }
 
-/* tools/c-calls --write writes from here: tree-sums */
+/* Made by tools/c-calls --write: tree-sums */
 
-/* Inserts `place` by its key as ic_tree_insert does, and updates the sums that this changes, in O(log n). If the sums of the tree were
- * right before the call, they are right after it, whatever the sum of `place` was.
+/* Inserts `place` by its key as ic_tree_insert does, and updates each sum that the insertion changes, in O(log n). If the sums of the tree
+ * were right before the call, they are right after the call, too. The sum of `place` may be any number before the call.
  * IC_OUT_OF_RANGE: there are fewer keys than places, or there are fewer sums than places, or `place` is not below `places`. IC_LINKED:
- * `place` is linked already. IC_BROKEN: the root does not belong to this table. */
+ * `place` is linked already. IC_BROKEN: the root is not linked in this table. */
 IC_NODISCARD
 uint32_t ic_tree_sums_insert(struct ic_link3 *table, ic_length places, const uint64_t *keys, ic_length key_count, struct ic_sum *sums,
                              ic_length sum_count, uint32_t kind, struct ic_tree *tree, uint32_t place);
 
-/* Inserts `place` as ic_tree_insert_left does, and updates the sums that this changes, in O(log n).
+/* Inserts `place` as ic_tree_insert_left does, and updates each sum that the insertion changes, in O(log n).
  * IC_OUT_OF_RANGE: there are fewer sums than places, or `at` or `place` is not below `places`. IC_LINKED: `place` is linked already.
  * IC_NOT_LINKED: the place `at` is not linked. IC_BROKEN: `at` has a left child, or `at` is IC_NONE and the tree has members, or the root
- * does not belong to this table. */
+ * is not linked in this table. */
 IC_NODISCARD
 uint32_t ic_tree_sums_insert_left(struct ic_link3 *table, ic_length places, struct ic_sum *sums, ic_length sum_count, uint32_t kind,
                                   struct ic_tree *tree, uint32_t at, uint32_t place);
 
-/* Inserts `place` as ic_tree_insert_right does, and updates the sums that this changes, in O(log n).
+/* Inserts `place` as ic_tree_insert_right does, and updates each sum that the insertion changes, in O(log n).
  * IC_OUT_OF_RANGE: there are fewer sums than places, or `at` or `place` is not below `places`. IC_LINKED: `place` is linked already.
  * IC_NOT_LINKED: the place `at` is not linked. IC_BROKEN: `at` has a right child, or `at` is IC_NONE and the tree has members, or the root
- * does not belong to this table. */
+ * is not linked in this table. */
 IC_NODISCARD
 uint32_t ic_tree_sums_insert_right(struct ic_link3 *table, ic_length places, struct ic_sum *sums, ic_length sum_count, uint32_t kind,
                                    struct ic_tree *tree, uint32_t at, uint32_t place);
 
-/* Removes the member `at`, and updates the sums that this changes, in O(log n). If the sums of the tree were right before the call, they
- * are right after it.
+/* Removes the member `at`, and updates each sum that the removal changes, in O(log n). If the sums of the tree were right before the call,
+ * they are right after the call, too.
  * IC_NULL: the place `at` is IC_NONE. IC_OUT_OF_RANGE: there are fewer sums than places, or the place `at` is not below `places`.
- * IC_NOT_LINKED: the place `at` is not linked. IC_BROKEN: the root does not belong to this table. */
+ * IC_NOT_LINKED: the place `at` is not linked. IC_BROKEN: the root is not linked in this table, or `at` is the root of another tree. */
 IC_NODISCARD
 uint32_t ic_tree_sums_remove(struct ic_link3 *table, ic_length places, struct ic_sum *sums, ic_length sum_count, uint32_t kind,
                              struct ic_tree *tree, uint32_t at);
 
-/* Updates the sums after the caller has changed the value of `at`: the sum at `at`, and the sums above it as far as they change, in O(log
- * n). If `at` is IC_NONE, it computes all sums of the table, for all trees in it, in O(p log p) for p places. The call writes nothing else.
+/* Computes the sum at the member `at` again, and then the sums at the members above `at`, until a sum does not change, in O(log n). Make
+ * this call after you have changed the value of `at`. If `at` is IC_NONE, the call computes all sums of the table, for every tree in the
+ * table, in O(p log p) for p places. The call writes only sums.
  * IC_OUT_OF_RANGE: there are fewer sums than places, or the place `at` is not below `places`. IC_NOT_LINKED: the place `at` is not linked. */
 IC_NODISCARD
 uint32_t ic_tree_sums_renew(const struct ic_link3 *table, ic_length places, struct ic_sum *sums, ic_length sum_count, uint32_t kind,
                             uint32_t at);
 
-/* Combines the values of the members after the member `at`, or of all members if `at` is IC_NONE, one after the other, finds the first
- * member at which the combined value exceeds `bound`, and sets *found to it, in O(log n). The call writes nothing else.
- * IC_NULL: the combined value of all members after `at` does not exceed `bound`. IC_OUT_OF_RANGE: there are fewer sums than places, or the
- * place `at` is not below `places`. IC_NOT_LINKED: the place `at` is not linked. IC_BROKEN: the sums of the tree are not right, or the root
- * does not belong to this table. */
+/* Combines the values of the members after the member `at`, or of all members if `at` is IC_NONE, in their order, finds the first member at
+ * which the combined value is greater than `bound`, and sets *found to it, in O(log n). The call writes nothing else.
+ * IC_NULL: the combined value of all these members is not greater than `bound`. IC_OUT_OF_RANGE: there are fewer sums than places, or the
+ * place `at` is not below `places`. IC_NOT_LINKED: the place `at` is not linked. IC_BROKEN: the sums of the tree are wrong, or the root is
+ * not linked in this table. */
 IC_NODISCARD
 uint32_t ic_tree_sums_find(const struct ic_link3 *table, ic_length places, const struct ic_sum *sums, ic_length sum_count, uint32_t kind,
                            const struct ic_tree *tree, uint32_t at, uint64_t bound, uint32_t *found);
 
 /* Finds the combined value of the members before the member `at`, and sets *sum to it, in O(log n). The call writes nothing else.
  * IC_NULL: the place `at` is IC_NONE. IC_OUT_OF_RANGE: there are fewer sums than places, or the place `at` is not below `places`.
- * IC_NOT_LINKED: the place `at` is not linked. IC_BROKEN: the links lead from `at` to no root. */
+ * IC_NOT_LINKED: the place `at` is not linked. IC_BROKEN: the links from `at` upwards lead to no root. */
 IC_NODISCARD
 uint32_t ic_tree_sums_before(const struct ic_link3 *table, ic_length places, const struct ic_sum *sums, ic_length sum_count, uint32_t kind,
                              uint32_t at, uint64_t *sum);
 
 /* Finds the first member after the member `at`, or the first of all members if `at` is IC_NONE, whose interval overlaps the interval that
  * begins at `from` and ends before `to`, and sets *found to it, in O(log n). The interval of a member begins at its key and ends before its
- * value. The sums must be those of IC_GREATEST, and the keys must not decrease from one member to the next. The call writes nothing else.
- * IC_NULL: no member after `at` has such an interval. IC_OUT_OF_RANGE: there are fewer keys than places, or there are fewer sums than
- * places, or the place `at` is not below `places`. IC_NOT_LINKED: the place `at` is not linked. IC_BROKEN: the sums of the tree are not
- * right, or the root does not belong to this table. */
+ * value. The sums must have been made with IC_GREATEST, and the members must be sorted by keys. The call writes nothing else.
+ * IC_NULL: none of these members has such an interval. IC_OUT_OF_RANGE: there are fewer keys than places, or there are fewer sums than
+ * places, or the place `at` is not below `places`. IC_NOT_LINKED: the place `at` is not linked. IC_BROKEN: the sums of the tree are wrong,
+ * or the root is not linked in this table. */
 IC_NODISCARD
 uint32_t ic_tree_sums_overlap(const struct ic_link3 *table, ic_length places, const uint64_t *keys, ic_length key_count,
                               const struct ic_sum *sums, ic_length sum_count, const struct ic_tree *tree, uint32_t at, uint64_t from,

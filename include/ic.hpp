@@ -1,5 +1,5 @@
-// These are views of the lists, rings, hash tables and trees of ic.h for C++17, with iterators, std::optional, and a status that you can't
-// overlook.
+// This header has views of the lists, rings, hash tables and trees of ic.h for C++17. A view has iterators, and returns places as std::optional. If
+// you ignore the status of a call, the compiler warns.
 //
 //     std::vector<ic_link2> links(100);                 // a hundred unlinked places
 //     ic_list head{};                                   // a list with no members
@@ -9,15 +9,16 @@
 //         std::printf("%u\n", place);
 //     std::optional<std::uint32_t> oldest = list.pop_front();
 //
-// A view has pointers to a table and to a list or tree. The table and the list or tree are yours and have to live as long as the view and its
-// iterators. You can copy a view as you copy a pointer. The comments of ic.h say what each edit does and why it is refused, at the call with the same
-// name. For each view there is a second view whose name begins with const_, such as ic::const_list_view, and which reads a table and a list or tree
+// A view has pointers to a table and to a list or tree. You own the table and the list or tree, and must keep them as long as you use the view or its
+// iterators. You can copy a view as you copy a pointer. For each edit, the comment in ic.h at the call with the same name says what the call does and
+// when it is refused. For each view there is a second view whose name begins with const_, such as ic::const_list_view, for a table and a list or tree
 // that are const.
 //
-// In C++20 each view with a begin() is a std::ranges::view, and a borrowed range, so that the view's iterators outlive the view.
+// In C++20 each view with a begin() is a std::ranges::view and a borrowed range, so you may use its iterators after the view is destroyed.
 //
-// Nothing in this header allocates or throws, and the header compiles with -fno-exceptions and -fno-rtti. As in C, no words of a table make a view
-// read or write outside the table. A loop from begin() to end(), or from rbegin() to rend(), has at most as many rounds as the table has places.
+// Nothing in this header allocates or throws, and the header compiles with -fno-exceptions and -fno-rtti. As in C, a view never reads or writes
+// outside the table, whatever the words of the table are. A loop from begin() to end(), or from rbegin() to rend(), has at most as many rounds as the
+// table has places.
 #ifndef IC_HPP
 #define IC_HPP
 
@@ -37,12 +38,12 @@
 #include <version>
 #endif
 #ifdef __cpp_lib_ranges
-#include <span> // declares what makes a type a view and a borrowed range, in less text than <ranges>
+#include <span> // declares enable_view and enable_borrowed_range, and is a shorter header than <ranges>
 #endif
 
 namespace ic {
 
-/// This number names no place.
+/// The number `none` names no place.
 inline constexpr std::uint32_t none = IC_NONE;
 
 /// An edit returns a status. Every status except `ok` is a refusal, and a refused edit has changed nothing.
@@ -65,7 +66,7 @@ class array_view;
 
 namespace detail {
 
-/// Is true if a container that is passed as an rvalue does not own its elements: true of a std::span, and false of a std::vector.
+/// Is true of a container type whose objects do not own their elements, such as std::span, and false of a type such as std::vector.
 template <class Container>
 #ifdef __cpp_lib_ranges
 inline constexpr bool is_borrowed = std::ranges::enable_borrowed_range<Container>;
@@ -77,8 +78,8 @@ inline constexpr bool is_borrowed<array_view<Element>> = true;
 
 } // namespace detail
 
-/// This is a pointer and a length. You make it from a pointer and a length, from a vector, from an array, or from anything else that has a pointer
-/// and a length. A temporary is accepted only if it does not own its elements, for example a std::span.
+/// An array_view is a pointer and a length. You make an array_view from a pointer and a length, from an array, or from a container with data() and
+/// size(), such as a vector. The constructor takes a temporary object only if this object does not own its elements, for example a std::span.
 template <class Element>
 class array_view {
     template <class Container>
@@ -103,12 +104,13 @@ private:
 
 namespace detail {
 
-/// This is a member, and the member from which a walk came to the first one. At an end of the list or tree either member is `none`.
+/// A position is a member `at`, and the member `from` from which a walk came to `at`. At the first member of the walk `from` is `none`, and at the
+/// end `at` is `none`.
 struct position {
     std::uint32_t from = none, at = none;
 };
 
-/// These are a table, and a list or tree in this table, for reading.
+/// A struct words has pointers to a table that a view reads and to a list or tree in this table.
 template <class Link, class Head>
 struct words {
     const Link *table = nullptr;
@@ -116,9 +118,9 @@ struct words {
     const Head *head = nullptr;
 };
 
-// ---- Kinds: which calls each has, the member at an end, the one beyond a member, and how a member is removed ------------------------
+// ---- Kinds: a kind has the calls of ic.h for one type of list, ring or tree, and finds its ends and neighbors ------------------------
 
-/// This is a kind with a head of its own, which views point to.
+/// This is the base of the kinds of lists and trees. A view of a list or tree has a pointer to a struct such as ic_list.
 template <class Link, class Head>
 struct headed {
     using link = Link;
@@ -129,8 +131,8 @@ struct headed {
     static handle handle_of(argument list) noexcept { return &list; }
 };
 
-/// These are the calls of doubly linked lists, once for links with words of 8 bytes and once for words of 4 bytes. Lists with words of 4 bytes have
-/// no fill, sort or merge.
+/// wide_list has the calls of doubly linked lists whose links have words of 8 bytes, and narrow_list those for words of 4 bytes, where there is no
+/// fill, sort or merge.
 struct wide_list {
     using link = ic_link2;
     static constexpr auto clear = ic_list_clear;
@@ -271,8 +273,8 @@ struct red_black : headed<ic_link3, ic_tree> {
     }
 };
 
-/// These are the calls of rings, once for links with words of 8 bytes and once for words of 4 bytes. Rings with words of 4 bytes have no check, sort
-/// or merge.
+/// wide_ring has the calls of rings whose links have words of 8 bytes, and narrow_ring those for words of 4 bytes, where there is no check, sort or
+/// merge.
 struct wide_ring {
     using link = ic_link2;
     static constexpr auto init = ic_ring_init;
@@ -326,7 +328,7 @@ struct narrow_ring {
     static constexpr auto is_empty_in = ic_ring32_is_empty;
 };
 
-/// The head of a ring is a place of its table.
+/// This is the kind of a ring. A view of a ring has no pointer to a struct, because the head of a ring is a place.
 template <class Ring>
 struct circular : Ring {
     using link = typename Ring::link;
@@ -355,19 +357,20 @@ struct circular : Ring {
 
 // ---- Iterators ---------------------------------------------------------------------------------------------------------------------
 
-/// If the link of a member does not name the member before it, the iterator also stores the position from which the iterator came to `from`.
+/// In a list whose links do not name the previous member, `it++` also stores in `before` the position two steps before the one to which it moves the
+/// iterator.
 struct trail {
     position before{};
     bool is_kept = false;
 };
 struct no_trail {};
 
-/// Goes from member to member, and gives the place of each. An iterator stays valid until its member is removed. In a singly linked or an XOR list
-/// the iterator also needs the member from which it came, so make a new iterator if you have removed that member. An iterator that has gone on by
-/// `it++` does not need the member from which it came, so `erase(it++)` is right for each kind.
+/// An iterator goes from member to member, and `*it` is the place of the member. An iterator is valid until its member is removed. In a singly linked
+/// or an XOR list the iterator also needs the member from which it came, so make a new iterator if you have removed this previous member. After
+/// `it++` the iterator does not need the previous member, so you may write `erase(it++)` for every list, ring and tree.
 ///
-/// `Back` says whether the iterator goes from the last member to the first. The iterator counts its steps. After as many steps forwards as the table
-/// has places the iterator is at the end, and after as many steps backwards it is at the beginning.
+/// If `Back` is true, the iterator goes from the last member to the first. The iterator counts its steps, and after as many `++` as the table has
+/// places the iterator is at the end. After as many `--` the iterator is at the beginning.
 template <class Kind, bool Back>
 class iterator : std::conditional_t<Kind::needs_from, trail, no_trail> {
 public:
@@ -379,7 +382,7 @@ public:
 
     iterator() = default;
 
-    /// Makes the iterator at a position, or at the end if no member is there.
+    /// Makes an iterator at a position, or the end iterator if `it.at` is no linked place of the table.
     iterator(typename Kind::source in, position it) noexcept : in_(in), left_(ic_bound(in.places)) { go(it); }
 
     [[nodiscard]] std::uint32_t operator*() const noexcept { return it_.at; }
@@ -431,14 +434,14 @@ public:
     [[nodiscard]] friend bool operator==(const iterator &one, const iterator &other) noexcept { return one.it_.at == other.it_.at; }
     [[nodiscard]] friend bool operator!=(const iterator &one, const iterator &other) noexcept { return !(one == other); }
 
-    /// Returns the member, and the member before it. The iterator came from the member before, unless the member before has been removed.
+    /// Returns the member of the iterator and the previous member, even if the member from which the iterator came has been removed by `erase(it++)`.
     [[nodiscard]] position where() const noexcept {
         iterator settled = *this;
         settled.settle();
         return settled.it_;
     }
 
-    /// Returns the iterator after this one, in the state that the returned iterator has once the member of this one has been removed.
+    /// Returns an iterator at the next member, which stays valid if the caller then removes the member of this iterator.
     [[nodiscard]] iterator past() const noexcept {
         iterator next = *this;
         ++next;
@@ -447,7 +450,7 @@ public:
     }
 
 private:
-    /// Finds out whether the member that the iterator came from has been removed, as `erase(it++)` does.
+    /// Corrects `from` if `erase(it++)` has removed the member from which the iterator came.
     void settle() noexcept {
         if constexpr (Kind::needs_from) {
             if (this->is_kept)
@@ -456,8 +459,8 @@ private:
         }
     }
 
-    /// Returns the member before the position `at`. The member is `from`, from which the iterator came to `at`, unless the link of the member before
-    /// `from` now names `at`. The function takes values and is no part of a loop, so that compilers keep iterators in registers.
+    /// Returns the member before `at`: `before.at` if the link of `before.at` now leads to `at`, because `from` has been removed, and otherwise
+    /// `from`. The function takes values and is not inlined, so that compilers keep iterators in registers.
 #ifdef __GNUC__
     [[gnu::noinline]]
 #endif
@@ -473,12 +476,13 @@ private:
 
     typename Kind::source in_;
     position it_;
-    /// These two numbers say how many steps forwards the iterator has left, and how many members before its first position the iterator has gone.
+    /// `left_` is how many steps forwards the iterator may still make. `ahead_` is how many steps the iterator has made backwards from its first
+    /// position.
     std::uint32_t left_ = 0, ahead_ = 0;
 };
 
-/// `erase` returns the iterator after the removed member, and the status of the removal. If the status is not ok, the member is where it was, and the
-/// iterator is end(), so that a loop of `it = erase(it)` ends.
+/// `erase` returns an `erased`, which is the iterator at the member after the removed one, together with the status of the removal. If the status is
+/// not ok, no member is removed, and the iterator is end(), so that a loop of `it = erase(it)` ends.
 template <class Iterator>
 class erased : public Iterator {
 public:
@@ -493,7 +497,7 @@ private:
 
 // ---- What all kinds have -----------------------------------------------------------------------------------------------------------
 
-/// Marks the views that read members. Copies of such a view are cheap, and the view's iterators outlive the view.
+/// This is the base of all views that read members. A copy of a view is cheap, and you may use the iterators of a view after the view is destroyed.
 struct view_base {};
 
 #ifdef __cpp_lib_ranges
@@ -501,7 +505,7 @@ template <class View>
 concept is_view = std::is_base_of_v<view_base, View>;
 #endif
 
-/// Reads a list, a ring or a tree of one kind.
+/// Reads a list, a ring or a tree, whose calls `Kind` has.
 template <class Kind>
 class members : public view_base {
 public:
@@ -516,16 +520,16 @@ public:
     [[nodiscard]] bool empty() const noexcept { return Kind::is_empty(in_); }
 
     /// Returns how many members there are, in O(n), or std::nullopt if the words form no list, ring or tree. Call check() if the words come from a
-    /// file, or if others write them. An XOR list has no check.
+    /// file, or from memory that others write. XOR lists have no check().
     [[nodiscard]] std::optional<std::uint64_t> check() const noexcept {
         std::uint64_t count = 0;
         return Kind::check(in_.table, in_.places, in_.head, &count) == IC_OK ? std::optional<std::uint64_t>(count) : std::nullopt;
     }
 
-    /// Returns whether a place is in this or another list or tree of the table.
+    /// Returns whether a place is in this list or tree, or in another list or tree of the same table.
     [[nodiscard]] bool is_linked(std::uint32_t place) const noexcept { return Kind::is_linked(in_, place); }
 
-    /// Returns the first member, or std::nullopt if there is none or if the first member is no place of this table.
+    /// Returns the first member, or std::nullopt if there is none or if the first member is not linked in this table.
     [[nodiscard]] std::optional<std::uint32_t> front() const noexcept { return found(*begin()); }
 
 protected:
@@ -538,7 +542,7 @@ protected:
     typename Kind::source in_;
 };
 
-/// Reads a list or a tree that is walked both ways.
+/// Reads a list or a tree from the first member to the last, and from the last to the first.
 template <class Kind>
 class two_way : public members<Kind> {
 public:
@@ -548,14 +552,14 @@ public:
     [[nodiscard]] reverse_iterator rbegin() const noexcept { return {this->in_, {none, Kind::outermost(this->in_, true)}}; }
     [[nodiscard]] reverse_iterator rend() const noexcept { return {this->in_, {}}; }
 
-    /// Returns the last member, or std::nullopt if there is none or if the last member is no place of this table.
+    /// Returns the last member, or std::nullopt if there is none or if the last member is not linked in this table.
     [[nodiscard]] std::optional<std::uint32_t> back() const noexcept { return this->found(*rbegin()); }
 
 protected:
     using members<Kind>::members;
 };
 
-/// Reads a list or a tree in which the links of a member name both of its neighbors.
+/// Reads a list or a tree in which an iterator needs only the place of its member.
 template <class Kind>
 class placed : public two_way<Kind> {
 public:
@@ -568,7 +572,7 @@ protected:
     using two_way<Kind>::two_way;
 };
 
-/// Is made of a table and of a list or a tree.
+/// Has the constructor of a view, which takes a table, and a list or a tree.
 template <class Base>
 class of_head : public Base {
     using link = typename Base::kind::link;
@@ -579,14 +583,14 @@ public:
     of_head(array_view<const link> table, const head &&list) = delete;
 };
 
-/// Removes members that iterators name.
+/// Has the calls that remove the members of iterators.
 template <class Base>
 class erases : public Base {
 public:
     using iterator = typename Base::iterator;
     using Base::Base;
 
-    /// Removes the member of an iterator, and moves the iterator on to the next one.
+    /// Removes the member of an iterator, and moves the iterator to the next member.
     [[nodiscard]] erased<iterator> erase(iterator &at) const noexcept {
         const iterator next = at.past();
         const status done = this->take(at);
@@ -596,11 +600,11 @@ public:
         return {done, next};
     }
 
-    /// Removes the member of an iterator that nobody reads again, such as `it++`. You may ignore the status of this call, as in the standard library.
+    /// Removes the member of a temporary iterator, such as `it++`. You may ignore the status of this call, as in the standard library.
     erased<iterator> erase(iterator &&at) const noexcept { return erase(at); }
     [[nodiscard]] erased<iterator> erase(const iterator &at) const noexcept { return erase(iterator(at)); }
 
-    /// Removes the members from `first` on, up to `last`, and stops at the first refusal.
+    /// Removes the members from `first` up to the member before `last`, and stops if the removal of a member is refused.
     [[nodiscard]] erased<iterator> erase(iterator first, iterator last) const noexcept {
         while (first != last)
             if (const auto done = erase(first); done.status() != status::ok)
@@ -608,8 +612,9 @@ public:
         return {status::ok, first};
     }
 
-    /// Removes each member of which the predicate is true, and passes it to `then`, which may link it in another list or tree. Neither the predicate
-    /// nor `then` may edit this list or tree. The call stops at the first refusal, and returns its status.
+    /// Removes each member for which the predicate is true, and calls `then` with this member, which `then` may insert into another list or tree.
+    /// Neither the predicate nor `then` may edit this list or tree. If the removal of a member is refused, the call stops and returns the status of
+    /// this removal.
     template <class Predicate, class Then>
     status remove_if(Predicate is_unwanted, Then then) const {
         for (iterator at = this->begin(); at != this->end();) {
@@ -625,13 +630,13 @@ public:
         return status::ok;
     }
 
-    /// Removes each member of which the predicate is true.
+    /// Removes each member for which the predicate is true.
     template <class Predicate>
     status remove_if(Predicate is_unwanted) const {
         return remove_if(std::move(is_unwanted), [](std::uint32_t) {});
     }
 
-    /// Removes each member of which the predicate is false.
+    /// Removes each member for which the predicate is false.
     template <class Predicate>
     status retain(Predicate is_wanted) const {
         return remove_if([&](std::uint32_t place) { return !is_wanted(place); });
@@ -659,14 +664,14 @@ protected:
         return static_cast<status>(call(table_, this->in_.places, head_, arguments...));
     }
 
-    /// Makes an edit that returns the place which it has removed.
+    /// Makes a call of C that removes a place, and returns this place, or std::nullopt if the call is refused.
     template <class Call, class... Arguments>
     std::optional<std::uint32_t> taken(Call call, Arguments... arguments) const noexcept {
         std::uint32_t place = none;
         return call(table_, this->in_.places, head_, arguments..., &place) == IC_OK ? this->found(place) : std::nullopt;
     }
 
-    /// Makes an edit with a second list, which has to be another list than the first one, and in the same table.
+    /// Makes a call of C for this list and the list `other`, or returns status::broken if `other` is this list or a list of another table.
     template <class Call, class... Arguments>
     status edit_both(const writes &other, Call call, Arguments... arguments) const noexcept {
         return other.table_ == table_ && other.head_ != head_ ? edit(call, arguments...) : status::broken;
@@ -686,7 +691,7 @@ public:
     status push_front(std::uint32_t place) const noexcept { return this->edit(kind::push_front, place); }
 
     /// Removes the first member, and returns it, or returns std::nullopt if there is none. If the list is not empty(), std::nullopt means that the
-    /// first member is no place of this table.
+    /// call was refused with ic::status::broken.
     [[nodiscard]] std::optional<std::uint32_t> pop_front() const noexcept { return this->taken(kind::pop_front); }
 };
 
@@ -700,22 +705,22 @@ public:
     status push_back(std::uint32_t place) const noexcept { return this->edit(kind::push_back, place); }
 
     /// Removes the last member, and returns it, or returns std::nullopt if there is none. If the list is not empty(), std::nullopt means that the
-    /// last member is no place of this table.
+    /// call was refused with ic::status::broken.
     [[nodiscard]] std::optional<std::uint32_t> pop_back() const noexcept { return this->taken(kind::pop_back); }
 };
 
-/// This view also edits a list as a whole.
+/// Has the call that removes all members of a list.
 template <class Base>
 class list_edits : public Base {
 public:
     using kind = typename Base::kind;
     using Base::Base;
 
-    /// Removes all members. If the members form no list of this table, the call returns ic::status::broken and changes nothing.
+    /// Removes all members. If the links form no list, the call returns ic::status::broken and changes nothing.
     status clear() const noexcept { return this->edit(kind::clear); }
 };
 
-/// This view also links a run of places by one call.
+/// Has the call that inserts many places at once.
 template <class Base>
 class fills : public Base {
 public:
@@ -723,11 +728,11 @@ public:
     using Base::Base;
 
     /// Inserts the `count` places `first`, `first` + 1 and so on, in rising order, at the back, or in a singly linked list at the front. If one of
-    /// these places is refused, none is linked.
+    /// these places is out of range or linked already, the call inserts none.
     status fill(std::uint32_t first, std::uint32_t count) const noexcept { return this->edit(kind::fill, first, count); }
 };
 
-/// Sorts a list or the members of a ring.
+/// Has the call that sorts a list or the members of a ring.
 template <class Base>
 class sorts : public Base {
 public:
@@ -735,13 +740,13 @@ public:
     using keys_view = array_view<const std::uint64_t>;
     using Base::Base;
 
-    /// Sorts the members by their keys, of which there is one for each place. Members with equal keys keep their order.
+    /// Sorts the members by their keys. `keys` has a key for each place. Members with equal keys keep their order.
     status sort(keys_view keys) const noexcept {
         return static_cast<status>(kind::sort(this->table_, this->in_.places, keys.data(), keys.size(), this->head_));
     }
 };
 
-/// Merges another list, or the members of another head, too.
+/// Has the calls that sort a list or ring, and merge two lists or the members of two rings.
 template <class Base>
 class merges : public sorts<Base> {
 public:
@@ -749,8 +754,9 @@ public:
     using typename sorts<Base>::keys_view;
     using sorts<Base>::sorts;
 
-    /// Moves all members of `given` to where their keys belong, after members with equal keys. The call returns ic::status::broken in the cases in
-    /// which a splice does.
+    /// Moves all members of `given` into this list or ring, which the call leaves sorted by keys if both were sorted by keys. Members of `given` come
+    /// after members of this list or ring with equal keys. The call returns ic::status::broken if `given` is this list or ring itself, or is of
+    /// another table.
     status merge(keys_view keys, const merges &given) const noexcept {
         if (given.table_ != this->table_ || given.head_ == this->head_)
             return status::broken;
@@ -773,21 +779,21 @@ public:
     using iterator = typename base::iterator;
     using base::base;
 
-    /// Inserts a place before an iterator's member, and at the back if that is end().
+    /// Inserts a place before the member of an iterator, or at the back if the iterator is end().
     status insert(iterator at, std::uint32_t place) const noexcept { return insert_before(*at, place); }
     status insert_after(std::uint32_t at, std::uint32_t place) const noexcept { return this->edit(List::insert_after, at, place); }
     status insert_before(std::uint32_t at, std::uint32_t place) const noexcept { return this->edit(List::insert_before, at, place); }
     status remove(std::uint32_t at) const noexcept { return this->edit(List::remove, at); }
     status replace(std::uint32_t at, std::uint32_t place) const noexcept { return this->edit(List::replace, at, place); }
 
-    /// Moves the member `place`, which stays linked.
+    /// This and the next three calls move the member `place`, which stays linked during the call.
     status move_after(std::uint32_t at, std::uint32_t place) const noexcept { return this->edit(List::move_after, at, place); }
     status move_before(std::uint32_t at, std::uint32_t place) const noexcept { return this->edit(List::move_before, at, place); }
     status move_to_front(std::uint32_t place) const noexcept { return this->edit(List::move_to_front, place); }
     status move_to_back(std::uint32_t place) const noexcept { return this->edit(List::move_to_back, place); }
 
-    /// Moves all members of `given` before an iterator's member, and to the back if the iterator is end(). This and the next five calls return
-    /// ic::status::broken if you pass this list itself, or a list of another table.
+    /// Moves all members of `given` before the member of an iterator, or to the back if the iterator is end(). Each call from splice to split_before
+    /// returns ic::status::broken if `given` or `rest` is this list itself or a list of another table.
     status splice(iterator at, const edits_of_list &given) const noexcept { return splice_before(*at, given); }
     status splice_after(std::uint32_t at, const edits_of_list &given) const noexcept {
         return this->edit_both(given, List::splice_after, at, given.head_);
@@ -799,16 +805,17 @@ public:
     status split_after(std::uint32_t at, const edits_of_list &rest) const noexcept { return this->edit_both(rest, List::split_after, at, rest.head_); }
     status split_before(std::uint32_t at, const edits_of_list &rest) const noexcept { return this->edit_both(rest, List::split_before, at, rest.head_); }
 
-    /// Moves the member of an iterator of `given` before the member of an iterator of this list, and to the back if the latter is end(). The place
-    /// stays linked. This and the next two calls return ic::status::broken in the cases in which a splice of all members does.
+    /// Moves the member of `member`, an iterator of `given`, before the member of `at`, an iterator of this list, or to the back if `at` is end().
+    /// The moved member stays linked during the call. This and the next two calls return ic::status::broken if `given` is this list itself or a list
+    /// of another table.
     status splice(iterator at, const edits_of_list &given, iterator member) const noexcept { return transfer_before(*at, given, *member); }
 
-    /// Moves the member `place` of `given` after the member `at`, and to the front if `at` is `none`. The place stays linked.
+    /// Moves the member `place` of `given` after the member `at`, or to the front if `at` is `none`. `place` stays linked during the call.
     status transfer_after(std::uint32_t at, const edits_of_list &given, std::uint32_t place) const noexcept {
         return this->edit_both(given, List::transfer_after, at, given.head_, place);
     }
 
-    /// Moves the member `place` of `given` before the member `at`, and to the back if `at` is `none`. The place stays linked.
+    /// Moves the member `place` of `given` before the member `at`, or to the back if `at` is `none`. `place` stays linked during the call.
     status transfer_before(std::uint32_t at, const edits_of_list &given, std::uint32_t place) const noexcept {
         return this->edit_both(given, List::transfer_before, at, given.head_, place);
     }
@@ -824,7 +831,7 @@ public:
     using merges::merges;
 };
 
-/// Edits a doubly linked list whose links have words of 4 bytes, which has no fill, sort or merge.
+/// These views read or edit doubly linked lists whose links have words of 4 bytes, and have no fill, sort or merge.
 using const_list32_view = detail::of_head<detail::placed<detail::doubly<detail::narrow_list>>>;
 using list32_view = detail::edits_of_list<detail::narrow_list>;
 
@@ -854,7 +861,7 @@ class members_of_ring : public end_edits<const_members_of_ring<Ring>> {
 public:
     using base::base;
 
-    /// Inserts a place before an iterator's member, and at the back if that is end().
+    /// Inserts a place before the member of an iterator, or at the back if the iterator is end().
     status insert(typename base::iterator at, std::uint32_t place) const noexcept {
         return *at == none ? this->push_back(place) : static_cast<status>(Ring::insert_before(this->table_, this->in_.places, *at, place));
     }
@@ -873,14 +880,14 @@ public:
     [[nodiscard]] std::uint32_t next(std::uint32_t at) const noexcept { return Ring::next(in_.data(), in_.size(), at); }
     [[nodiscard]] std::uint32_t prev(std::uint32_t at) const noexcept { return Ring::prev(in_.data(), in_.size(), at); }
 
-    /// Returns the members of the ring with this head, for a loop or an algorithm.
+    /// Returns a view of the members of the ring with this head, for a loop or an algorithm.
     [[nodiscard]] const_members_of_ring<Ring> members(std::uint32_t head) const noexcept { return {in_, head}; }
 
 protected:
     array_view<const link> in_;
 };
 
-/// Edits the rings of a table. You remove a member, or move it, without naming its ring. `Reads` is the view that reads the rings.
+/// Edits the rings of a table. To remove or move a member, you do not name its ring. `Reads` is the view that reads the rings.
 template <class Ring, class Reads>
 class rings : public Reads {
     using link = typename Ring::link;
@@ -888,7 +895,7 @@ class rings : public Reads {
 public:
     rings(array_view<link> table) noexcept : Reads(array_view<const link>(table)), table_(table.data()), places_(table.size()) {}
 
-    /// Returns the members of the ring with this head. `erase` takes their iterators, too.
+    /// Returns a view that reads and erases the members of the ring with this head.
     [[nodiscard]] members_of_ring<Ring> members(std::uint32_t head) const noexcept { return {{table_, places_}, head}; }
 
     /// Makes a place the head of a ring with no members.
@@ -899,21 +906,22 @@ public:
     status push_front(std::uint32_t head, std::uint32_t place) const noexcept { return edit(Ring::push_front, head, place); }
     status push_back(std::uint32_t head, std::uint32_t place) const noexcept { return edit(Ring::push_back, head, place); }
 
-    /// Removes a place from its ring, whichever ring has the place.
+    /// Removes a place from its ring, which you do not name.
     status remove(std::uint32_t place) const noexcept { return edit(Ring::remove, place); }
     status replace(std::uint32_t at, std::uint32_t place) const noexcept { return edit(Ring::replace, at, place); }
     status move_after(std::uint32_t at, std::uint32_t place) const noexcept { return edit(Ring::move_after, at, place); }
     status move_before(std::uint32_t at, std::uint32_t place) const noexcept { return edit(Ring::move_before, at, place); }
 
-    /// Moves all members of the ring with the head `given` after a place of another ring, or before it.
+    /// splice_after moves all members of the ring with the head `given` after the place `at` of another ring, and splice_before moves them before
+    /// this place.
     status splice_after(std::uint32_t at, std::uint32_t given) const noexcept { return edit(Ring::splice_after, at, given); }
     status splice_before(std::uint32_t at, std::uint32_t given) const noexcept { return edit(Ring::splice_before, at, given); }
 
     /// Exchanges the positions of two places, in one ring or in two.
     status swap(std::uint32_t one, std::uint32_t other) const noexcept { return edit(Ring::swap, one, other); }
 
-    /// Moves the places from `first` to `last` of a ring after the place `at` of this or another ring, or before it. `at` must not be one of the
-    /// places that move.
+    /// move_range_after moves the places from `first` to `last` of a ring after the place `at` of the same or another ring, and move_range_before
+    /// moves them before `at`. `at` must not be one of the places that move.
     status move_range_after(std::uint32_t at, std::uint32_t first, std::uint32_t last) const noexcept {
         return edit(Ring::move_range_after, at, first, last);
     }
@@ -921,15 +929,15 @@ public:
         return edit(Ring::move_range_before, at, first, last);
     }
 
-    /// Exchanges the place after `one` and the place after `other`. Both `one` and `other` are in rings.
+    /// Makes the place after `one` follow `other`, and the place after `other` follow `one`. `one` and `other` are in one ring or in two.
     status exchange(std::uint32_t one, std::uint32_t other) const noexcept { return edit(Ring::exchange, one, other); }
 
-    /// Removes the first or the last member of the ring with this head, and returns it, or returns std::nullopt if there is none, or if the call is
-    /// refused.
+    /// pop_front removes and returns the first member of the ring with this head, and pop_back the last one. pop_front and pop_back return
+    /// std::nullopt if there is no member or if the call is refused.
     [[nodiscard]] std::optional<std::uint32_t> pop_front(std::uint32_t head) const noexcept { return taken(Ring::pop_front, head); }
     [[nodiscard]] std::optional<std::uint32_t> pop_back(std::uint32_t head) const noexcept { return taken(Ring::pop_back, head); }
 
-    /// Calls a function with each member of the ring with this head. The function may remove the member.
+    /// Calls the function `then` with each member of the ring with this head. `then` may remove this member.
     template <class Function>
     void for_each(std::uint32_t head, Function then) const {
         IC_LOOP_SAFE(place, after, Ring::next(table_, places_, head), places_, place != head && this->is_linked(place), Ring::next(table_, places_, place))
@@ -968,7 +976,7 @@ public:
     using const_rings::const_rings;
 
     /// Returns how many members the ring with this head has, in O(n), or std::nullopt if the words form no ring with this head. Call check() if the
-    /// words come from a file, or if others write them.
+    /// words come from a file, or from memory that others write.
     [[nodiscard]] std::optional<std::uint64_t> check(std::uint32_t head) const noexcept { return members(head).check(); }
 };
 
@@ -977,20 +985,20 @@ class ring_view : public detail::rings<detail::wide_ring, const_ring_view> {
 public:
     using rings::rings;
 
-    /// Returns the members of the ring with this head. `erase` takes their iterators, too.
+    /// Returns a view that reads and erases the members of the ring with this head.
     [[nodiscard]] ring_members members(std::uint32_t head) const noexcept { return {{table_, places_}, head}; }
 
-    /// Sorts the members of the ring with this head by their keys. There has to be a key for each place. Members with equal keys keep their order.
+    /// Sorts the members of the ring with this head by their keys. `keys` has a key for each place. Members with equal keys keep their order.
     status sort(array_view<const std::uint64_t> keys, std::uint32_t head) const noexcept { return members(head).sort(keys); }
 
-    /// Moves all members of the ring with the head `given` to where their keys belong in the ring with the head `head`, after members with equal
-    /// keys.
+    /// Moves all members of the ring with the head `given` into the ring with the head `head`, which the call leaves sorted by keys if both rings
+    /// were sorted by keys. The moved members come after members with equal keys.
     status merge(array_view<const std::uint64_t> keys, std::uint32_t head, std::uint32_t given) const noexcept {
         return static_cast<status>(ic_ring_merge(table_, places_, keys.data(), keys.size(), head, given));
     }
 };
 
-/// Edits the rings of a table whose links have words of 4 bytes, which have no check, sort or merge.
+/// These views read or edit the rings of a table whose links have words of 4 bytes, and have no check, sort or merge.
 using const_ring32_members = detail::const_members_of_ring<detail::narrow_ring>;
 using ring32_members = detail::members_of_ring<detail::narrow_ring>;
 using const_ring32_view = detail::const_rings<detail::narrow_ring>;
@@ -1000,25 +1008,25 @@ using ring32_view = detail::rings<detail::narrow_ring, const_ring32_view>;
 
 using const_stack_view = detail::of_head<detail::members<detail::singly>>;
 
-/// Edits a singly linked list. An edit in the middle is made after the member `at`, or at the front if `at` is `none`.
+/// Edits a singly linked list. The calls that take a member `at` edit the list after this member, or at the front if `at` is `none`.
 class stack_view : public detail::merges<detail::fills<detail::list_edits<detail::front_edits<const_stack_view>>>> {
 public:
     using merges::merges;
 
     status insert_after(std::uint32_t at, std::uint32_t place) const noexcept { return edit(ic_stack_insert_after, at, place); }
 
-    /// Removes the member after `at`, and returns it, or returns std::nullopt if the call is refused.
+    /// Removes the member after `at`, and returns the removed member, or returns std::nullopt if the call is refused.
     [[nodiscard]] std::optional<std::uint32_t> remove_after(std::uint32_t at) const noexcept { return taken(ic_stack_remove_after, at); }
 
-    /// Replaces the member after `at` by a place, and returns the replaced member, or returns std::nullopt if the call is refused.
+    /// Removes the member after `at`, and inserts `place` where it was. Returns the removed member, or std::nullopt if the call is refused.
     [[nodiscard]] std::optional<std::uint32_t> replace_after(std::uint32_t at, std::uint32_t place) const noexcept {
         return taken(ic_stack_replace_after, at, place);
     }
 
-    /// Removes a place, wherever the place is in the list, in O(n).
+    /// Removes a place from any position in the list, in O(n).
     status remove(std::uint32_t place) const noexcept { return edit(ic_stack_remove, place); }
 
-    /// A splice_after or split_after returns ic::status::broken if you pass this list itself, or a list of another table.
+    /// splice_after and split_after return ic::status::broken if `given` or `rest` is this list itself or a list of another table.
     status splice_after(std::uint32_t at, stack_view given) const noexcept {
         return edit_both(given, ic_stack_splice_after, at, given.head_);
     }
@@ -1029,7 +1037,7 @@ public:
 
 namespace detail {
 
-/// These are a table and its buckets, for reading.
+/// A struct hash_words has pointers to a table and to buckets that a view reads.
 struct hash_words {
     const ic_link1 *table = nullptr;
     std::size_t places = 0;
@@ -1037,8 +1045,8 @@ struct hash_words {
     std::size_t bucket_count = 0;
 };
 
-/// Goes from member to member, chain by chain. An iterator stays valid until its member is removed. After as many steps as the table has places the
-/// iterator is at the end.
+/// An iterator of a hash table goes from member to member, chain by chain. An iterator is valid until its member is removed. After as many steps as
+/// the table has places, the iterator is at the end.
 class hash_iterator {
 public:
     using iterator_category = std::forward_iterator_tag;
@@ -1075,7 +1083,7 @@ public:
     /// Returns the index of the member's bucket.
     [[nodiscard]] std::size_t bucket() const noexcept { return bucket_; }
 
-    /// Returns the iterator after this one.
+    /// Returns the iterator at the next member.
     [[nodiscard]] hash_iterator past() const noexcept {
         hash_iterator next = *this;
         ++next;
@@ -1083,7 +1091,7 @@ public:
     }
 
 private:
-    /// Goes to a place or, if the place is no member, to the first member of the later chains.
+    /// Moves the iterator to `place`, or, if `place` is not linked, to the first member of the next chain that has one.
     void go(std::uint32_t place) noexcept {
         while (!ic_stack_is_linked(in_.table, in_.places, place) && ++bucket_ < in_.bucket_count)
             place = ic_stack_first(&in_.buckets[bucket_]);
@@ -1097,8 +1105,8 @@ private:
 
 } // namespace detail
 
-/// Reads a hash table, which is an array of buckets, each a singly linked list of the members whose hash chooses the bucket. Pass the same hash in
-/// each call for one object. A loop goes over all members, chain by chain.
+/// Reads a hash table, which is an array of buckets. Each bucket is a singly linked list, which is called a chain, and a member is in the bucket with
+/// the index hash % bucket_count. Pass the same hash in each call for one object. A loop goes over all members, chain by chain.
 class const_hash_view : public detail::view_base {
 public:
     using keys_view = array_view<const std::uint64_t>;
@@ -1113,11 +1121,11 @@ public:
     [[nodiscard]] iterator end() const noexcept { return {}; }
     [[nodiscard]] bool empty() const noexcept { return begin() == end(); }
 
-    /// Returns whether `place` is a member of this hash table, or of any other list whose links are in the same table of links.
+    /// Returns whether `place` is a member of this hash table, or of another list or hash table of the same table of links.
     [[nodiscard]] bool is_linked(std::uint32_t place) const noexcept { return ic_stack_is_linked(in_.table, in_.places, place) != 0; }
 
-    /// Returns the first member of the chain with this key. Of several members with this key, the first is the member that was inserted last. The
-    /// call returns std::nullopt if there is no member with this key, or if the call is refused.
+    /// Returns the first member with this key in the chain of the hash, or std::nullopt if there is none or if the call is refused. If several
+    /// members have this key, the first of them is the one that was inserted last.
     [[nodiscard]] std::optional<std::uint32_t> find(keys_view keys, std::uint64_t hash, std::uint64_t key) const noexcept {
         std::uint32_t place = none;
         const std::uint32_t done =
@@ -1125,15 +1133,17 @@ public:
         return found(done, place);
     }
 
-    /// Returns the next member after the member `at` that has the same key as `at`, or std::nullopt if there is none, or if the call is refused.
+    /// Returns the first member after the member `at` in the same chain that has the same key as `at`, or std::nullopt if there is none or if the
+    /// call is refused.
     [[nodiscard]] std::optional<std::uint32_t> next_equal(keys_view keys, std::uint32_t at) const noexcept {
         std::uint32_t place = none;
         const std::uint32_t done = ic_hash_next_equal(in_.table, in_.places, keys.data(), keys.size(), at, &place);
         return found(done, place);
     }
 
-    /// Returns how many members there are, in O(buckets + n), or std::nullopt if the words form no hash table by these hashes, or if the call is
-    /// refused. `hashes` has the hash of each place. Call check() if the words come from a file, or if others write them.
+    /// Returns how many members there are, in O(buckets + n), or std::nullopt if the words form no hash table in which each member is in the chain of
+    /// its hash, or if the call is refused. `hashes` has the hash of each place. Call check() if the words come from a file, or from memory that
+    /// others write.
     [[nodiscard]] std::optional<std::uint64_t> check(keys_view hashes) const noexcept {
         std::uint64_t count = 0;
         const std::uint32_t done =
@@ -1141,7 +1151,7 @@ public:
         return done == IC_OK ? std::optional<std::uint64_t>(count) : std::nullopt;
     }
 
-    /// Returns the first member of the chain of which the predicate is true.
+    /// Returns the first member for which the predicate is true in the chain of the hash, or std::nullopt if there is none.
     template <class Predicate>
     [[nodiscard]] std::optional<std::uint32_t> find_by(std::uint64_t hash, Predicate is_equal) const {
         IC_HASH_FOREACH(place, in_.table, in_.places, in_.buckets, in_.bucket_count, hash)
@@ -1150,12 +1160,12 @@ public:
         return std::nullopt;
     }
 
-    /// Returns the chain of a hash, as a list. There has to be a bucket.
+    /// Returns a view of the chain of a hash, which is a singly linked list. The hash table must have a bucket.
     [[nodiscard]] const_stack_view chain(std::uint64_t hash) const noexcept {
         return {{in_.table, in_.places}, in_.buckets[hash % in_.bucket_count]};
     }
 
-    /// Calls a function with each member, chain by chain.
+    /// Calls the function `then` with each member, chain by chain.
     template <class Function>
     void for_each(Function then) const {
         for (std::size_t i = 0; i < in_.bucket_count; ++i)
@@ -1198,15 +1208,15 @@ class hash_view : public detail::erases<detail::hash_writes> {
 public:
     using erases::erases;
 
-    /// Inserts a place at the front of its chain.
+    /// Inserts a place at the front of the chain of the hash.
     status insert(std::uint64_t hash, std::uint32_t place) const noexcept { return edit(ic_hash_insert, hash, place); }
 
-    /// Removes a place from its chain, wherever in the chain the place is.
+    /// Removes a place from any position in the chain of the hash.
     status remove(std::uint64_t hash, std::uint32_t place) const noexcept { return edit(ic_hash_remove, hash, place); }
 
-    /// Moves all members of `chain`, a bucket of another array, each to the front of its chain in this hash table. Members that move to the same
-    /// chain keep their order. `hashes` has the hash of each place. The call returns ic::status::broken if `chain` is a bucket of this hash table. To
-    /// grow, make a view of another array, and make this call for each bucket of the old array.
+    /// Moves each member of `chain`, a bucket of another array, to the chain of its hash in this hash table. Members that move to the same chain keep
+    /// their order, and come first in it. `hashes` has the hash of each place. The call returns ic::status::broken if `chain` is a bucket of this
+    /// hash table. To grow or shrink a hash table, make a view of a second array of buckets, and make this call for each bucket of the old array.
     status move_chain(keys_view hashes, ic_stack &chain) const noexcept {
         for (std::size_t i = 0; i < in_.bucket_count; ++i)
             if (&chain == &buckets_[i])
@@ -1215,7 +1225,7 @@ public:
             ic_hash_move_chain(table_, in_.places, hashes.data(), hashes.size(), &chain, buckets_, in_.bucket_count));
     }
 
-    /// Returns the chain of a hash, as a list. There has to be a bucket.
+    /// Returns a view of the chain of a hash, which is a singly linked list. The hash table must have a bucket.
     [[nodiscard]] stack_view chain(std::uint64_t hash) const noexcept { return {{table_, in_.places}, buckets_[hash % in_.bucket_count]}; }
 };
 
@@ -1223,12 +1233,13 @@ public:
 
 using const_xor_view = detail::of_head<detail::two_way<detail::xored>>;
 
-/// Edits an XOR list. For an edit in the middle you pass the members on both sides of the gap, with `none` beyond an end, or an iterator.
+/// Edits an XOR list. To insert in the middle, you pass an iterator, or the members `before` and `after` between which you insert. At the front
+/// `before` is `none`, and at the back `after` is `none`.
 class xor_view : public detail::fills<detail::list_edits<detail::end_edits<const_xor_view>>> {
 public:
     using fills::fills;
 
-    /// Inserts a place before an iterator's member, and at the back if that is end().
+    /// Inserts a place before the member of an iterator, or at the back if the iterator is end().
     status insert(iterator at, std::uint32_t place) const noexcept { return insert_between(front_of(at), place, *at); }
     status insert_between(std::uint32_t before, std::uint32_t place, std::uint32_t after) const noexcept {
         return edit(ic_xor_insert_between, before, place, after);
@@ -1239,8 +1250,8 @@ public:
     }
     void reverse() const noexcept { ic_xor_reverse(head_); }
 
-    /// Moves all members of `given` before an iterator's member, and to the back if the iterator is end(). This and the next three calls return
-    /// ic::status::broken if you pass this list itself, or a list of another table.
+    /// Moves all members of `given` before the member of an iterator, or to the back if the iterator is end(). This and the next three calls return
+    /// ic::status::broken if `given` or `rest` is this list itself or a list of another table.
     status splice(iterator at, xor_view given) const noexcept { return splice_between(front_of(at), given, *at); }
     status splice_between(std::uint32_t before, xor_view given, std::uint32_t after) const noexcept {
         return edit_both(given, ic_xor_splice_between, before, given.head_, after);
@@ -1256,14 +1267,14 @@ private:
 
 // ---- Red-black trees ---------------------------------------------------------------------------------------------------------------
 
-/// Reads a tree. You pass to a search the keys, one number for each place, in a vector, in an array, or as a pointer and a length.
+/// Reads a tree. A search by keys takes an array_view of the keys, which has a number for each place.
 class const_tree_view : public detail::of_head<detail::placed<detail::red_black>> {
 public:
     using keys_view = array_view<const std::uint64_t>;
     using of_head::of_head;
 
-    /// Returns the first member with this key. All searches return std::nullopt if there is no such member, if there are fewer keys than
-    /// places, or if the root is no place of this table.
+    /// Returns the first member with this key. All searches by keys return std::nullopt if they find no member, if there are fewer keys than places,
+    /// or if the root is not linked in this table.
     [[nodiscard]] std::optional<std::uint32_t> find(keys_view keys, std::uint64_t key) const noexcept {
         return search(ic_tree_find, keys, key);
     }
@@ -1283,38 +1294,38 @@ public:
         return search(ic_tree_upper_bound, keys, key);
     }
 
-    /// A sums_view has the values and the sums of the places, and a writable_sums_view has values and sums for calls that write the sums.
+    /// A sums_view has a value and a sum for each place. A call that writes sums takes a writable_sums_view. The section on trees with sums in ic.h
+    /// says what a sum is.
     using sums_view = array_view<const ic_sum>;
     using writable_sums_view = array_view<ic_sum>;
 
-    /// If the sums are right, returns the sum of the values of all members, or the greatest of these values, in O(1). Returns 0 if the tree has no
-    /// member.
+    /// Returns the sum at the root, in O(1), which is the combined value of all members if the sums are right. Returns 0 if the tree has no member.
     [[nodiscard]] std::uint64_t sums_total(sums_view sums) const noexcept { return ic_tree_sums_total(sums.data(), sums.size(), in_.head); }
 
-    /// Makes the sums right after you have changed the value of `at`, in O(log n). If you name no member, makes all sums right after any edits, in
-    /// O(p log p) for p places.
+    /// Makes the sums right after you have changed the value of `at`, in O(log n). If `at` is `none`, the call makes all sums right after any edits,
+    /// in O(p log p) for p places.
     status sums_renew(writable_sums_view sums, std::uint32_t sum_kind, std::uint32_t at = none) const noexcept {
         return static_cast<status>(ic_tree_sums_renew(in_.table, in_.places, sums.data(), sums.size(), sum_kind, at));
     }
 
-    /// Adds up the values of the members after `at`, or of all members if you name none, or takes the greatest of them, and returns the first member
-    /// at which the result is greater than `bound`. The call returns std::nullopt if there is no such member, or if the call is refused.
+    /// Combines the values of the members after `at`, or of all members if `at` is `none`, in their order, and returns the first member at which the
+    /// combined value is greater than `bound`. The call returns std::nullopt if there is no such member, or if the call is refused.
     [[nodiscard]] std::optional<std::uint32_t> sums_find(sums_view sums, std::uint32_t sum_kind, std::uint64_t bound, std::uint32_t at = none) const noexcept {
         std::uint32_t member = none;
         const std::uint32_t done = ic_tree_sums_find(in_.table, in_.places, sums.data(), sums.size(), sum_kind, in_.head, at, bound, &member);
         return done == IC_OK ? found(member) : std::nullopt;
     }
 
-    /// Returns the sum of the values of the members before the member `at`, or the greatest of these values, or std::nullopt if the call is refused.
+    /// Returns the combined value of the members before the member `at`, or std::nullopt if the call is refused.
     [[nodiscard]] std::optional<std::uint64_t> sums_before(sums_view sums, std::uint32_t sum_kind, std::uint32_t at) const noexcept {
         std::uint64_t sum = 0;
         const std::uint32_t done = ic_tree_sums_before(in_.table, in_.places, sums.data(), sums.size(), sum_kind, at, &sum);
         return done == IC_OK ? std::optional<std::uint64_t>(sum) : std::nullopt;
     }
 
-    /// Returns the first member after `at`, or the first of all if you name none, whose interval overlaps the interval that begins at `from` and ends
-    /// before `to`. The interval of a member begins at its key and ends before its value. The call returns std::nullopt if no interval overlaps, or
-    /// if the call is refused.
+    /// Returns the first member after `at`, or the first of all members if `at` is `none`, whose interval overlaps the interval that begins at `from`
+    /// and ends before `to`. The interval of a member begins at its key and ends before its value. The call returns std::nullopt if there is no such
+    /// member, or if the call is refused.
     [[nodiscard]] std::optional<std::uint32_t> sums_overlap(keys_view keys, sums_view sums, std::uint64_t from, std::uint64_t to,
                                                             std::uint32_t at = none) const noexcept {
         std::uint32_t member = none;
@@ -1323,13 +1334,14 @@ public:
         return done == IC_OK ? found(member) : std::nullopt;
     }
 
-    /// Returns the iterators at the first member with this key, and after the last member with this key.
+    /// Returns an iterator at the first member with this key, and an iterator at the member after the last member with this key.
     [[nodiscard]] std::pair<iterator, iterator> equal_range(keys_view keys, std::uint64_t key) const noexcept {
         return {iterator_to(lower_bound(keys, key).value_or(none)), iterator_to(upper_bound(keys, key).value_or(none))};
     }
 
-    /// Returns the first member `at` for which `order(at)` is 0. `order(at)` compares what you look for with the member `at`, and is negative if what
-    /// you look for comes before `at`, 0 if both are equal, and positive otherwise, as with strcmp and `<=>`.
+    /// Returns the first member `at` for which `order(at)` is 0, or std::nullopt if there is none. `order(at)` compares the key that you look for
+    /// with the key of `at`, and is negative if your key comes before the key of `at`, 0 if the keys are equal, and positive otherwise, as with
+    /// strcmp and `<=>`.
     template <class Order>
     [[nodiscard]] std::optional<std::uint32_t> find_by(Order order) const {
         std::uint32_t first = none;
@@ -1341,7 +1353,8 @@ public:
         return found(first);
     }
 
-    /// Returns the first member for which the predicate is false. The predicate has to be false for all members after the returned member, too.
+    /// Returns the first member for which the predicate is false, or std::nullopt if there is none. The predicate must be false for all later
+    /// members, too.
     template <class Predicate>
     [[nodiscard]] std::optional<std::uint32_t> partition_point(Predicate is_before) const {
         std::uint32_t first = none;
@@ -1354,13 +1367,14 @@ public:
     }
 
 protected:
-    /// This is the position where a way down from the root ends: under a member, to the member's left or right.
+    /// A hole is where a descent from the root ends, so that a place can be inserted: as the left or the right child of the member `under`, or as the
+    /// root if `under` is `none`.
     struct hole {
         std::uint32_t under = none;
         bool is_left = true;
     };
 
-    /// Goes down to the left of each member of which the predicate is true, and to the right of the others.
+    /// Descends from the root, to the left child of each member for which the predicate is true, and to the right child of each other member.
     template <class Predicate>
     hole descend(Predicate goes_left) const {
         hole end;
@@ -1390,7 +1404,7 @@ public:
         return static_cast<status>(ic_tree_insert(table_, in_.places, keys.data(), keys.size(), head_, place));
     }
 
-    /// Inserts a place by a comparison of two places, after all members that are not greater than the place.
+    /// Inserts a place by a comparison of yours, after all members that are not greater: `is_less(one, other)` compares two places.
     template <class Less>
     status insert_by(std::uint32_t place, Less is_less) const {
         if (place >= ic_bound(in_.places))
@@ -1399,8 +1413,8 @@ public:
         return end.is_left ? insert_left(end.under, place) : insert_right(end.under, place);
     }
 
-    /// Inserts a place if no member has its key, and returns the first member that has the key, which is `place` if it was inserted. If the call is
-    /// refused, it returns std::nullopt.
+    /// Inserts a place if no member has its key, and returns the first member with this key, which may be `place`. If the call is refused, it returns
+    /// std::nullopt.
     [[nodiscard]] std::optional<std::uint32_t> insert_unique(keys_view keys, std::uint32_t place) const noexcept {
         std::uint32_t member = none;
         const std::uint32_t done = ic_tree_insert_unique(table_, in_.places, keys.data(), keys.size(), head_, place, &member);
@@ -1418,8 +1432,8 @@ public:
             ic_tree_sums_insert(table_, in_.places, keys.data(), keys.size(), sums.data(), sums.size(), sum_kind, head_, place));
     }
 
-    /// Inserts a place as insert_left() does, and updates each sum that the insertion changes. The next two calls do the same for insert_right() and
-    /// remove().
+    /// sums_insert_left, sums_insert_right and sums_remove edit the tree as insert_left(), insert_right() and remove() do, and update each sum that
+    /// the edit changes.
     status sums_insert_left(writable_sums_view sums, std::uint32_t sum_kind, std::uint32_t at, std::uint32_t place) const noexcept {
         return edit_summed(ic_tree_sums_insert_left, sums, sum_kind, at, place);
     }
@@ -1430,25 +1444,26 @@ public:
         return edit_summed(ic_tree_sums_remove, sums, sum_kind, at);
     }
 
-    /// Removes the first member, and returns it, or returns std::nullopt if there is none. If the tree is not empty(), std::nullopt means that its
-    /// root is no place of this table.
+    /// Removes the first member, and returns it, or returns std::nullopt if there is none. If the tree is not empty(), std::nullopt means that the
+    /// root is not linked in this table.
     [[nodiscard]] std::optional<std::uint32_t> pop_front() const noexcept { return popped(*begin()); }
 
-    /// Removes the last member, and returns it, or returns std::nullopt in the cases in which pop_front() does.
+    /// Removes the last member, and returns it, or returns std::nullopt if there is none. If the tree is not empty(), std::nullopt means that the
+    /// root is not linked in this table.
     [[nodiscard]] std::optional<std::uint32_t> pop_back() const noexcept { return popped(*rbegin()); }
 
-    /// Moves all members of `given` after the members of this tree, and leaves `given` empty, in O(n). This and the next two calls compare no keys,
-    /// and check the trees first. If the words form no trees of this table, or if both trees are the same tree, a call returns ic::status::broken and
-    /// changes nothing.
+    /// Moves all members of `given` after the members of this tree, and leaves `given` empty, in O(n). The calls append, join and split compare no
+    /// keys, and check the trees first. If the links form no trees, or if both trees are the same tree, a call returns ic::status::broken and changes
+    /// nothing.
     status append(tree_view given) const noexcept { return edit_both(given, ic_tree_append, given.head_); }
 
-    /// Inserts a place after all members, and moves all members of `given` after this place, in O(n).
+    /// Inserts a place after all members of this tree, and moves all members of `given` after this place, in O(n).
     status join(std::uint32_t place, tree_view given) const noexcept { return edit_both(given, ic_tree_join, place, given.head_); }
 
-    /// Moves the member and all members after it to `rest`, which has to be empty, in O(n).
+    /// Moves the member `at` and all members after `at` to `rest`, which has to be empty, in O(n).
     status split(std::uint32_t at, tree_view rest) const noexcept { return edit_both(rest, ic_tree_split, at, rest.head_); }
 
-    /// Removes all members. It returns ic::status::broken, and changes nothing, if the members form no tree of this table.
+    /// Removes all members. If the links form no tree, the call returns ic::status::broken and changes nothing.
     status clear() const noexcept { return edit(ic_tree_clear); }
 
 private:
@@ -1477,15 +1492,16 @@ protected:
 
 } // namespace detail
 
-/// Edits a tree that keeps its first and its last member in an ic_tree_ends of yours. Edit a tree that keeps its ends only by this view.
+/// Edits a tree together with an ic_tree_ends of yours, which names the first and the last member. Edit a tree with an ic_tree_ends only by this
+/// view.
 class tree_ends_view : public detail::erases<detail::ends_writes> {
 public:
     using erases::erases;
 
-    /// Returns the first member, in O(1), or std::nullopt if there is none or if it is no linked place of this table.
+    /// Returns the first member, in O(1), or std::nullopt if there is none or if it is not linked in this table.
     [[nodiscard]] std::optional<std::uint32_t> front() const noexcept { return found(ic_tree_ends_first(table_, in_.places, ends_)); }
 
-    /// Returns the last member, in O(1), or std::nullopt if there is none or if it is no linked place of this table.
+    /// Returns the last member, in O(1), or std::nullopt if there is none or if it is not linked in this table.
     [[nodiscard]] std::optional<std::uint32_t> back() const noexcept { return found(ic_tree_ends_last(table_, in_.places, ends_)); }
 
     /// Inserts a place by its key, after all members whose keys are not greater than the key of the place.
@@ -1497,10 +1513,10 @@ public:
     status remove(std::uint32_t at) const noexcept { return edit(ic_tree_ends_remove, ends_, at); }
     status replace(std::uint32_t at, std::uint32_t place) const noexcept { return edit(ic_tree_ends_replace, ends_, at, place); }
 
-    /// Removes the first member, and returns it, or returns std::nullopt if the ends say that there is none, or if the call is refused.
+    /// Removes the first member, and returns it, or returns std::nullopt if the ends name no first member or if the call is refused.
     [[nodiscard]] std::optional<std::uint32_t> pop_front() const noexcept { return taken(ic_tree_ends_pop_first, ends_); }
 
-    /// Removes all members. It returns ic::status::broken, and changes nothing, if the members form no tree of this table.
+    /// Removes all members. If the links form no tree, the call returns ic::status::broken and changes nothing.
     status clear() const noexcept {
         const status done = edit(ic_tree_clear);
         if (done == status::ok)

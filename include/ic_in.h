@@ -1,9 +1,10 @@
-/* This header has each call, read and loop of ic.h over a handle, which is a table, its length, and the list, the buckets or the tree as one value.
+/* This header has each call, read and loop of ic.h for a handle. A handle is a struct with pointers to a table and to a list, buckets or a tree, and
+ * with the length of the table.
  *
- * A call of ic.h takes a table and its length, and then places, which are numbers, too. If you swap a length and a place, the compiler gives no
- * warning. A call of this header has `in_` in its name, and takes a handle in place of the table, the table's length and the list, so that you name
- * the length once. A handle has pointers to arrays and lists of yours, and you copy a handle as you copy a pointer. The functions of this header are
- * inline, and take as many instructions as the calls of ic.h.
+ * A call of ic.h takes a table and its length, and then places. A length and a place are both numbers, so the compiler gives no warning if you swap
+ * them. A call of this header has `in_` in its name, and takes a handle in place of the table, the table's length and the list, so that you name the
+ * length once. You own the arrays and lists, and can copy a handle as you copy a pointer. The functions of this header are inline, and take as many
+ * instructions as the calls of ic.h.
  *
  *     static struct ic_link2 links[100];
  *     static struct ic_list list;
@@ -15,8 +16,9 @@
  *         printf("%u\n", (unsigned)place);
  *     status = ic_list_in_pop_front(jobs, &oldest);
  *
- * The comments of ic.h say what each call does, at the name without `in_`. A call with a second list takes a second handle. If the second handle is
- * for another table, or for the list of the first handle, the call returns IC_BROKEN and changes nothing.
+ * For each call, the comment in ic.h at the name without `in_` says what the call does. If a call takes a second list or tree, `given` or `rest`,
+ * you pass a handle for it. If this handle is for another table, or for the list or tree of the first handle, the call returns IC_BROKEN and changes
+ * nothing.
  */
 #ifndef IC_IN_H
 #define IC_IN_H
@@ -27,10 +29,11 @@
 extern "C" {
 #endif
 
-/* Gives the table and the length for a handle, from an array of links. Compilers warn if you pass a pointer to IC_TABLE. */
+/* IC_TABLE(links) is the first two values of a handle, the table and its length, where `links` is an array. Compilers warn if `links` is a
+ * pointer. */
 #define IC_TABLE(links) (links), sizeof(links) / sizeof *(links)
 
-/* A struct ic_keys has the keys, of which there is one for each place, and the number of keys. */
+/* A struct ic_keys has a pointer to the keys, one for each place, and the number of keys. */
 struct ic_keys {
     const uint64_t *keys;
     ic_length count;
@@ -38,14 +41,14 @@ struct ic_keys {
 
 /* ---- Doubly linked lists ---- */
 
-/* This is a doubly linked list of a table. */
+/* This is a handle for a doubly linked list of a table. */
 struct ic_list_in {
     struct ic_link2 *table;
     ic_length places;
     struct ic_list *list;
 };
 
-/* tools/c-calls --write writes from here: list */
+/* Made by tools/c-calls --write: list */
 
 static inline int ic_list_in_is_linked(struct ic_list_in in, uint32_t place) {
     return ic_list_is_linked(in.table, in.places, place);
@@ -248,14 +251,14 @@ static inline uint32_t ic_list_in_transfer_before(struct ic_list_in in, uint32_t
 
 /* ---- Doubly linked lists with words of 4 bytes ---- */
 
-/* This is a doubly linked list of a table whose links have words of 4 bytes. */
+/* This is a handle for a doubly linked list of a table whose links have words of 4 bytes. */
 struct ic_list32_in {
     struct ic_link2_32 *table;
     ic_length places;
     struct ic_list *list;
 };
 
-/* tools/c-calls --write writes from here: list32 */
+/* Made by tools/c-calls --write: list32 */
 
 IC_NODISCARD
 static inline uint32_t ic_list32_in_push_front(struct ic_list32_in in, uint32_t place) {
@@ -441,13 +444,13 @@ static inline int ic_list32_in_is_singular(struct ic_list32_in in) {
 
 /* ---- Rings ---- */
 
-/* This is a table of rings, whose heads are places of the table. */
+/* This is a handle for a table of rings, whose heads are places of the table. */
 struct ic_ring_in {
     struct ic_link2 *table;
     ic_length places;
 };
 
-/* tools/c-calls --write writes from here: ring */
+/* Made by tools/c-calls --write: ring */
 
 static inline int ic_ring_in_is_linked(struct ic_ring_in in, uint32_t place) {
     return ic_ring_is_linked(in.table, in.places, place);
@@ -611,13 +614,13 @@ static inline uint32_t ic_ring_in_merge(struct ic_ring_in in, struct ic_keys key
 
 /* ---- Rings with words of 4 bytes ---- */
 
-/* This is a table of rings with words of 4 bytes, whose heads are places of the table. */
+/* This is a handle for a table of rings with words of 4 bytes, whose heads are places of the table. */
 struct ic_ring32_in {
     struct ic_link2_32 *table;
     ic_length places;
 };
 
-/* tools/c-calls --write writes from here: ring32 */
+/* Made by tools/c-calls --write: ring32 */
 
 IC_NODISCARD
 static inline uint32_t ic_ring32_in_init(struct ic_ring32_in in, uint32_t head) {
@@ -767,14 +770,14 @@ static inline uint32_t ic_ring32_in_move_range_before(struct ic_ring32_in in, ui
 
 /* ---- Singly linked lists ---- */
 
-/* This is a singly linked list of a table. */
+/* This is a handle for a singly linked list of a table. */
 struct ic_stack_in {
     struct ic_link1 *table;
     ic_length places;
     struct ic_stack *list;
 };
 
-/* tools/c-calls --write writes from here: stack */
+/* Made by tools/c-calls --write: stack */
 
 static inline int ic_stack_in_is_linked(struct ic_stack_in in, uint32_t place) {
     return ic_stack_is_linked(in.table, in.places, place);
@@ -891,7 +894,8 @@ static inline uint32_t ic_stack_in_remove(struct ic_stack_in in, uint32_t place)
 
 /* ---- Hash tables ---- */
 
-/* This is a hash table over a table of links, with the keys of all places. If you look no key up, leave the keys out. */
+/* This is a handle for a hash table over a table of links, with the keys of all places. If you never call ic_hash_in_find or
+ * ic_hash_in_next_equal, you may leave the keys out. */
 struct ic_hash_in {
     struct ic_link1 *table;
     ic_length places;
@@ -900,7 +904,7 @@ struct ic_hash_in {
     struct ic_keys keys;
 };
 
-/* tools/c-calls --write writes from here: hash */
+/* Made by tools/c-calls --write: hash */
 
 static inline uint32_t ic_hash_in_first(struct ic_hash_in in, uint64_t hash) {
     return ic_hash_first(in.buckets, in.bucket_count, hash);
@@ -951,14 +955,14 @@ static inline uint32_t ic_hash_in_move_chain(struct ic_hash_in in, struct ic_key
 
 /* ---- XOR lists ---- */
 
-/* This is an XOR list of a table. */
+/* This is a handle for an XOR list of a table. */
 struct ic_xor_in {
     struct ic_link1 *table;
     ic_length places;
     struct ic_xor_list *list;
 };
 
-/* tools/c-calls --write writes from here: xor */
+/* Made by tools/c-calls --write: xor */
 
 static inline int ic_xor_in_is_linked(struct ic_xor_in in, uint32_t place) {
     return ic_xor_is_linked(in.table, in.places, place);
@@ -1086,7 +1090,7 @@ static inline uint32_t ic_xor_in_reverse(struct ic_xor_in in) {
 
 /* ---- Red-black trees ---- */
 
-/* This is a tree of a table, with the keys of all places. If you order the tree by a comparison of yours, leave the keys out. */
+/* This is a handle for a tree of a table, with the keys of all places. If you order the tree by a comparison of yours, you may leave the keys out. */
 struct ic_tree_in {
     struct ic_link3 *table;
     ic_length places;
@@ -1094,7 +1098,7 @@ struct ic_tree_in {
     struct ic_keys keys;
 };
 
-/* tools/c-calls --write writes from here: tree */
+/* Made by tools/c-calls --write: tree */
 
 static inline int ic_tree_in_is_linked(struct ic_tree_in in, uint32_t place) {
     return ic_tree_is_linked(in.table, in.places, place);

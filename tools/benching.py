@@ -39,8 +39,8 @@ def proved(crate="bench"):
 
 
 def check_checksums(tally, crate):
-    """Runs the program without a proof: once, since the interpreter of `rt try` would not come to an end."""
-    ran = subprocess.run(["rt", "try", "--steps", "1"], cwd=crate, stdin=subprocess.DEVNULL, capture_output=True, text=True)
+    """Runs the program without a proof: once, since the interpreter of `rt try` would not come to an end. On a busy machine it takes minutes."""
+    ran = subprocess.run(["rt", "try", "--steps", "1", "--seconds", "600"], cwd=crate, stdin=subprocess.DEVNULL, capture_output=True, text=True)
     wanted = (crate / "stdout").read_text()
     differ = sorted({*ran.stdout.splitlines()} ^ {*wanted.splitlines()})
     tally.check(f"{crate.name}, run without a proof", ran.returncode and f"ended with {ran.returncode}\n{ran.stderr}")

@@ -198,11 +198,11 @@ def refusals(call, none, length):
         most = f", or is {MOST:,} or more" * (call.family in WIDE)
         when["OUT_OF_RANGE"].append(f"{some('new', 'member', 'ring', 'gap')} is not below {length}{most}")
     if names(call, "run"):
-        when["OUT_OF_RANGE"].append(f"the first of these places that the call refuses is not below {length}")
-        when["LINKED"].append("the first of these places that the call refuses is linked already")
+        when["OUT_OF_RANGE"].append(f"none of these places is linked, but one is not below {length}")
+        when["LINKED"].append("one of these places is linked already")
     if names(call, "new"):
-        same = [f"`{at}` and `{new}` are the same" for at in names(call, "member", "ring") for new in names(call, "new")]
-        when["LINKED"].append(f"{some('new')} is linked already" + f", also if {' or '.join(same)}" * bool(same))
+        same = [f"is `{at}` itself" for at in names(call, "member", "ring") for new in names(call, "new")]
+        when["LINKED"].append(f"{some('new')} is linked already" + f", or {' or '.join(same)}" * bool(same))
     if names(call, "member", "ring", "gap"):
         when["NOT_LINKED"].append(f"{some('member', 'ring', 'gap')} is not linked")
     when["BROKEN"] += [call.broken] * bool(call.broken)

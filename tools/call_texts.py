@@ -24,9 +24,9 @@ RINGS = ("ring", "ring32")
 KEEP_KEYS = ("hash", "tree")
 ERRORS = {"NULL": "Null", "OUT_OF_RANGE": "OutOfRange", "LINKED": "Linked", "NOT_LINKED": "NotLinked", "BROKEN": "Broken"}
 # What the bindings have in place of the table's words in braces.
-BOUND = {"self": "this list", "rest_has": "", "accepted": "it returns a number"}
+BOUND = {"self": "this list", "rest_has": "", "accepted": "the call returns a number"}
 # What a list is called that a call hands out.
-NEW = {"tree": "a new tree, which it returns"}
+NEW = {"tree": "a new tree, which the call returns"}
 RETURNED = {"members": "returns how many there are", "replaced": "returns the removed member"}
 # How many columns a line of comments, of C and of Rust has at most.
 COMMENT, C_LINE, RUST_LINE = 140, 142, 120
@@ -35,7 +35,7 @@ SAFETY = "// SAFETY: each pointer comes from a reference, with the length of its
 
 def bound_words(call, none, greatest):
     """What the bindings have in place of the words in braces."""
-    rest = NEW.get(call.family, "a new list, which it returns")
+    rest = NEW.get(call.family, "a new list, which the call returns")
     return {**BOUND, "none": none, "greatest": greatest, "rest": rest, "out": RETURNED.get(outcome(call), "returns it")}
 
 
@@ -120,9 +120,9 @@ def rust_comment(call, indent):
     of, text = broken(call, words), sentences(call, words)
     said = refusals(of, "`u32::MAX`", "the table's length")
     if out in ("popped", "removed", "found"):
-        text += f" It returns `None` if {said.pop('NULL')}."
+        text += f" The call returns `None` if {said.pop('NULL')}."
     if is_none_refused(call):
-        text, said = f"{text} It returns `None` if {of.broken}.", {}
+        text, said = f"{text} The call returns `None` if {of.broken}.", {}
     paragraphs = [textwrap.wrap(text, COMMENT - indent - 4)]
     if said:
         errors = " ".join(f"[`Error::{ERRORS[status]}`] if {when}." for status, when in said.items())

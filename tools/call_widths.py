@@ -18,8 +18,8 @@ LINKS = (("ic_link2", "ic_link2_32"), ("Link2", "Link2x32"))
 # The type of a family in Rust.
 TYPES = {"list": (("List", "List32"),)}
 # Marks whose text is made of a part of the same file, or in Rust of another file: the text between the heads of its section and of the next one.
-DERIVED = re.compile(r"^( *(?:/\*|//) tools/c-calls --write writes from here, of (\w+): (\w+)(?: \*/)?\n)(.*?)^( *(?:/\*|//) to here(?: \*/)?\n)", re.M | re.S)
-MADE = re.compile(r"^ *(?:/\*|//) tools/c-calls --write writes from here.*?^ *(?:/\*|//) to here(?: \*/)?\n", re.M | re.S)
+DERIVED = re.compile(r"^( *(?:/\*|//) Made by tools/c-calls --write of (\w+): (\w+)(?: \*/)?\n)(.*?)^( *(?:/\*|//) to here(?: \*/)?\n)", re.M | re.S)
+MADE = re.compile(r"^ *(?:/\*|//) Made by tools/c-calls --write.*?^ *(?:/\*|//) to here(?: \*/)?\n", re.M | re.S)
 
 
 def narrow(text, wide, family):

@@ -134,7 +134,7 @@ pub const fn ic_place(word: u64) -> u32 {
 }
 
 extern "C" {
-    // tools/c-calls --write writes from here: list list-fill list-keys list-transfer list32 ring ring-check ring-keys ring32 stack stack-keys hash hash-growth xor tree tree-keys tree-steps tree-ends tree-sums
+    // Made by tools/c-calls --write: list list-fill list-keys list-transfer list32 ring ring-check ring-keys ring32 stack stack-keys hash hash-growth xor tree tree-keys tree-steps tree-ends tree-sums
     pub fn ic_list_push_front(table: *mut ic_link2, places: usize, list: *mut ic_list, place: u32) -> u32;
     pub fn ic_list_push_back(table: *mut ic_link2, places: usize, list: *mut ic_list, place: u32) -> u32;
     pub fn ic_list_pop_front(table: *mut ic_link2, places: usize, list: *mut ic_list, popped: *mut u32) -> u32;

@@ -379,7 +379,7 @@ class Lists extends Collection {
 /** A doubly linked list over links2. */
 export class List extends Lists {
   constructor(links) { super(links, 8); }
-  // tools/c-calls --write writes from here: list list-fill list-keys list-transfer
+  // Made by tools/c-calls --write: list list-fill list-keys list-transfer
   pushFront(place) { this.done(this.calls.ic_list_push_front(this.table, this.places, this.self, placeNumber(place, "place"))); }
   pushBack(place) { this.done(this.calls.ic_list_push_back(this.table, this.places, this.self, placeNumber(place, "place"))); }
   popFront() { return this.member(this.calls.ic_list_pop_front(this.table, this.places, this.self, this.out)); }
@@ -438,7 +438,7 @@ export class List extends Lists {
 /** A doubly linked list over links2x32. */
 export class List32 extends Lists {
   constructor(links) { super(links, 4); }
-  // tools/c-calls --write writes from here: list32
+  // Made by tools/c-calls --write: list32
   pushFront(place) { this.done(this.calls.ic_list32_push_front(this.table, this.places, this.self, placeNumber(place, "place"))); }
   pushBack(place) { this.done(this.calls.ic_list32_push_back(this.table, this.places, this.self, placeNumber(place, "place"))); }
   popFront() { return this.member(this.calls.ic_list32_pop_front(this.table, this.places, this.self, this.out)); }
@@ -520,7 +520,7 @@ export class Ring extends Rings {
     super(links, 8, head);
     this.done(this.calls.ic_ring_init(this.table, this.places, placeNumber(head, "head")));
   }
-  // tools/c-calls --write writes from here: ring ring-check ring-keys
+  // Made by tools/c-calls --write: ring ring-check ring-keys
   insertAfter(at, place) {
     this.done(this.calls.ic_ring_insert_after(this.table, this.places, placeNumber(at, "at"), placeNumber(place, "place")));
   }
@@ -556,7 +556,7 @@ export class Ring32 extends Rings {
     super(links, 4, head);
     this.done(this.calls.ic_ring32_init(this.table, this.places, placeNumber(head, "head")));
   }
-  // tools/c-calls --write writes from here: ring32
+  // Made by tools/c-calls --write: ring32
   insertAfter(at, place) {
     this.done(this.calls.ic_ring32_insert_after(this.table, this.places, placeNumber(at, "at"), placeNumber(place, "place")));
   }
@@ -594,7 +594,7 @@ export class Stack extends Collection {
   removeIf(isUnwanted) {
     return removeIf(this.links, isUnwanted, (_, at) => (at === null ? this.first : this.next(at)), (before) => this.removeAfter(before));
   }
-  // tools/c-calls --write writes from here: stack stack-keys
+  // Made by tools/c-calls --write: stack stack-keys
   pushFront(place) { this.done(this.calls.ic_stack_push_front(this.table, this.places, this.self, placeNumber(place, "place"))); }
   popFront() { return this.member(this.calls.ic_stack_pop_front(this.table, this.places, this.self, this.out)); }
   insertAfter(at, place) {
@@ -660,7 +660,7 @@ export class HashTable extends Calls {
     if (!isOther || (chain.ends.of ?? chain.ends).isFreed) throw new TypeError("the chain is another list of the same table of links");
     return chain.self;
   }
-  // tools/c-calls --write writes from here: hash hash-growth
+  // Made by tools/c-calls --write: hash hash-growth
   insert(hash, place) {
     this.done(this.calls.ic_hash_insert(
       this.table, this.places, this.bucketsAt, this.bucketCount, u64(hash, "hash"), placeNumber(place, "place"),
@@ -713,7 +713,7 @@ export class XorList extends Collection {
     const follow = (before, at) => (at === null ? this.first : this.step(before, at));
     return removeIf(this.links, isUnwanted, follow, (before, at) => this.remove(before, at));
   }
-  // tools/c-calls --write writes from here: xor
+  // Made by tools/c-calls --write: xor
   pushFront(place) { this.done(this.calls.ic_xor_push_front(this.table, this.places, this.self, placeNumber(place, "place"))); }
   pushBack(place) { this.done(this.calls.ic_xor_push_back(this.table, this.places, this.self, placeNumber(place, "place"))); }
   popFront() { return this.member(this.calls.ic_xor_pop_front(this.table, this.places, this.self, this.out)); }
@@ -765,7 +765,7 @@ export class Tree extends Collection {
     sumParts(sums, this.links);
     return this.root !== null && this.root < sums.length ? sums.sum(this.root) : 0n;
   }
-  // tools/c-calls --write writes from here: tree tree-keys tree-steps tree-sums
+  // Made by tools/c-calls --write: tree tree-keys tree-steps tree-sums
   insertLeft(at, place) {
     this.done(this.calls.ic_tree_insert_left(this.table, this.places, this.self, placeNumber(at, "at"), placeNumber(place, "place")));
   }
@@ -948,7 +948,7 @@ export class TreeWithEnds extends Tree {
     super.sumsRemove(sums, kind, at);
     findEnds(this);
   }
-  // tools/c-calls --write writes from here: tree-ends
+  // Made by tools/c-calls --write: tree-ends
   insert(place) {
     this.done(this.calls.ic_tree_ends_insert(
       this.table, this.places, this.keysAt, this.keyCount, this.self, this.endsAt, placeNumber(place, "place"),

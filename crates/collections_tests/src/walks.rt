@@ -65,15 +65,20 @@ fn walks_from_both_ends(rt: HostRuntime) {
     assert_words(&rt, &notes, "10 40 30 20 none none  10 60 50 20 30 40");
 }
 
-// Removes the first member by a walk, drops the walk, and returns the member.
+// Removes the first member by a walk, and returns the member. Then it finishes the walk, which unlinks the rest, if `finishes` is true, or drops it.
 fn take_first<K: ForwardLinks<L>, L: LinkOps>(
     list: LinkList<K, u64>,
     links: &mut L,
+    finishes: bool,
 ) -> Option<UnsafeRef<u64>>
     requires shown { RepresentsSomeChain K.Between K.kept (L.table links.old) list }
 {
     let mut rest = list.into_iter(links);
-    rest.next()
+    let first = rest.next();
+    if finishes {
+        rest.finish();
+    }
+    first
 }
 
 // Removes the first member by a walk that is then dropped, and notes the member. Then it unlinks each remaining member by force, and before each of
@@ -85,12 +90,17 @@ fn write_dropped<K: ForwardLinks<PlainTable<W>>, W: Words>(
 )
     requires shown { RepresentsSomeChain K.Between K.kept (table W.width W.unlinked fixture.old.links) fixture.old.list }
 {
-    let first = take_first(fixture.list.take(), &mut fixture.links);
+    let first = take_first(fixture.list.take(), &mut fixture.links, false);
     write_object(notes, first);
     free_each(rt, notes, &mut fixture.links);
     fixture.list = filled(&mut fixture.links, 4);
     write_linked(notes, &fixture.links);
 }
+
+// What a test notes of dropped walks, one over a list of each kind.
+const DROPPED: &str = "0 1 2 3 2 3 3 0 1 2 3
+    0 1 2 3 2 3 3 0 1 2 3
+    0 1 2 3 2 3 3 0 1 2 3";
 
 // After a walk that is dropped, the members that it did not return must still be linked. The test uses one list of each kind, with four members.
 // Promise: a dropped walk of a doubly linked list, a dropped walk of a singly linked list, a dropped walk of an XOR list.
@@ -104,13 +114,7 @@ fn walks_that_are_dropped(rt: HostRuntime) {
     write_dropped(&rt, &mut notes, &mut doubly);
     let mut xor: XorFixture = list_of(&rt, alloc, 4);
     write_dropped(&rt, &mut notes, &mut xor);
-    assert_words(
-        &rt,
-        &notes,
-        "0 1 2 3 2 3 3 0 1 2 3
-        0 1 2 3 2 3 3 0 1 2 3
-        0 1 2 3 2 3 3 0 1 2 3",
-    );
+    assert_words(&rt, &notes, DROPPED);
 }
 
 // After a walk that is dropped, the members that it did not return must still be linked, in lists over links of 4-byte words.
@@ -125,26 +129,7 @@ fn walks_over_narrow_links_that_are_dropped(rt: HostRuntime) {
     write_dropped(&rt, &mut notes, &mut doubly);
     let mut xor: NarrowXorFixture = list_of(&rt, alloc, 4);
     write_dropped(&rt, &mut notes, &mut xor);
-    assert_words(
-        &rt,
-        &notes,
-        "0 1 2 3 2 3 3 0 1 2 3
-        0 1 2 3 2 3 3 0 1 2 3
-        0 1 2 3 2 3 3 0 1 2 3",
-    );
-}
-
-// Removes the first member by a walk, and then finishes the walk, which unlinks the rest.
-fn finish_first<K: ForwardLinks<L>, L: LinkOps>(
-    list: LinkList<K, u64>,
-    links: &mut L,
-) -> Option<UnsafeRef<u64>>
-    requires shown { RepresentsSomeChain K.Between K.kept (L.table links.old) list }
-{
-    let mut rest = list.into_iter(links);
-    let first = rest.next();
-    rest.finish();
-    first
+    assert_words(&rt, &notes, DROPPED);
 }
 
 // Removes the first and the last member by a walk, and then finishes the walk, which unlinks the rest.
@@ -168,7 +153,7 @@ fn walks_that_are_finished(rt: HostRuntime) {
     let alloc = rt.alloc();
     let mut notes = Text::new(alloc);
     let mut singly: SinglyFixture = list_of(&rt, alloc, 4);
-    let first = finish_first(singly.list.take(), &mut singly.links);
+    let first = take_first(singly.list.take(), &mut singly.links, true);
     write_object(&mut notes, first);
     notes.word("then ");
     write_linked(&mut notes, &singly.links);

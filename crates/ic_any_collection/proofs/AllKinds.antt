@@ -2,7 +2,7 @@
 use Rattle.std.proofs.Common.{◌≡◌, true, None, List, refl, sym, subst}
 use Rattle.ic_link_ops.specs.Prelude.{Place, IsAbsent, IsDistinct, IsDisjoint, Table, IsCovered, IsUnlinked, ChangesOnlyIn}
 use Rattle.ic_link_ops.specs.XorLaws.{joins_one_other, joins_finds_other}
-use Rattle.ic_link_ops.specs.Chains.{no_members}
+use Rattle.ic_any_collection.specs.Prelude.{no_members, root_of, Entry, AnyTable, table_in, covered_where_linked, is_linked, neighbors, successor, node, HasNeighbors, other, AnyCollection, Singly, Doubly, Xor, Tree, RepresentsIn, members_in, Keeps, Held}
 use Rattle.ic_link_ops.specs.LinkedList as doubly
 use Rattle.ic_link_ops.specs.SinglyLinkedList as singly
 use Rattle.ic_link_ops.specs.XorLinkedList as xor
@@ -13,14 +13,6 @@ use Rattle.ic_link_ops.proofs.DoublyLists as doubly_laws
 use Rattle.ic_link_ops.proofs.XorLists as xor_laws
 use Rattle.ic_link_ops.proofs.RepresentedTrees as tree_laws
 use Rattle.ic_rbtree.proofs.Members as tree_members
-use Rattle.ic_rbtree.specs.Tree.{root_of}
-use Rattle.ic_any_collection.specs.declared.entry.Entry.{Entry}
-use Rattle.ic_any_collection.specs.declared.any_table.AnyTable.{AnyTable}
-use Rattle.ic_any_collection.specs.AnyTables.{table_in, covered_where_linked}
-use Rattle.ic_any_collection.specs.Entries.{is_linked, neighbors, successor, node, HasNeighbors, other}
-use Rattle.ic_any_collection.specs.declared.any_collection.AnyCollection.{AnyCollection}
-use Rattle.ic_any_collection.specs.declared.any_collection.AnyCollection.TheVariants.{Singly, Doubly, Xor, Tree}
-use Rattle.ic_any_collection.specs.AnyCollection.{RepresentsIn, members_in, Keeps, Held}
 
 -- a table is lawful if only places that it covers are linked. The table of every field is lawful
 abbrev pub IsLawful : Table Entry → Type 0
@@ -74,11 +66,8 @@ module _ {V : Type 0} where
 
   -- A TABLE WITH THE SAME ENTRIES AT THE MEMBERS of a collection keeps the collection as the old table did
   pub keeps_frame : {old new : Table Entry} (m : AnyCollection V) (s touched : List Place) → Keeps old m s → IsDisjoint s touched → ChangesOnlyIn old new touched → Keeps new m s
-  keeps_frame {old} {new} m s touched kept apart frame = record {
-    carried = rw frame.extent kept.carried;
-    shown = represented_frame old new m s touched kept.shown apart frame.others;
-    stands = kept.stands;
-  }
+  keeps_frame {old} {new} m s touched kept apart frame =
+      record { carried = rw frame.extent kept.carried; shown = represented_frame old new m s touched kept.shown apart frame.others; stands = kept.stands }
 
   -- if a table keeps a sequence s for a collection, s is the sequence of members that a walk finds
   pub held_of : {t : Table Entry} → IsLawful t → (m : AnyCollection V) (s : List Place) → Keeps t m s → Held t m

@@ -1,34 +1,22 @@
--- Insertions by key: from the contract of a tree's own call follows what the collection's call ensures. The cursor is moved after the insertion.
-use Rattle.std.proofs.Common.{◌≡◌, ◌∙◌, Bool, true, false, cond, append_assoc, Option, Some, None, List, [], ◌∷◌, ◌++◌, drop, refl, sym, ap, subst}
+-- Searches and insertions by key: from the contract of a tree's own call follows what the collection's call ensures. The cursor is moved after the call.
+use Rattle.std.proofs.Common.{◌≡◌, ◌∙◌, Bool, true, false, cond, append_assoc, Option, Some, None, IfSome, List, [], ◌∷◌, ◌++◌, drop, refl, sym, ap, subst}
 use Rattle.std.specs.Prelude.{⊤}
 use Rattle.std.specs.Bool.{OnTrue, OnFalse}
 use Rattle.std.specs.declared.cmp.Ordering.{Ordering}
-use Rattle.ic_link_ops.specs.Prelude.{Place, Cut, join, insert, at_front, first, IsAbsent, IsMember, Table, ChangesOnlyIn, LinksAlso, acquires}
+use Rattle.ic_link_ops.specs.Prelude.{Place, Cut, join, insert, at_front, first, IsAbsent, IsMember, Table, ChangesOnlyIn, LinksAlso, IsBefore, IsValidCursor, site, acquires}
 use Rattle.ic_link_ops.specs.Edits.{Inserts}
-use Rattle.ic_link_ops.specs.declared.link.Link.{Link}
-use Rattle.ic_link_ops.specs.declared.rbtree.ThreeWords.{ThreeWords}
-use Rattle.ic_link_ops.specs.ThreeWords.{node_of}
+use Rattle.ic_any_collection.specs.Prelude.{tree_table_in, is_tree_linked, Link, ThreeWords, PlainTable, node_of, InsertsInOrder, root_of, RBTree, Entry, is_linked, node, Unkeyed, AnyTable, Tree, IsAt, members_in, Held, AtGap, Moves, Puts, PutsInOrder, PutsAtKey, IsVacantFor}
 use Rattle.ic_link_ops.specs.RedBlackTree as tree
 use Rattle.ic_link_ops.proofs.SequenceLemmas.{member_split, first_is, absent_right, absent_without, gap_after, last_of_push, none_not}
 use Rattle.ic_rbtree.specs.declared.keys.entry.Entry.{Entry as TreeEntry}
 use Rattle.ic_rbtree.specs.declared.keys.entry.Entry.TheVariants.{Occupied, Vacant}
 use Rattle.ic_rbtree.specs.declared.keys.entry.InsertCursor.{InsertCursor}
+use Rattle.ic_rbtree.specs.Cursor.{Cursor, tree_of, links_of, position, site_of}
 use Rattle.ic_rbtree.specs.CursorMut.{CursorMut}
 use Rattle.ic_rbtree.specs.Borders.{Finds, equal_at, if_passes}
-use Rattle.ic_rbtree.specs.Ordered.{InsertsInOrder}
-use Rattle.ic_rbtree.specs.Tree.{root_of}
-use Rattle.ic_rbtree.specs.declared.tree.RBTree.{RBTree}
-use Rattle.ic_any_collection.specs.declared.entry.Entry.{Entry}
-use Rattle.ic_any_collection.specs.Entries.{is_linked, node}
-use Rattle.ic_any_collection.specs.declared.unkeyed.Unkeyed.{Unkeyed}
-use Rattle.ic_any_collection.specs.declared.any_table.AnyTable.{AnyTable}
-use Rattle.ic_any_collection.specs.declared.any_collection.AnyCollection.TheVariants.{Tree}
-use Rattle.ic_any_collection.specs.AnyCollection.{IsAt, members_in, Held}
-use Rattle.ic_any_collection.specs.Edits.{AtGap, Moves, Puts}
-use Rattle.ic_any_collection.specs.Keyed.{PutsInOrder, PutsAtKey, IsVacantFor}
-use Rattle.ic_any_collection.specs.TreeTables.{is_linked as own_linked}
-use Rattle.ic_any_collection.proofs.OwnTrees.{of_field, to_own, step_in_field, inserts_in_field, in_order_in_field}
-use Rattle.ic_any_collection.proofs.Standing.{before_at}
+use Rattle.ic_any_collection.proofs.OwnTrees.{of_field, to_own, step_in_field, inserts_in_field}
+use Rattle.ic_link_ops.proofs.CollectionLaws.{one_sequence_is_represented}
+use Rattle.ic_any_collection.proofs.Made.{own_trees, before_at}
 
 -- a cursor can be on each member of a sequence
 on_it : {s : List Place} (front : List Place) (p : Place) (back : List Place) → front ++ p ∷ back ≡ s → IsAt s (Some p)
@@ -63,35 +51,27 @@ still_at {s} gap p same (Some q) at =
 -- p is inserted in the order of keys, and the cursor stays or goes to p. `t` and `t'` are the tree's own table before and after the call, and `l'` is
 -- the tree after the call
 module _ {V : Type 0} {t t' : Table (Link ThreeWords ⊤)} {l l' : RBTree (Unkeyed V) (Option Place)} {at : Option Place} (held : Held {V = V} (of_field t) (Tree l at)) (by : Place → Ordering) (p : Place) where
-  put_in_order : {at' cursor : Option Place} → InsertsInOrder (tree.Represents node_of) by t t' (root_of l') (members_in {V = V} (of_field t) (Tree l at)) p → LinksAlso own_linked t t' p
+  put_in_order : {at' cursor : Option Place} → InsertsInOrder (tree.Represents node_of) by t t' (root_of l') (members_in {V = V} (of_field t) (Tree l at)) p → LinksAlso is_tree_linked t t' p
       → ((gap : Cut) → join gap ≡ members_in {V = V} (of_field t) (Tree l at) → IsAt (insert gap p) cursor) → at' ≡ cursor
       → PutsInOrder {V = V} by (of_field t) (of_field t') (Tree l at) (Tree l' at') p cursor
   put_in_order put links stands is =
-      let there = in_order_in_field put in
-      (there.gap, there.same, (there.border, puts_in_tree held there.same there.inserted (step_in_field _ _ (acquires p) links) (stands there.gap there.same) is))
+      (put.gap, put.same, (put.border, puts_in_tree held put.same (inserts_in_field put.inserted) (step_in_field _ _ (acquires p) links) (stands put.gap put.same) is))
 
-  pub puts_and_goes : {at' : Option Place} → InsertsInOrder (tree.Represents node_of) by t t' (root_of l') (members_in {V = V} (of_field t) (Tree l at)) p → LinksAlso own_linked t t' p → at' ≡ Some p
+  pub puts_and_goes : {at' : Option Place} → InsertsInOrder (tree.Represents node_of) by t t' (root_of l') (members_in {V = V} (of_field t) (Tree l at)) p → LinksAlso is_tree_linked t t' p → at' ≡ Some p
       → PutsInOrder {V = V} by (of_field t) (of_field t') (Tree l at) (Tree l' at') p (Some p)
   puts_and_goes put links is = put_in_order put links (λ gap same. on_it gap.front p gap.back refl) is
 
-module _ {V : Type 0} (acquired : Bool) where
-  pub puts_and_stays : (t t' : Table (Link ThreeWords ⊤)) (l l' : RBTree (Unkeyed V) (Option Place)) (at : Option Place) (by : Place → Ordering) (p : Place) → Held {V = V} (of_field t) (Tree l at)
-      → ((s : List Place) → tree.Represents node_of t (root_of l) s → OnTrue acquired (InsertsInOrder (tree.Represents node_of) by t t' (root_of l') s p))
-      → OnTrue acquired (LinksAlso own_linked t t' p) → OnTrue acquired (PutsInOrder {V = V} by (of_field t) (of_field t') (Tree l at) (Tree l' at) p at)
-  puts_and_stays t t' l l' at by p held = of acquired where
-    of : (acquired : Bool) → ((s : List Place) → tree.Represents node_of t (root_of l) s → OnTrue acquired (InsertsInOrder (tree.Represents node_of) by t t' (root_of l') s p))
-        → OnTrue acquired (LinksAlso own_linked t t' p) → OnTrue acquired (PutsInOrder {V = V} by (of_field t) (of_field t') (Tree l at) (Tree l' at) p at)
-    of true put links = put_in_order held by p (put _ (to_own held.shown)) links (λ gap same. still_at gap p same at held.stands) refl
-    of false put links = tt
+pub puts_and_stays : {V : Type 0} (acquired : Bool) (t t' : Table (Link ThreeWords ⊤)) (l l' : RBTree (Unkeyed V) (Option Place)) (at : Option Place) (by : Place → Ordering) (p : Place) → Held {V = V} (of_field t) (Tree l at)
+    → ((s : List Place) → tree.Represents node_of t (root_of l) s → OnTrue acquired (InsertsInOrder (tree.Represents node_of) by t t' (root_of l') s p))
+    → OnTrue acquired (LinksAlso is_tree_linked t t' p) → OnTrue acquired (PutsInOrder {V = V} by (of_field t) (of_field t') (Tree l at) (Tree l' at) p at)
+puts_and_stays true t t' l l' at by p held put links = put_in_order held by p (put _ (to_own held.shown)) links (λ gap same. still_at gap p same at held.stands) refl
+puts_and_stays false t t' l l' at by p held put links = tt
 
-  -- AN INSERTION THAT IS REFUSED leaves the collection and its table as they were
-  pub put_stays : {L M : Type 0} (table : L → Table Entry) (field : L → AnyTable M) (old new : L) (l l' : RBTree (Unkeyed V) (Option Place)) (at : Option Place) (Linked Asked : Type 0) → Held {V = V} (table old) (Tree l at)
-      → OnFalse acquired (Linked × Asked) → OnFalse acquired ((l' ≡ l) × (new ≡ old)) → OnFalse acquired (Linked × Asked × ((field new ≡ field old) × Moves {V = V} (table old) (Tree l at) (Tree l' at) at))
-  put_stays {M = M'} table field old new l l' at Linked Asked held = of acquired where
-    of : (acquired : Bool) → OnFalse acquired (Linked × Asked) → OnFalse acquired ((l' ≡ l) × (new ≡ old))
-        → OnFalse acquired (Linked × Asked × ((field new ≡ field old) × Moves {V = V} (table old) (Tree l at) (Tree l' at) at))
-    of true why same = tt
-    of false why same = (why.0, why.1, (ap field same.1, record { kept = rw same.0 held; alike = refl; cursor_is = refl }))
+-- AN INSERTION THAT IS REFUSED leaves the collection and its table as they were
+pub put_stays : {V : Type 0} (acquired : Bool) {L M : Type 0} (table : L → Table Entry) (field : L → AnyTable M) (old new : L) (l l' : RBTree (Unkeyed V) (Option Place)) (at : Option Place) (Linked Asked : Type 0) → Held {V = V} (table old) (Tree l at)
+    → OnFalse acquired (Linked × Asked) → OnFalse acquired ((l' ≡ l) × (new ≡ old)) → OnFalse acquired (Linked × Asked × ((field new ≡ field old) × Moves {V = V} (table old) (Tree l at) (Tree l' at) at))
+put_stays true table field old new l l' at Linked Asked held why same = tt
+put_stays false table field old new l l' at Linked Asked held why same = (why.0, why.1, (ap field same.1, record { kept = rw same.0 held; alike = refl; cursor_is = refl }))
 
 -- an entry that is not occupied is vacant
 pub vacant_one : {A L V K : Type 0} (entry : TreeEntry A L (Option Place) V K) → ((c : CursorMut A L V) → entry ≡ Occupied c → ⊥) → (v : InsertCursor A L (Option Place)) × (entry ≡ Vacant v)
@@ -99,12 +79,11 @@ vacant_one (Occupied c) other = absurd (other c refl)
 vacant_one (Vacant v) other = (v, refl)
 
 -- AFTER AN EDIT THROUGH A BORROW, the root and the table are those with which the borrow ended, and so what the edit ensures holds of them
-module _ {t t' : Table (Link ThreeWords ⊤)} {root root' : Option Place} where
-  pub inserts_left : {old old' : Table (Link ThreeWords ⊤)} {gap : Cut} {p p' : Place} → old ≡ old' → p ≡ p' → Inserts (tree.Represents node_of) old t root gap p
-      → t' ≡ t → root' ≡ root → Inserts (tree.Represents node_of) old' t' root' gap p'
-  inserts_left same place put table head = rw (table, head, ← same, ← place) put
+pub inserts_left : {old old' t t' : Table (Link ThreeWords ⊤)} {root root' : Option Place} {gap : Cut} {p p' : Place} → old ≡ old' → p ≡ p' → Inserts (tree.Represents node_of) old t root gap p
+    → t' ≡ t → root' ≡ root → Inserts (tree.Represents node_of) old' t' root' gap p'
+inserts_left same place put table head = rw (table, head, ← same, ← place) put
 
-pub links_left : {old old' t t' : Table (Link ThreeWords ⊤)} {p p' : Place} → old ≡ old' → p ≡ p' → LinksAlso own_linked old t p → t' ≡ t → LinksAlso own_linked old' t' p'
+pub links_left : {old old' t t' : Table (Link ThreeWords ⊤)} {p p' : Place} → old ≡ old' → p ≡ p' → LinksAlso is_tree_linked old t p → t' ≡ t → LinksAlso is_tree_linked old' t' p'
 links_left same place linked table = rw (table, ← same, ← place) linked
 
 -- A MEMBER WITH THE KEY was found, and the cursor moves to this member
@@ -118,16 +97,25 @@ passed test (Some q) {p} e = by (test q) e where
 pub moves_to_key : {V : Type 0} {by : Place → Ordering} {t : Table Entry} {l l' : RBTree (Unkeyed V) (Option Place)} {at at' : Option Place} {p : Place} → Held {V = V} t (Tree l at)
     → Finds by (members_in {V = V} t (Tree l at)) (Some p) → l' ≡ l → at' ≡ Some p → Moves {V = V} t (Tree l at) (Tree l' at') (Some p)
 moves_to_key {by = by} {p = p} held found same there =
-    let k = gap_after found.gap (Some p) (passed (equal_at by) (first found.gap.back) found.answer) in record {
-      kept = record { carried = held.carried; shown = rw same held.shown; stands = rw there (k.0, k.1 ∙ found.same, k.2) };
-      alike = refl;
-      cursor_is = there;
-    }
+    let k = gap_after found.gap (Some p) (passed (equal_at by) (first found.gap.back) found.answer) in
+    record { kept = record { carried = held.carried; shown = rw same held.shown; stands = rw there (k.0, k.1 ∙ found.same, k.2) }; alike = refl; cursor_is = there }
 
 -- AN OBJECT IS INSERTED into the gap where the searched key belongs, and the cursor is put on the object
 pub puts_at_key : {V : Type 0} (by : Place → Ordering) {t t' : Table (Link ThreeWords ⊤)} {l l' : RBTree (Unkeyed V) (Option Place)} {at at' : Option Place} {p : Place} → Held {V = V} (of_field t) (Tree l at)
-    → AtGap (members_in {V = V} (of_field t) (Tree l at)) (λ gap. IsVacantFor by gap × Inserts (tree.Represents node_of) t t' (root_of l') gap p) → LinksAlso own_linked t t' p
+    → AtGap (members_in {V = V} (of_field t) (Tree l at)) (λ gap. IsVacantFor by gap × Inserts (tree.Represents node_of) t t' (root_of l') gap p) → LinksAlso is_tree_linked t t' p
     → at' ≡ Some p → PutsAtKey {V = V} by (of_field t) (of_field t') (Tree l at) (Tree l' at') p (Some p)
 puts_at_key by {p = p} held put links there =
-    let gap = put.0 in
-    (gap, put.1, (put.2.0, puts_in_tree held put.1 (inserts_in_field put.2.1) (step_in_field _ _ (acquires p) links) (on_it gap.front p gap.back refl) there))
+    let gap = put.0 in (gap, put.1, (put.2.0, puts_in_tree held put.1 (inserts_in_field put.2.1) (step_in_field _ _ (acquires p) links) (on_it gap.front p gap.back refl) there))
+
+-- a position that is not null is a member
+on_member : {s : List Place} (position : Option Place) → IsAt s position → IfSome position (λ p. AtGap s (λ gap. IsBefore gap (Some p)))
+on_member None at = tt
+on_member (Some p) at = before_at at
+
+-- the position of a cursor that a search of the tree returns is a member, if it is not null
+pub found_member : {V M : Type 0} {links : PlainTable ThreeWords M ⊤} {l : RBTree (Unkeyed V) (Option Place)} {s : List Place} {at : Option Place} (c : Cursor (Unkeyed V) (PlainTable ThreeWords M ⊤) V (Option Place))
+    → tree.Represents node_of (tree_table_in links) (root_of l) s → IsValidCursor (tree.Represents node_of) tree_table_in (site_of c) → tree_of c ≡ l → links_of c ≡ links → at ≡ position c
+    → IfSome at (λ p. AtGap s (λ gap. IsBefore gap (Some p)))
+found_member {links = links} {l = l} {at = at} c shown valid same_tree same_links is =
+    let v : IsValidCursor (tree.Represents node_of) tree_table_in (site links (root_of l) at) = rw (← same_tree, ← same_links, is) valid in
+    on_member at (v.gap, one_sequence_is_represented own_trees v.shown shown, v.after)

@@ -1,12 +1,7 @@
 pub mod AllKinds
-pub mod Standing
 pub mod Reading
 pub mod OwnTrees
 pub mod Made
-pub mod InGaps
 pub mod Editing
-pub mod Parting
-pub mod Wholes
-pub mod KeyedSearches
 pub mod KeyedEdits
-pub mod KeyedWalks
+pub mod Common

@@ -1,14 +1,23 @@
--- How calls read a collection: the member after a member, walks from the front, and a tree that is read through two tables.
-use Rattle.std.proofs.Common.{◌≡◌, ◌≢◌, ◌∙◌, ◌<◌, ◌+◌, ◌++◌, true, false, cond, Option, Some, None, List, [], ◌∷◌, drop, length, refl, sym, ap, append_assoc, arith, nat_eq, eq-eqb, eqb-true}
+-- How calls read a collection: the member after a member, walks from the front, and how the places of a walk over a tree are listed. There a cursor goes
+-- along with the walk, and each place that it is on is appended to a list.
+use Rattle.std.proofs.Common.{◌≡◌, ◌≢◌, ◌∙◌, ◌<◌, ◌+◌, ◌++◌, true, false, cond, Option, Some, None, List, [], ◌∷◌, drop, length, refl, sym, ap, append_assoc, arith, nat_eq, eq-eqb, eqb-true, Bool, ℕ, Result, Ok, Err, IfOk, IsSome, subst, append-nil}
 use Rattle.std.proofs.lemmas.Bool.{eqb-false, false_from_ne_true}
 use Rattle.std.proofs.lemmas.List.{length-append}
-use Rattle.ic_link_ops.specs.Prelude.{Place, index_of, Cut, join, first, last, IsAfter, IsBefore, IsAbsent, IsDistinct, Table, CursorState, RepresentsAt, MovesOn}
+use Rattle.ic_link_ops.specs.Prelude.{Place, index_of, Cut, join, first, last, IsAfter, IsBefore, IsAbsent, IsDistinct, Table, CursorState, RepresentsAt, MovesOn, Objects, object_at, IsCovered, IsValidCursor, ArePlaced, values_at}
 use Rattle.ic_unsafe_ref.proofs.PlaceLemmas.{same_index, word_tells}
 use Rattle.ic_link_ops.specs.Walk.{is_end}
-use Rattle.ic_link_ops.specs.Trees.{Tree, leaf, fork}
-use Rattle.ic_link_ops.specs.RedBlackTree.{Node, IsTree, Represents}
-use Rattle.ic_link_ops.proofs.SequenceLemmas.{first_is, last_of_push, some_same}
+use Rattle.ic_link_ops.proofs.SequenceLemmas.{first_is, last_of_push, some_same, none_not}
 use Rattle.ic_link_ops.proofs.Walks.{is_end_yes}
+use Rattle.std.specs.List.{cons_option}
+use Rattle.std.specs.declared.vec.Vec.{Vec}
+use Rattle.ic_link_ops.specs.RedBlackTree.{Node, Represents}
+use Rattle.ic_link_ops.proofs.Positions.{stands_by_gap}
+use Rattle.std.specs.declared.cmp.Ordering.{Ordering}
+use Rattle.ic_rbtree.specs.declared.keys.key_adapter.Bound.{Bound}
+use Rattle.ic_rbtree.specs.Ranges.{IsRange}
+use Rattle.ic_rbtree.specs.declared.iter.Iter.{Iter}
+use Rattle.ic_rbtree.specs.Iter.{rest_of, objects_left, CanWalk}
+use Rattle.ic_rbtree.proofs.Walking.{walk_members}
 
 -- A MOVE FROM A MEMBER p leads to the member after p, or to null if p is the last
 pub leads_after : {L E H : Type 0} {Represents : Table E → H → List Place → Type 0} {table : L → Table E} {old : CursorState L H} {position : Option Place} {p : Place} {s : List Place}
@@ -73,8 +82,7 @@ from_first (x ∷ f) (y ∷ b) d =
     rw e (from_first f (y ∷ b) d.1)
 
 pub walks_from : {s done : List Place} {prev current : Option Place} → IsDistinct s → (w : Walks s done prev current) → from current s ≡ w.left
-walks_from {done = done} distinct w =
-    rw (w.current_is, ← w.whole) (from_first done w.left (rw w.whole distinct))
+walks_from {done = done} distinct w = rw (w.current_is, ← w.whole) (from_first done w.left (rw w.whole distinct))
 
 -- each step of a walk leaves fewer members to walk, so the walk ends
 pub walks_fewer : {s done : List Place} {prev current : Option Place} {p : Place} → IsDistinct s → Walks s done prev (Some p)
@@ -86,27 +94,94 @@ walks_fewer {s} {done} {current = current} {p = p} distinct w next =
     let there : length (from current s) ≡ length next.left = ap length (walks_from distinct next) in
     omega (arith, before, after, here, there, length-append done (p ∷ []))
 
--- A TREE READ THROUGH ANOTHER TABLE has the same members, if the entries of both tables give the same node at each place
-module _ {E F : Type 0} (node : E → Node) (other : F → Node) {entry : Place → E} {entries : Place → F} (same : (p : Place) → other (entries p) ≡ node (entry p)) where
-  seen_tree : (up : Option Place) (tree : Tree) → IsTree node entry up tree → IsTree other entries up tree
-  seen_tree up leaf h = tt
-  seen_tree up (fork c a p b) h = (
-    record {
-      linked = ap (λ n. n.linked) (same p) ∙ h.0.linked;
-      left = ap (λ n. n.left) (same p) ∙ h.0.left;
-      right = ap (λ n. n.right) (same p) ∙ h.0.right;
-      parent = ap (λ n. n.parent) (same p) ∙ h.0.parent;
-      color = ap (λ n. n.color) (same p) ∙ h.0.color;
-    },
-    seen_tree (Some p) a h.1,
-    seen_tree (Some p) b h.2,
-  )
+-- the walk has as many objects left as members, because there is an object at the place of each member
+one_more : {V : Type 0} (o : Option V) {n : ℕ} (vs : List V) → IsSome o → n ≡ length vs → n + 1 ≡ length (cons_option o vs)
+one_more None vs some e = absurd (cc)
+one_more (Some v) vs some e = omega (arith, e)
 
-pub seen : {E F : Type 0} (node : E → Node) (other : F → Node) {t : Table E} {u : Table F} {root : Option Place} {s : List Place}
-    → ((p : Place) → other (u.entry p) ≡ node (t.entry p)) → Represents node t root s → Represents other u root s
-seen node other same shown = record {
-  tree = shown.tree;
-  held = record { order = shown.held.order; distinct = shown.held.distinct; entries = seen_tree node other same None shown.tree shown.held.entries };
-  starts = shown.starts;
-  shape = shown.shape;
-}
+left_count : {V : Type 0} (objects : Objects V) (w : List Place) → ArePlaced objects w → length w ≡ length (values_at objects w)
+left_count objects [] placed = refl
+left_count objects (p ∷ w) placed = let e = one_more (object_at objects p) (values_at objects w) placed.0 (left_count objects w placed.1) in omega (arith, e)
+
+pub walk_count : {A L O V K E : Type 0} (node : E → Node) (table : L → Table E) (values : O → Objects V) → ((t : L) (q : Place) → (node ((table t).entry q)).linked ≡ true → IsCovered (table t) q)
+    → (walk : Iter A L O V K) → CanWalk node table values walk → length (rest_of node table walk) ≡ length (objects_left node table values walk)
+walk_count node table values law walk can = rw (walk_members node (table walk.links.now) (law walk.links.now) can.1) (left_count (values walk.objects.now) can.0 can.2)
+
+-- THE LIST DURING A WALK: `places` are the listed members of `whole`, and `rest` are the others. There are as many members in `rest` as the walk has
+-- objects left. The cursor is on the first of them, or after the last one if `rest` is empty
+pub record Lists {E V : Type 0} (node : E → Node) (t : Table E) (root : Option Place) (whole places : List Place) (position : Option Place) (left : List V) : Type 0 where
+  pub front : List Place
+  pub rest : List Place
+  pub back : List Place
+  pub shown : Represents node t root (front ++ (rest ++ back))
+  pub listed : places ++ rest ≡ whole
+  pub stands : position ≡ first (rest ++ back)
+  pub count : length rest ≡ length left
+
+first_joined : (w back : List Place) {p : Place} → Some p ≡ first w → Some p ≡ first (w ++ back)
+first_joined [] back {p} e = absurd (none_not p (sym e))
+first_joined (x ∷ w) back e = e
+
+no_more : {V : Type 0} (rest : List Place) {left : List V} → length rest ≡ length left → left ≡ [] → rest ≡ []
+no_more [] count e = refl
+no_more (p ∷ rest) count e = let k = count ∙ ap length e in absurd (omega (arith, k))
+
+some_more : {V : Type 0} (rest : List Place) {left : List V} {v : V} {vs : List V} → length rest ≡ length left → left ≡ v ∷ vs
+    → (p : Place) × (r : List Place) × (rest ≡ p ∷ r) × (length r ≡ length vs)
+some_more [] count e = let k = count ∙ ap length e in absurd (omega (arith, k))
+some_more (p ∷ rest) count e = let k = count ∙ ap length e in (p, rest, refl, omega (arith, k))
+
+module _ {E V : Type 0} {node : E → Node} {t : Table E} {root : Option Place} {whole : List Place} where
+  pub lists_first : {position : Option Place} {left : List V} {p : Place} → (front back : List Place) × Represents node t root (front ++ (whole ++ back))
+      → Some p ≡ first whole → position ≡ Some p → length whole ≡ length left → Lists node t root whole [] position left
+  lists_first shown starts is count =
+      record { front = shown.0; rest = whole; back = shown.1; shown = shown.2; listed = refl; stands = is ∙ first_joined whole shown.1 starts; count = count }
+
+  module _ {places : List Place} {position : Option Place} {left : List V} (l : Lists node t root whole places position left) where
+    -- if the walk has no object left, all members of `whole` are listed
+    pub lists_all : left ≡ [] → places ≡ whole
+    lists_all none = sym (append-nil places) ∙ sym (ap (λ r. places ++ r) (no_more l.rest l.count none)) ∙ l.listed
+
+    module _ {v : V} {vs : List V} (more : left ≡ v ∷ vs) where
+      -- if the walk has an object left, the cursor is on the next member to list
+      pub next : (p : Place) × (r : List Place) × (l.rest ≡ p ∷ r) × (length r ≡ length vs)
+      next = some_more l.rest l.count more
+
+      pub position_is : position ≡ Some next.0
+      position_is = l.stands ∙ ap (λ r. first (r ++ l.back)) next.2
+
+      pub is_there : IsSome position
+      is_there = subst IsSome (sym position_is) refl
+
+      -- the member that the cursor is on is appended to the list, and the cursor moves to the next member
+      pub lists_next : {q : Place} {places' : List Place} {position' : Option Place} → position ≡ Some q → places' ≡ places ++ q ∷ []
+          → ((gap : Cut) → Represents node t root (join gap) → IsAfter gap position → IsBefore gap position') → Lists node t root whole places' position' vs
+      lists_next is listed leads =
+          let same = some_same (sym is ∙ position_is) in
+          let shown : Represents node t root ((l.front ++ next.0 ∷ []) ++ (next.1 ++ l.back)) = rw (append_assoc l.front (next.0 ∷ []) (next.1 ++ l.back)) (rw next.2 at l.shown) in record {
+            front = l.front ++ next.0 ∷ [];
+            rest = next.1;
+            back = l.back;
+            shown = shown;
+            listed = ap (λ s. s ++ next.1) (listed ∙ ap (λ x. places ++ x ∷ []) same) ∙ append_assoc places (next.0 ∷ []) next.1 ∙ ap (λ r. places ++ r) (sym next.2) ∙ l.listed;
+            stands = leads (record { front = l.front ++ next.0 ∷ []; back = next.1 ++ l.back }) shown (position_is ∙ sym (last_of_push l.front next.0));
+            count = next.3;
+          }
+
+-- the cursor that goes along with the walk is valid in the tree
+pub lists_stands : {L E V : Type 0} {node : E → Node} {table : L → Table E} {at : CursorState L (Option Place)} {whole places : List Place} {left : List V}
+    → Lists node (table at.links) at.head whole places at.position left → IsValidCursor (Represents node) table at
+lists_stands l = stands_by_gap (record { front = l.front; back = l.rest ++ l.back }) l.shown l.stands
+
+-- the members of a range are consecutive in s: there are members `front` before them and `back` after them. A range may be empty
+pub range_represented : {min max : Bound (Place → Ordering)} {runs : Option Place → Option Place → Bool} {s w : List Place} (shows : List Place → Type 0) → IsRange min max runs s w
+    → shows s → (front back : List Place) × shows (front ++ (w ++ back))
+range_represented {runs = runs} {s} {w} shows x shown = by (runs x.low x.high) refl where
+  by : (b : Bool) → runs x.low x.high ≡ b → (front back : List Place) × shows (front ++ (w ++ back))
+  by true e = let part = x.segment e in (part.front, part.back, subst shows (sym part.same) shown)
+  by false e = ([], s, subst shows (sym (ap (λ r. r ++ s) (x.nothing e))) shown)
+
+-- a statement P that holds of the members which a walk had left holds of the listed places, if they are these members
+pub if_listed : {M E : Type 0} (P : List Place → Type 0) (walked : List Place) (listed : Result (Vec Place M) E) → IfOk listed (λ places. places.items ≡ walked) → P walked → IfOk listed (λ places. P places.items)
+if_listed P walked (Ok places) all h = subst P (sym all) h
+if_listed P walked (Err refusal) all h = tt

@@ -6,6 +6,9 @@ use Rattle.ic_link_ops.specs.SinglyLinkedList.{Successor}
 use Rattle.ic_link_ops.specs.RedBlackTree.{Node}
 use Rattle.ic_link_ops.specs.declared.color.Color.TheVariants.{Red}
 use Rattle.ic_link_ops.specs.Links.{words_of}
+use Rattle.ic_link_ops.specs.PlainTables.{table}
+use Rattle.ic_link_ops.specs.Widths.{wide}
+use Rattle.ic_link_ops.specs.declared.table.PlainTable.{PlainTable}
 use Rattle.ic_link_ops.specs.DoublyEntries.{DoublyLink}
 use Rattle.ic_link_ops.specs.declared.link.Link.{Link}
 use Rattle.ic_link_ops.specs.declared.one_word.OneWord.{OneWord}
@@ -26,6 +29,13 @@ of_two l = record { linked = two.has_words (words_of l); word = two.next_word_of
 
 abbrev pub of_three : Link ThreeWords ⊤ → Entry
 of_three l = record { linked = three.has_link (words_of l); word = three.right_word_of (words_of l); prev = three.left_of (words_of l); parent = (three.node_of l).parent; color = (three.node_of l).color }
+
+-- a table of tree links, and whether a link of it is linked, in the terms of trees
+abbrev pub tree_table_in : {M : Type 0} → PlainTable ThreeWords M ⊤ → Table (Link ThreeWords ⊤)
+tree_table_in t = table wide three.no_words t
+
+abbrev pub is_tree_linked : Link ThreeWords ⊤ → Bool
+is_tree_linked l = three.has_link (words_of l)
 
 -- the following functions say what each kind of collection reads in an entry
 abbrev pub is_linked : Entry → Bool

@@ -30,15 +30,13 @@ can_replace _ k = false
 abbrev pub from : {P : Type 0} → Gap → (null at : P) → P
 from Front null at = null
 from Back null at = null
-from Before null at = at
-from After null at = at
+from gap null at = at
 
 -- whether a gap is after the position from which an edit at the gap is made. If not, the gap is before that position
 abbrev pub is_after : Gap → Bool
 is_after Front = true
-is_after Back = false
-is_after Before = false
 is_after After = true
+is_after gap = false
 
 abbrev pub beside : Bool → Cut → Option Place → Type 0
 beside true gap position = IsAfter gap position
@@ -55,8 +53,7 @@ IsGapAt After cursor gap = IsAfter gap cursor
 abbrev pub rests : Gap → Option Place → Option Place
 rests Front cursor = None
 rests Back cursor = None
-rests Before cursor = cursor
-rests After cursor = cursor
+rests gap cursor = cursor
 
 -- THE GAP DIRECTLY BEFORE THE MEMBER that a removal takes. For example, a removal at the back takes the last member, so the gap is the one before the
 -- last member
@@ -69,13 +66,11 @@ IsFrontOf After s cursor gap = IsAfter gap cursor
 -- `onward` is the position of the cursor after a member was removed, and `onto` its position after p replaced a member. If the cursor was on the
 -- member, it goes to the next member, or to p
 abbrev pub onward : Gap → Option Place → Cut → Option Place
-onward Front cursor gap = None
-onward Back cursor gap = None
 onward Before cursor gap = first (drop 1 gap.back)
 onward After cursor gap = cursor
+onward _ cursor gap = None
 
 abbrev pub onto : Gap → Option Place → Place → Option Place
-onto Front cursor p = None
-onto Back cursor p = None
 onto Before cursor p = Some p
 onto After cursor p = cursor
+onto _ cursor p = None

@@ -23,56 +23,38 @@ abbrev pub carries : Kind → Kind → Bool
 carries table Singly = true
 carries table Xor = true
 carries Doubly Doubly = true
-carries Tree Doubly = true
-carries Singly Doubly = false
-carries Xor Doubly = false
-carries Tree Tree = true
-carries Singly Tree = false
-carries Doubly Tree = false
-carries Xor Tree = false
+carries Tree collection = true
+carries table collection = false
 
 -- which kinds have calls at the position before the cursor: all except singly linked lists
 abbrev pub has_before : Kind → Bool
 has_before Singly = false
-has_before Doubly = true
-has_before Xor = true
-has_before Tree = true
+has_before k = true
 
 -- which kinds are lists. A list can be split at a gap, and two lists of one kind can be spliced into one list
 abbrev pub is_list : Kind → Bool
-is_list Singly = true
-is_list Doubly = true
-is_list Xor = true
 is_list Tree = false
+is_list k = true
 
 -- which kinds are lists that have calls at the position before the cursor
 abbrev pub is_two_way_list : Kind → Bool
-is_two_way_list Singly = false
 is_two_way_list Doubly = true
 is_two_way_list Xor = true
-is_two_way_list Tree = false
+is_two_way_list k = false
 
 abbrev pub is_singly : Kind → Bool
 is_singly Singly = true
-is_singly Doubly = false
-is_singly Xor = false
-is_singly Tree = false
+is_singly k = false
 
 abbrev pub is_xor : Kind → Bool
-is_xor Singly = false
-is_xor Doubly = false
 is_xor Xor = true
-is_xor Tree = false
+is_xor k = false
 
 -- which kinds can make a cursor on a member from its place alone: all except XOR lists, which need a neighbor as well
 abbrev pub has_pointer : Kind → Bool
-has_pointer Singly = true
-has_pointer Doubly = true
 has_pointer Xor = false
-has_pointer Tree = true
+has_pointer k = true
 
 abbrev pub is_tree : Kind → Bool
-is_tree Singly = false
-is_tree Doubly = false
-is_tree Xor = false
 is_tree Tree = true
+is_tree k = false

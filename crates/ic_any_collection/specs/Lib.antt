@@ -1,6 +1,5 @@
 pub mod Kinds
 pub mod Entries
-pub mod TreeTables
 pub mod TablesWithPrev
 pub mod AnyTables
 pub mod Lends
@@ -9,3 +8,4 @@ pub mod Gaps
 pub mod Edits
 pub mod GapEdits
 pub mod Keyed
+pub mod Prelude

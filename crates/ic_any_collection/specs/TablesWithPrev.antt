@@ -11,13 +11,12 @@ use Rattle.ic_any_collection.specs.declared.entry.Entry.{Entry}
 use Rattle.ic_any_collection.specs.declared.table_with_prev.TableWithPrev.{TableWithPrev}
 use Rattle.ic_any_collection.specs.declared.table_with_prev.TableWithPrev.TheVariants.{Doubly, Tree}
 use Rattle.ic_any_collection.specs.declared.kind.Kind.TheVariants as kind
-use Rattle.ic_any_collection.specs.TreeTables as tree
-use Rattle.ic_any_collection.specs.Entries.{of_two, of_three, read, is_linked}
+use Rattle.ic_any_collection.specs.Entries.{of_two, of_three, read, is_linked, tree_table_in}
 
 module _ {M : Type 0} where
   abbrev pub table_in : TableWithPrev M → Table Entry
   table_in (Doubly t) = read kind.Doubly of_two (table wide two.no_words t)
-  table_in (Tree t) = read kind.Tree of_three (tree.table_in t)
+  table_in (Tree t) = read kind.Tree of_three (tree_table_in t)
 
   -- the table covers every linked place
   pub covered_where_linked : (t : TableWithPrev M) (p : Place) → IsLinked is_linked (table_in t) p → IsCovered (table_in t) p

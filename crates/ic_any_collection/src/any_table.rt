@@ -18,6 +18,18 @@ use ic_link_ops::{CoverError, LinkOps, linked_list, rbtree, singly_linked_list, 
 use ic_unsafe_ref::Place;
 use std::alloc::{Allocator, Global};
 
+// Makes one call of the table of any kind, which has the name `$links` in the call.
+macro_rules! on_table {
+    ($table:expr, $links:ident => $call:expr) => {
+        match $table {
+            AnyTable::Singly($links) => $call,
+            AnyTable::Xor($links) => $call,
+            AnyTable::WithPrev(TableWithPrev::Doubly($links)) => $call,
+            AnyTable::WithPrev(TableWithPrev::Tree($links)) => $call,
+        }
+    };
+}
+
 /// The table of a link field. No call changes its kind.
 #[derive(Drop)]
 pub enum AnyTable<M: Allocator = Global> {
@@ -64,12 +76,7 @@ impl<M: Allocator> AnyTable<M> {
     pub fn covers(&self) -> usize
         ensures { result ≡ (table_in self.now).extent.places }
     {
-        match self {
-            Self::Singly(links) => links.covers(),
-            Self::Xor(links) => links.covers(),
-            Self::WithPrev(TableWithPrev::Doubly(links)) => links.covers(),
-            Self::WithPrev(TableWithPrev::Tree(links)) => links.covers(),
-        }
+        on_table!(self, links => links.covers())
     }
 
     /// Returns whether `place` is linked. It requires that the table covers the place. O(1).
@@ -78,12 +85,7 @@ impl<M: Allocator> AnyTable<M> {
         requires covered { IsCovered (table_in self.now) place }
         ensures { result ≡ is_linked ((table_in self.now).entry place) }
     {
-        match self {
-            Self::Singly(links) => links.is_linked(place),
-            Self::Xor(links) => links.is_linked(place),
-            Self::WithPrev(TableWithPrev::Doubly(links)) => links.is_linked(place),
-            Self::WithPrev(TableWithPrev::Tree(links)) => links.is_linked(place),
-        }
+        on_table!(self, links => links.is_linked(place))
     }
 
     /// Unlinks `place`, whichever collection linked it. An unlinked place stays unlinked. It requires that the table covers the place. O(1).
@@ -95,12 +97,7 @@ impl<M: Allocator> AnyTable<M> {
         ensures unlinked { IsUnlinked is_linked (table_in self.new) place }
         ensures frame { ChangesOnly (table_in self.old) (table_in self.new) place }
     {
-        match self {
-            Self::Singly(links) => links.force_unlink(place),
-            Self::Xor(links) => links.force_unlink(place),
-            Self::WithPrev(TableWithPrev::Doubly(links)) => links.force_unlink(place),
-            Self::WithPrev(TableWithPrev::Tree(links)) => links.force_unlink(place),
-        }
+        on_table!(self, links => links.force_unlink(place))
     }
 
     /// Covers the first `count` places, with an unlinked entry for each place that is new.
@@ -115,12 +112,7 @@ impl<M: Allocator> AnyTable<M> {
         ensures enough { count ≤ (table_in self.old).extent.places → count ≤ 4294967296 → IsOk result }
         ensures refused { OnErr result ((table_in self.new).extent ≡ (table_in self.old).extent) }
     {
-        match self {
-            Self::Singly(links) => links.cover(count),
-            Self::Xor(links) => links.cover(count),
-            Self::WithPrev(TableWithPrev::Doubly(links)) => links.cover(count),
-            Self::WithPrev(TableWithPrev::Tree(links)) => links.cover(count),
-        }
+        on_table!(self, links => links.cover(count))
     }
 }
 
@@ -146,20 +138,12 @@ impl<M: Allocator> LinkOps for AnyTable<M> {
 
     #[inline]
     fn acquire_link(&mut self, place: Place) -> bool {
-        match self {
-            Self::Singly(links) => links.acquire_link(place),
-            Self::Xor(links) => links.acquire_link(place),
-            Self::WithPrev(links) => links.acquire_link(place),
-        }
+        on_table!(self, links => links.acquire_link(place))
     }
 
     #[inline]
     fn release_link(&mut self, place: Place) {
-        match self {
-            Self::Singly(links) => links.release_link(place),
-            Self::Xor(links) => links.release_link(place),
-            Self::WithPrev(links) => links.release_link(place),
-        }
+        on_table!(self, links => links.release_link(place))
     }
 
     ghost linked_is_covered = { covered_where_linked };
@@ -183,36 +167,17 @@ impl<M: Allocator> SinglyLinkedListOps for AnyTable<M> {
 
     #[inline]
     fn next(&self, place: Place) -> Option<Place> {
-        match self {
-            Self::Singly(links) => SinglyLinkedListOps::next(links, place),
-            Self::Xor(links) => SinglyLinkedListOps::next(links, place),
-            Self::WithPrev(TableWithPrev::Doubly(links)) => SinglyLinkedListOps::next(links, place),
-            Self::WithPrev(TableWithPrev::Tree(links)) => SinglyLinkedListOps::next(links, place),
-        }
+        on_table!(self, links => SinglyLinkedListOps::next(links, place))
     }
 
     #[inline]
     fn set_next(&mut self, place: Place, next: Option<Place>) {
-        match self {
-            Self::Singly(links) => SinglyLinkedListOps::set_next(links, place, next),
-            Self::Xor(links) => SinglyLinkedListOps::set_next(links, place, next),
-            Self::WithPrev(TableWithPrev::Doubly(links)) => SinglyLinkedListOps::set_next(
-                links, place, next,
-            ),
-            Self::WithPrev(TableWithPrev::Tree(links)) => SinglyLinkedListOps::set_next(
-                links, place, next,
-            ),
-        }
+        on_table!(self, links => SinglyLinkedListOps::set_next(links, place, next))
     }
 
     #[inline]
     fn link_before(&mut self, place: Place, next: Option<Place>) -> bool {
-        match self {
-            Self::Singly(links) => links.link_before(place, next),
-            Self::Xor(links) => links.link_before(place, next),
-            Self::WithPrev(TableWithPrev::Doubly(links)) => links.link_before(place, next),
-            Self::WithPrev(TableWithPrev::Tree(links)) => links.link_before(place, next),
-        }
+        on_table!(self, links => links.link_before(place, next))
     }
 
     ghost linked_alike = { λ e. refl };
@@ -228,68 +193,27 @@ impl<M: Allocator> XorLinkedListOps for AnyTable<M> {
 
     #[inline]
     fn next(&self, place: Place, prev: Option<Place>) -> Option<Place> {
-        match self {
-            Self::Singly(links) => XorLinkedListOps::next(links, place, prev),
-            Self::Xor(links) => XorLinkedListOps::next(links, place, prev),
-            Self::WithPrev(TableWithPrev::Doubly(links)) => XorLinkedListOps::next(
-                links, place, prev,
-            ),
-            Self::WithPrev(TableWithPrev::Tree(links)) => XorLinkedListOps::next(
-                links, place, prev,
-            ),
-        }
+        on_table!(self, links => XorLinkedListOps::next(links, place, prev))
     }
 
     #[inline]
     fn prev(&self, place: Place, next: Option<Place>) -> Option<Place> {
-        match self {
-            Self::Singly(links) => XorLinkedListOps::prev(links, place, next),
-            Self::Xor(links) => XorLinkedListOps::prev(links, place, next),
-            Self::WithPrev(TableWithPrev::Doubly(links)) => XorLinkedListOps::prev(
-                links, place, next,
-            ),
-            Self::WithPrev(TableWithPrev::Tree(links)) => XorLinkedListOps::prev(
-                links, place, next,
-            ),
-        }
+        on_table!(self, links => XorLinkedListOps::prev(links, place, next))
     }
 
     #[inline]
     fn set(&mut self, place: Place, prev: Option<Place>, next: Option<Place>) {
-        match self {
-            Self::Singly(links) => links.set(place, prev, next),
-            Self::Xor(links) => links.set(place, prev, next),
-            Self::WithPrev(TableWithPrev::Doubly(links)) => links.set(place, prev, next),
-            Self::WithPrev(TableWithPrev::Tree(links)) => links.set(place, prev, next),
-        }
+        on_table!(self, links => links.set(place, prev, next))
     }
 
     #[inline]
     fn link_between(&mut self, place: Place, prev: Option<Place>, next: Option<Place>) -> bool {
-        match self {
-            Self::Singly(links) => XorLinkedListOps::link_between(links, place, prev, next),
-            Self::Xor(links) => XorLinkedListOps::link_between(links, place, prev, next),
-            Self::WithPrev(TableWithPrev::Doubly(links)) => XorLinkedListOps::link_between(
-                links, place, prev, next,
-            ),
-            Self::WithPrev(TableWithPrev::Tree(links)) => XorLinkedListOps::link_between(
-                links, place, prev, next,
-            ),
-        }
+        on_table!(self, links => XorLinkedListOps::link_between(links, place, prev, next))
     }
 
     #[inline]
     fn replace_next_or_prev(&mut self, place: Place, old: Option<Place>, new: Option<Place>) {
-        match self {
-            Self::Singly(links) => links.replace_next_or_prev(place, old, new),
-            Self::Xor(links) => links.replace_next_or_prev(place, old, new),
-            Self::WithPrev(TableWithPrev::Doubly(links)) => links.replace_next_or_prev(
-                place, old, new,
-            ),
-            Self::WithPrev(TableWithPrev::Tree(links)) => links.replace_next_or_prev(
-                place, old, new,
-            ),
-        }
+        on_table!(self, links => links.replace_next_or_prev(place, old, new))
     }
 
     ghost symmetric = { λ e a b j. joins_symmetric e.word a b j };

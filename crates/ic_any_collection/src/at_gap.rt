@@ -9,13 +9,10 @@ ghost use Rattle.std.specs.Prelude.{◌≡◌, true, List};
 ghost use Rattle.std.specs.Bool.{OnTrue, OnFalse};
 ghost use Rattle.ic_link_ops.specs.Prelude.{Place, IsAfter, IsBefore, IsCovered, site};
 ghost use Rattle.ic_link_ops.specs.EditsAt.{ReplacesThere};
-ghost use Rattle.ic_link_ops.specs.Chains.{RepresentsChain};
+ghost use Rattle.ic_any_collection.specs.Prelude.{RepresentsChain, IsValidAt, can_remove, from, is_after, rests, InsertsInGap, RemovesInGap};
 ghost use Rattle.ic_cursors.specs.Answers as answer;
 ghost use Rattle.ic_cursors.specs.Edited.{Edited};
-ghost use Rattle.ic_chain.specs.Standing.{IsValidAt};
 ghost use Rattle.ic_any_collection.specs.declared.kind.Kind.TheVariants as kind;
-ghost use Rattle.ic_any_collection.specs.Gaps.{can_remove, from, is_after, rests};
-ghost use Rattle.ic_any_collection.specs.GapEdits.{InsertsInGap, RemovesInGap};
 
 use crate::gap::Gap;
 use ic_chain::{BidirectionalLinks, DoubleEnded, LinkList, ListPosition};

@@ -10,9 +10,7 @@
 ghost use Rattle.std.specs.Prelude.{◌≡◌, is_some, true};
 ghost use Rattle.std.specs.Bool.{OnTrue, OnFalse};
 ghost use Rattle.ic_link_ops.specs.Prelude.{first, IsCovered, IsLinked};
-ghost use Rattle.ic_any_collection.specs.AnyTables.{table_in};
-ghost use Rattle.ic_any_collection.specs.Entries.{is_linked};
-ghost use Rattle.ic_any_collection.specs.Gaps.{can_insert, can_remove, can_replace, IsGapAt, IsFrontOf, rests, onward, onto};
+ghost use Rattle.ic_any_collection.specs.Prelude.{table_in, is_linked, can_insert, can_remove, can_replace, IsGapAt, IsFrontOf, rests, onward, onto, kind_in, cursor_in, members_in, Held, AtGap, Puts, TakesIfAny, SwapsIfAny, IsUnchanged};
 
 use crate::gap::Gap;
 use crate::{AnyCollection, AnyTable, at_gap};
@@ -21,9 +19,6 @@ use ic_unsafe_ref::Place;
 use std::alloc::Allocator;
 
 impl<T> AnyCollection<T> {
-    ghost use Rattle.ic_any_collection.specs.AnyCollection.{kind_in, cursor_in, members_in, Held};
-    ghost use Rattle.ic_any_collection.specs.Edits.{AtGap, Puts, TakesIfAny, SwapsIfAny, IsUnchanged};
-
     /// Inserts the object into the gap, and returns whether its link was acquired. If the object is already linked, it returns `false`, and nothing
     /// changes. If the gap is an end of a list, the cursor goes to null, otherwise it stays. O(1), in a tree O(log n).
     ///

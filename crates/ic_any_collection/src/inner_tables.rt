@@ -10,9 +10,7 @@ ghost use Rattle.std.specs.Borrow.{sem};
 ghost use Rattle.ic_any_collection.specs.declared.kind.Kind.TheVariants as kind;
 ghost use Rattle.ic_any_collection.specs.declared.any_table.AnyTable.TheVariants.{WithPrev};
 ghost use Rattle.ic_any_collection.specs.declared.table_with_prev.TableWithPrev.TheVariants.{Tree};
-ghost use Rattle.ic_any_collection.specs.Kinds.{carries};
-ghost use Rattle.ic_any_collection.specs.Entries.{kind_of};
-ghost use Rattle.ic_any_collection.specs.AnyTables.{table_in};
+ghost use Rattle.ic_any_collection.specs.Prelude.{carries, kind_of, table_in};
 ghost use Rattle.ic_any_collection.specs.TablesWithPrev as with_prev;
 ghost use Rattle.ic_any_collection.specs.Lends.{LendsWithPrev, LendsTree, LendsTreeOf};
 

@@ -17,15 +17,8 @@ ghost use Rattle.ic_rbtree.specs.CursorMut as editing;
 ghost use Rattle.ic_rbtree.specs.Entry as gaps;
 ghost use Rattle.ic_rbtree.specs.Iter.{rest_of, CanWalk};
 ghost use Rattle.ic_rbtree.specs.KeyProbe.{key_order, looks_of, HasAdapter};
-ghost use Rattle.ic_rbtree.specs.Ordered.{InsertsInOrder};
+ghost use Rattle.ic_any_collection.specs.Prelude.{tree_table_in, is_tree_linked, InsertsInOrder, root_of, node_of, is_linked, table_in, AtGap, IsVacantFor, kind_in, cursor_in, members_in, is_tree, Held, Moves, Puts, IsUnchanged, PutsInOrder, PutsAtKey};
 ghost use Rattle.ic_rbtree.specs.Ranges.{runs_up, IsRange};
-ghost use Rattle.ic_rbtree.specs.Tree.{root_of};
-ghost use Rattle.ic_link_ops.specs.ThreeWords.{node_of};
-ghost use Rattle.ic_any_collection.specs.Entries.{is_linked};
-ghost use Rattle.ic_any_collection.specs.AnyTables.{table_in};
-ghost use Rattle.ic_any_collection.specs.TreeTables as tree_table;
-ghost use Rattle.ic_any_collection.specs.Edits.{AtGap};
-ghost use Rattle.ic_any_collection.specs.Keyed.{IsVacantFor};
 
 use crate::unkeyed::Unkeyed;
 use crate::{AnyCollection, AnyTable};
@@ -60,10 +53,6 @@ fn list_walk<A: KeyAdapter, L: RBTreeOps, O: Values<A::Value>, N: Allocator>(
 }
 
 impl<T> AnyCollection<T> {
-    ghost use Rattle.ic_any_collection.specs.AnyCollection.{kind_in, cursor_in, members_in, is_tree, Held};
-    ghost use Rattle.ic_any_collection.specs.Edits.{Moves, Puts, IsUnchanged};
-    ghost use Rattle.ic_any_collection.specs.Keyed.{PutsInOrder, PutsAtKey};
-
     /// Puts the cursor on the first member that compares equal, or to null if there is none, and returns that member.
     ///
     /// It requires that `self` is a tree, that there is an object at each member's place, and that the probe's count is at most `u64::MAX - 66`. O(log
@@ -303,16 +292,16 @@ fn put_in_order<T, P: Probe<T>, M: Allocator, B: Allocator>(
     probe: &mut P,
     object: Place,
 ) -> bool
-    requires placed { RepresentsPlaced (Represents node_of (tree_table.table_in links.old) (root_of tree.old)) objects.now }
-    requires covered { IsCovered (tree_table.table_in links.old) object }
+    requires placed { RepresentsPlaced (Represents node_of (tree_table_in links.old) (root_of tree.old)) objects.now }
+    requires covered { IsCovered (tree_table_in links.old) object }
     requires room { HasRoom (P.count probe.old) }
-    ensures inserted { (s : List Place) → Represents node_of (tree_table.table_in links.old) (root_of tree.old) s → OnTrue result
+    ensures inserted { (s : List Place) → Represents node_of (tree_table_in links.old) (root_of tree.old) s → OnTrue result
         (InsertsInOrder (Represents node_of) (compared (P.order probe.old) objects.now)
-        (tree_table.table_in links.old) (tree_table.table_in links.new) (root_of tree.new) s object) }
-    ensures acquired { OnTrue result (LinksAlso tree_table.is_linked (tree_table.table_in links.old) (tree_table.table_in links.new) object) }
-    ensures looks { (s : List Place) → Represents node_of (tree_table.table_in links.old) (root_of tree.old) s
+        (tree_table_in links.old) (tree_table_in links.new) (root_of tree.new) s object) }
+    ensures acquired { OnTrue result (LinksAlso is_tree_linked (tree_table_in links.old) (tree_table_in links.new) object) }
+    ensures looks { (s : List Place) → Represents node_of (tree_table_in links.old) (root_of tree.old) s
         → OnTrue result (Looks P.order P.count probe.old probe.new s) }
-    ensures refused { OnFalse result (IsLinked tree_table.is_linked (tree_table.table_in links.old) object × (probe.new ≡ probe.old)) }
+    ensures refused { OnFalse result (IsLinked is_tree_linked (tree_table_in links.old) object × (probe.new ≡ probe.old)) }
     ensures unchanged { OnFalse result ((tree.new ≡ tree.old) × (links.new ≡ links.old)) }
 {
     let object = UnsafeRef::new(object);
@@ -331,22 +320,22 @@ fn put_at_key<T, P: Probe<T>, M: Allocator, B: Allocator>(
     probe: &mut P,
     object: Place,
 ) -> Option<(bool, Place)>
-    requires placed { RepresentsPlaced (Represents node_of (tree_table.table_in links.old) (root_of tree.old)) objects.now }
+    requires placed { RepresentsPlaced (Represents node_of (tree_table_in links.old) (root_of tree.old)) objects.now }
     requires room { HasRoom (P.count probe.old) }
-    requires covered { IsCovered (tree_table.table_in links.old) object }
-    ensures found { (s : List Place) → Represents node_of (tree_table.table_in links.old) (root_of tree.old) s → IfSome result (λ e. e.0 ≡ true
+    requires covered { IsCovered (tree_table_in links.old) object }
+    ensures found { (s : List Place) → Represents node_of (tree_table_in links.old) (root_of tree.old) s → IfSome result (λ e. e.0 ≡ true
         → Finds (compared (P.order probe.old) objects.now) s (Some e.1)) }
     ensures stays { IfSome result (λ e. e.0 ≡ true → (tree.new ≡ tree.old) × (links.new ≡ links.old)) }
-    ensures put { (s : List Place) → Represents node_of (tree_table.table_in links.old) (root_of tree.old) s → IfSome result (λ e. e.0 ≡ false
+    ensures put { (s : List Place) → Represents node_of (tree_table_in links.old) (root_of tree.old) s → IfSome result (λ e. e.0 ≡ false
         → AtGap s (λ gap. IsVacantFor (compared (P.order probe.old) objects.now) gap
-        × Inserts (Represents node_of) (tree_table.table_in links.old) (tree_table.table_in links.new) (root_of tree.new) gap object)) }
+        × Inserts (Represents node_of) (tree_table_in links.old) (tree_table_in links.new) (root_of tree.new) gap object)) }
     ensures links { IfSome result (λ e. e.0 ≡ false → (e.1 ≡ object)
-        × LinksAlso tree_table.is_linked (tree_table.table_in links.old) (tree_table.table_in links.new) object) }
-    ensures refused { (s : List Place) → Represents node_of (tree_table.table_in links.old) (root_of tree.old) s → IfNone result
+        × LinksAlso is_tree_linked (tree_table_in links.old) (tree_table_in links.new) object) }
+    ensures refused { (s : List Place) → Represents node_of (tree_table_in links.old) (root_of tree.old) s → IfNone result
         (AtGap s (IsVacantFor (compared (P.order probe.old) objects.now))) }
-    ensures unchanged { IfNone result (IsLinked tree_table.is_linked (tree_table.table_in links.old) object
+    ensures unchanged { IfNone result (IsLinked is_tree_linked (tree_table_in links.old) object
         × (tree.new ≡ tree.old) × (links.new ≡ links.old)) }
-    ensures looks { (s : List Place) → Represents node_of (tree_table.table_in links.old) (root_of tree.old) s
+    ensures looks { (s : List Place) → Represents node_of (tree_table_in links.old) (root_of tree.old) s
         → Looks P.order P.count probe.old probe.new s }
 {
     match tree.entry_by(links, objects, probe) {

@@ -7,8 +7,7 @@
 
 ghost use Rattle.std.specs.Prelude.{◌≡◌, List, Some, None, true};
 ghost use Rattle.ic_link_ops.specs.Prelude.{Place, first, last, IsAfter, IsBefore, Table};
-ghost use Rattle.ic_any_collection.specs.declared.entry.Entry.{Entry};
-ghost use Rattle.ic_any_collection.specs.AnyTables.{table_in};
+ghost use Rattle.ic_any_collection.specs.Prelude.{Entry, table_in, kind_in, cursor_in, members_in, has_before, is_xor, Keeps, Held, Alike, AtGap, Moves};
 
 use crate::{AnyCollection, AnyTable};
 use ic_chain::ListPosition;
@@ -28,9 +27,6 @@ fn moved_to<P: Position>(at: &mut P, to: P) -> Option<Place>
 }
 
 impl<T> AnyCollection<T> {
-    ghost use Rattle.ic_any_collection.specs.AnyCollection.{kind_in, cursor_in, members_in, has_before, is_xor, Keeps, Held, Alike};
-    ghost use Rattle.ic_any_collection.specs.Edits.{AtGap, Moves};
-
     /// Moves the cursor to null. It reads no table, and requires nothing. O(1).
     #[inline]
     pub fn go_null(&mut self)

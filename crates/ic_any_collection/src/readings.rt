@@ -7,7 +7,7 @@
 
 ghost use Rattle.std.specs.Prelude.{◌≡◌, ◌↔◌, Option, Some, None, IsTrue, IfOk, IfSome, IfNone, drop};
 ghost use Rattle.ic_link_ops.specs.Prelude.{Place, Cut, join, first, last, IsAfter, IsBefore, IsMember, IsAbsent, IsCovered};
-ghost use Rattle.ic_any_collection.specs.AnyTables.{table_in};
+ghost use Rattle.ic_any_collection.specs.Prelude.{table_in, members_in, Held, AtGap};
 
 use crate::{AnyCollection, AnyTable};
 use ic_cursors::{CursorOps, Position};
@@ -16,9 +16,6 @@ use ic_unsafe_ref::Place;
 use std::alloc::{AllocError, Allocator};
 
 impl<T> AnyCollection<T> {
-    ghost use Rattle.ic_any_collection.specs.AnyCollection.{members_in, Held};
-    ghost use Rattle.ic_any_collection.specs.Edits.{AtGap};
-
     // Returns the first member of the collection, or `None` if it is empty.
     #[inline]
     fn front<M: Allocator>(&self, links: &AnyTable<M>) -> Option<Place>

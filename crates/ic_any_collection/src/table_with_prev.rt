@@ -15,6 +15,16 @@ use ic_link_ops::{LinkOps, linked_list, rbtree};
 use ic_unsafe_ref::Place;
 use std::alloc::{Allocator, Global};
 
+// Makes one call of the table of either kind, which has the name `$links` in the call.
+macro_rules! on_table {
+    ($table:expr, $links:ident => $call:expr) => {
+        match $table {
+            TableWithPrev::Doubly($links) => $call,
+            TableWithPrev::Tree($links) => $call,
+        }
+    };
+}
+
 /// A table that can serve doubly linked lists. No call changes its kind.
 #[derive(Drop)]
 pub enum TableWithPrev<M: Allocator = Global> {
@@ -46,18 +56,12 @@ impl<M: Allocator> LinkOps for TableWithPrev<M> {
 
     #[inline]
     fn acquire_link(&mut self, place: Place) -> bool {
-        match self {
-            Self::Doubly(links) => links.acquire_link(place),
-            Self::Tree(links) => links.acquire_link(place),
-        }
+        on_table!(self, links => links.acquire_link(place))
     }
 
     #[inline]
     fn release_link(&mut self, place: Place) {
-        match self {
-            Self::Doubly(links) => links.release_link(place),
-            Self::Tree(links) => links.release_link(place),
-        }
+        on_table!(self, links => links.release_link(place))
     }
 
     ghost linked_is_covered = { covered_where_linked };
@@ -81,42 +85,27 @@ impl<M: Allocator> LinkedListOps for TableWithPrev<M> {
 
     #[inline]
     fn next(&self, place: Place) -> Option<Place> {
-        match self {
-            Self::Doubly(links) => LinkedListOps::next(links, place),
-            Self::Tree(links) => LinkedListOps::next(links, place),
-        }
+        on_table!(self, links => LinkedListOps::next(links, place))
     }
 
     #[inline]
     fn prev(&self, place: Place) -> Option<Place> {
-        match self {
-            Self::Doubly(links) => LinkedListOps::prev(links, place),
-            Self::Tree(links) => LinkedListOps::prev(links, place),
-        }
+        on_table!(self, links => LinkedListOps::prev(links, place))
     }
 
     #[inline]
     fn set_next(&mut self, place: Place, next: Option<Place>) {
-        match self {
-            Self::Doubly(links) => LinkedListOps::set_next(links, place, next),
-            Self::Tree(links) => LinkedListOps::set_next(links, place, next),
-        }
+        on_table!(self, links => LinkedListOps::set_next(links, place, next))
     }
 
     #[inline]
     fn set_prev(&mut self, place: Place, prev: Option<Place>) {
-        match self {
-            Self::Doubly(links) => LinkedListOps::set_prev(links, place, prev),
-            Self::Tree(links) => LinkedListOps::set_prev(links, place, prev),
-        }
+        on_table!(self, links => LinkedListOps::set_prev(links, place, prev))
     }
 
     #[inline]
     fn link_between(&mut self, place: Place, prev: Option<Place>, next: Option<Place>) -> bool {
-        match self {
-            Self::Doubly(links) => LinkedListOps::link_between(links, place, prev, next),
-            Self::Tree(links) => LinkedListOps::link_between(links, place, prev, next),
-        }
+        on_table!(self, links => LinkedListOps::link_between(links, place, prev, next))
     }
 
     ghost linked_alike = { λ e. refl };

@@ -9,9 +9,7 @@
 ghost use Rattle.std.specs.Prelude.{◌≡◌, List, None, [], true};
 ghost use Rattle.std.specs.Prelude.{reverse};
 ghost use Rattle.ic_link_ops.specs.Prelude.{Place, IsAfter, IsBefore, IsDisjoint, Table, ChangesOnlyIn, TraceIs, releases_each};
-ghost use Rattle.ic_any_collection.specs.Entries.{is_linked};
-ghost use Rattle.ic_any_collection.specs.declared.entry.Entry.{Entry};
-ghost use Rattle.ic_any_collection.specs.AnyTables.{table_in};
+ghost use Rattle.ic_any_collection.specs.Prelude.{is_linked, Entry, table_in, kind_in, cursor_in, members_in, is_list, is_two_way_list, is_xor, Keeps, Held, Alike, AtGap, Empties, PutsAll, Parts};
 
 use crate::{AnyCollection, AnyTable};
 use ic_chain::ListPosition;
@@ -20,9 +18,6 @@ use std::alloc::Allocator;
 use std::mem;
 
 impl<T> AnyCollection<T> {
-    ghost use Rattle.ic_any_collection.specs.AnyCollection.{kind_in, cursor_in, members_in, is_list, is_two_way_list, is_xor, Keeps, Held, Alike};
-    ghost use Rattle.ic_any_collection.specs.Edits.{AtGap, Empties, PutsAll, Parts};
-
     /// Returns a collection with all members and with its cursor at null, and leaves `self` empty. It costs O(1), because it reads no table and
     /// changes no link.
     #[inline]

@@ -21,7 +21,7 @@ use Rattle.ic_rbtree.specs.Transplants.{TakesAway}
 use Rattle.ic_rbtree.proofs.Attaching.{inserts}
 use Rattle.ic_rbtree.proofs.Removing.{removes, loose_absent, represented_of, represents_of}
 use Rattle.ic_rbtree.proofs.Climbed.{path_few}
-use Rattle.ic_rbtree.proofs.RepresentedClosed.{among_there, with_itself, represented_closed, represented_closed_but, hole_in}
+use Rattle.ic_rbtree.proofs.RepresentedClosed.{among_there, with_itself, represented_closed, represented_closed_but, insert_pos_in}
 use Rattle.ic_augmented.specs.Summaries.{Summaries, is_fresh, Invalidates}
 use Rattle.ic_augmented.specs.Consistent.{IsSameAt, IsConsistentBut, IsConsistent, IsConsistentTree, KeepsConsistent, RepresentsConsistent, RepresentsAugmented, Refreshes, IsJoined}
 use Rattle.ic_augmented.specs.Beside.{IsEdgeOf}
@@ -69,15 +69,15 @@ module _ {E : Type 0} (n : E → Node) where
   -- after a place was inserted, the table represents the sequence with this place
   pub attached_represents : (v w : Table E) (root new_root parent : Option Place) (d : Side) (p : Place) (gap : Cut) → Attaches n v w root new_root parent d p
       → IsNode n v p → IsAbsent p (join gap) → Represents n v root (join gap) → IsInsertPos n v parent d gap → Represents n w new_root (insert gap p)
-  attached_represents v w root new_root parent d p gap done linked out h hole = represents_of n (done v gap [] (loose_represented v root (join gap) p h out linked) hole)
+  attached_represents v w root new_root parent d p gap done linked out h insert_pos = represents_of n (done v gap [] (loose_represented v root (join gap) p h out linked) insert_pos)
 
   -- the set of the tree's members and the inserted place is closed, and it has the place and the parent
   pub attach_closed : (v : Table E) (root parent : Option Place) (d : Side) (p : Place) (gap : Cut) → IsNode n v p → IsAbsent p (join gap) → Represents n v root (join gap) → IsInsertPos n v parent d gap
       → IsClosedBut n v root (Some p) (fence_of n v root p) × AreIn (fence_of n v root p) (Some p ∷ parent ∷ [])
-  attach_closed v root parent d p gap linked out h hole =
+  attach_closed v root parent d p gap linked out h insert_pos =
       let there = loose_represented v root (join gap) p h out linked in
       subst (λ (S : Place → Bool). IsClosedBut n v root (Some p) S × AreIn S (Some p ∷ parent ∷ [])) (sym (fence_is n p h))
-      (represented_closed_but n there, (with_itself n there, (hole_in n v p parent d gap hole, tt)))
+      (represented_closed_but n there, (with_itself n there, (insert_pos_in n v p parent d gap insert_pos, tt)))
 
   -- the set of the tree's members is closed, and it has the member that is to be removed
   pub unlink_closed : (v : Table E) (root : Option Place) (front : List Place) (p : Place) (back : List Place) → Represents n v root (front ++ p ∷ back)
@@ -101,14 +101,14 @@ module _ {E : Type 0} (n : E → Node) where
   -- after an insert the table covers as many places as before
   pub attached_extent : (v w : Table E) (root new_root parent : Option Place) (d : Side) (p : Place) (gap : Cut) → Attaches n v w root new_root parent d p
       → IsNode n v p → IsAbsent p (join gap) → Represents n v root (join gap) → IsInsertPos n v parent d gap → w.extent ≡ v.extent
-  attached_extent v w root new_root parent d p gap done linked out h hole =
-      (inserts n v v w root new_root p gap (unchanged v p) (done v gap [] (loose_represented v root (join gap) p h out linked) hole)).frame.extent
+  attached_extent v w root new_root parent d p gap done linked out h insert_pos =
+      (inserts n v v w root new_root p gap (unchanged v p) (done v gap [] (loose_represented v root (join gap) p h out linked) insert_pos)).frame.extent
 
   -- after an insert, another tree that shares no place with the edited tree is represented as before
   pub attached_others : (v w : Table E) (root new_root parent other : Option Place) (d : Side) (p : Place) (gap : Cut) (t : List Place) → Attaches n v w root new_root parent d p
       → IsNode n v p → IsAbsent p (join gap) → Represents n v root (join gap) → IsInsertPos n v parent d gap → IsDisjoint t (join gap) → IsAbsent p t → Represents n v other t → Represents n w other t
-  attached_others v w root new_root parent other d p gap t done linked out h hole apart absent k =
-      let put = inserts n v v w root new_root p gap (unchanged v p) (done v gap [] (loose_represented v root (join gap) p h out linked) hole) in
+  attached_others v w root new_root parent other d p gap t done linked out h insert_pos apart absent k =
+      let put = inserts n v v w root new_root p gap (unchanged v p) (done v gap [] (loose_represented v root (join gap) p h out linked) insert_pos) in
       represents_frame k (disjoint_cons p t (join gap) absent apart) put.frame
 
 -- if p is no member of s, a member of s is another place than p

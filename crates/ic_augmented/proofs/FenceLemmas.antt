@@ -199,10 +199,10 @@ module _ {E : Type 0} (n : E → Node) where
       -- IF A PLACE WAS INSERTED in the table with the fence, it was inserted in the table without the fence
       pub attached_before : {w : Table E} {new_root : Option Place} (parent : Option Place) (d : Side) → KeepsNodes n v w
           → Attaches (fenced_node n) (fenced inside v) (fenced inside w) root new_root parent d p → Attaches n v w root new_root parent d p
-      attached_before {w} {new_root} parent d linked done base gap ps h hole =
+      attached_before {w} {new_root} parent d linked done base gap ps h insert_pos =
           let out : (x : Place) → 1 ≤ times x h.tree → Some p ≡ Some x → ⊥ =
           λ x m e. let k : times x h.tree + one_at x p ≤ 1 = omega (arith, h.stands.once x) in let one : one_at x p ≡ 1 = subst (λ (y : Place). one_at y p ≡ 1) (some_same e) (one_at_self p) in omega (arith, m, k, one) in
-          let r = done (fenced inside v) gap [] (represented_after closed (loose p ∷ []) ps h out (and_from _ _ here h.stands.are.1.1.0, tt)) (insert_pos_after v parent d gap hole) in
+          let r = done (fenced inside v) gap [] (represented_after closed (loose p ∷ []) ps h out (and_from _ _ here h.stands.are.1.1.0, tt)) (insert_pos_after v parent d gap insert_pos) in
           represented_before closed (loose p ∷ []) ps h out [] linked r (λ q. counted q gap.front p gap.back h.tree h.order r.tree r.order) tt
 
     -- A MEMBER IS REMOVED, and the fence is closed

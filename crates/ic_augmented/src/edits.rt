@@ -45,7 +45,7 @@ pub fn attach_fresh<A, E: TreeHead, N: NodeStore, M: RecomputeSummaries>(
     place: Place,
 )
     requires safe { IsSafeBut N.node (N.table (links_of summed.old)) (root_in E.kept tree.old) place (Some place ∷ parent ∷ []) }
-    requires hole { (gap : Cut) × IsNode N.node (N.table (links_of summed.old)) place × IsAbsent place (join gap)
+    requires insert_pos { (gap : Cut) × IsNode N.node (N.table (links_of summed.old)) place × IsAbsent place (join gap)
         × Represents N.node (N.table (links_of summed.old)) (root_in E.kept tree.old) (join gap) × IsInsertPos N.node (N.table (links_of summed.old)) parent side gap }
     requires covered { (q : Place) → IsNode N.node (N.table (links_of summed.old)) q → M.Covers (summaries_of summed.old) q }
     ensures fresh { (gap : Cut) → IsNode N.node (N.table (links_of summed.old)) place → IsAbsent place (join gap)

@@ -67,8 +67,14 @@ pub fn insert_fresh<
     let links = &summed.links;
     let adapter = tree.adapter();
     let mut probe = KeyProbe::new(adapter, adapter.get_key(links.value(place)));
-    let hole = tree.descend(links, links, &mut probe, Side::Right);
-    attach_fresh(tree, summed, hole.parent.get(), hole.side, place);
+    let insert_pos = tree.descend(links, links, &mut probe, Side::Right);
+    attach_fresh(
+        tree,
+        summed,
+        insert_pos.parent.get(),
+        insert_pos.side,
+        place,
+    );
     Ok(())
 }
 

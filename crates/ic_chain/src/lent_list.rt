@@ -25,7 +25,7 @@ use ic_unsafe_ref::UnsafeRef;
 /// list gets its current members back. A function that takes a `LentList` by `&mut` makes all other calls on its fields:
 /// `lent.list.cursor_mut(lent.links)`.
 pub struct LentList<'a, K: ListKind, T, L> {
-    home: &'a mut LinkList<K, T>,
+    original: &'a mut LinkList<K, T>,
     /// The list, whose ends are part of the `LentList` until it is dropped.
     pub list: LinkList<K, T>,
     /// The table of its links.
@@ -40,11 +40,11 @@ impl<K: ListKind, T, L> Drop for LentList<'_, K, T, L> {
         ensures links { self.exit.1.1.0.now ≡ self.entry.links.now }
     {
         let LentList {
-            home,
+            original,
             list,
             links: _,
         } = self;
-        *home = list;
+        *original = list;
     }
 }
 
@@ -55,13 +55,13 @@ impl<K: ListKind, T> LinkList<K, T> {
     #[inline]
     pub fn lend<'a, L>(&'a mut self, links: &'a mut L) -> LentList<'a, K, T, L>
         ensures list { result.list ≡ self.old }
-        ensures home { result.home.ghost_name ≡ self.entry.ghost_name }
+        ensures original { result.original.ghost_name ≡ self.entry.ghost_name }
         ensures links { result.links.now ≡ links.entry.now }
         ensures same_links { result.links.ghost_name ≡ links.entry.ghost_name }
     {
         let list = self.take();
         LentList {
-            home: self,
+            original: self,
             list,
             links,
         }

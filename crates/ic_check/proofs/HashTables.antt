@@ -148,7 +148,7 @@ module _ {E A B V : Type 0} {successor : E → Successor} {hash : A → V → �
   module _ {i count : ℕ} (k : ChecksChains successor hash fronts t table objects i (drop i (fronts table.buckets)) count) where
     -- if i is below the number of buckets, the buckets from i on are bucket i and the buckets from i + 1 on
     at_next : i < length (fronts table.buckets) → drop i (fronts table.buckets) ≡ slice_index_or (fronts table.buckets) i None ∷ drop (suc i) (fronts table.buckets)
-    at_next within = drop-cons (fronts table.buckets) i None within
+    at_next in_bounds = drop-cons (fronts table.buckets) i None in_bounds
 
     both_distinct : (chain : List Place) → RepresentsOwn successor hash fronts t table objects i chain → IsDistinct (k.done ++ chain)
     both_distinct chain c = distinct_both k.done chain k.distinct c.shown.distinct (all_apart table.slots (hash table.adapter) objects i chain c.own k.done k.before)
@@ -160,7 +160,7 @@ module _ {E A B V : Type 0} {successor : E → Successor} {hash : A → V → �
     -- ONE CHAIN MORE: if chain i is represented with members that belong there, the chains below number i + 1 are checked
     chains_one_more : {n more : ℕ} → i < length (fronts table.buckets) → IsRepresented (RepresentsOwn successor hash fronts t table objects i) n → more ≡ count + n
         → ChecksChains successor hash fronts t table objects (suc i) (drop (suc i) (fronts table.buckets)) more
-    chains_one_more {n} {more} within (chain, c, many) counts = record {
+    chains_one_more {n} {more} in_bounds (chain, c, many) counts = record {
       done = k.done ++ chain;
       counted = omega (arith, counts, k.counted, many, length-append k.done chain);
       distinct = both_distinct chain c;
@@ -168,23 +168,23 @@ module _ {E A B V : Type 0} {successor : E → Successor} {hash : A → V → �
           (own_before table.slots (hash table.adapter) objects i chain c.own);
       builds = λ s chained.
           subst (AreChained successor (BelongsIn table.slots (hash table.adapter) objects) t 0 (fronts table.buckets)) (sym (append_assoc k.done chain s))
-          (k.builds (chain ++ s) (rw (at_next within) (chain, s, refl, c.shown, all_belong table.slots (hash table.adapter) objects i chain c.own, chained)));
+          (k.builds (chain ++ s) (rw (at_next in_bounds) (chain, s, refl, c.shown, all_belong table.slots (hash table.adapter) objects i chain c.own, chained)));
       leads = λ s chained.
           let l = k.leads s chained in
-          let h = subst (λ (fs : List (Option Place)). AreChained successor (BelongsIn table.slots (hash table.adapter) objects) t i fs l.0) (at_next within) l.1 in
+          let h = subst (λ (fs : List (Option Place)). AreChained successor (BelongsIn table.slots (hash table.adapter) objects) t i fs l.0) (at_next in_bounds) l.1 in
           (h.1, h.5, l.2 ∙ ap (λ (x : List Place). k.done ++ x) (h.2 ∙ ap (λ (x : List Place). x ++ h.1) (chain_one h.3 c.shown)) ∙ sym (append_assoc k.done chain h.1));
     }
 
     pub chains_more : {n more next : ℕ} → i < length (fronts table.buckets) → IsRepresented (RepresentsOwn successor hash fronts t table objects i) n → more ≡ count + n → suc i ≡ next
         → ChecksChains successor hash fronts t table objects next (drop next (fronts table.buckets)) more
-    chains_more {more = more} within shown counts is_next =
-        subst (λ (j : ℕ). ChecksChains successor hash fronts t table objects j (drop j (fronts table.buckets)) more) is_next (chains_one_more within shown counts)
+    chains_more {more = more} in_bounds shown counts is_next =
+        subst (λ (j : ℕ). ChecksChains successor hash fronts t table objects j (drop j (fronts table.buckets)) more) is_next (chains_one_more in_bounds shown counts)
 
     -- if chain i is not represented with members that belong there, the hash table holds no sequence
     pub not_held : i < length (fronts table.buckets) → RepresentsNone (RepresentsOwn successor hash fronts t table objects i) → HoldsSome successor hash fronts t table objects → ⊥
-    not_held within never (s, held) =
+    not_held in_bounds never (s, held) =
         let l = k.leads s held.chained in
-        let h = subst (λ (fs : List (Option Place)). AreChained successor (BelongsIn table.slots (hash table.adapter) objects) t i fs l.0) (at_next within) l.1 in
+        let h = subst (λ (fs : List (Option Place)). AreChained successor (BelongsIn table.slots (hash table.adapter) objects) t i fs l.0) (at_next in_bounds) l.1 in
         let left : ArePlaced objects l.0 = all_back (λ q. IsSome (object_at objects q)) k.done l.0 (subst (ArePlaced objects) l.2 held.placed) in
         let placed : ArePlaced objects h.0 = all_front (λ q. IsSome (object_at objects q)) h.0 h.1 (subst (ArePlaced objects) h.2 left) in
         never h.0 (record { shown = h.3; own = all_own table.slots (hash table.adapter) objects i h.0 placed h.4 })

@@ -60,7 +60,7 @@ fn check_chain<
     L: SinglyLinkedListOps + TellsLinks,
     O: TellsPlaced<A::Value>,
 >(table: &HashTable<A, B>, links: &L, objects: &O, at: usize) -> Option<usize>
-    requires within { at < length (fronts_of B.fronts table.now) }
+    requires in_bounds { at < length (fronts_of B.fronts table.now) }
     requires well_formed { IsWellFormed (slots_of table.now) }
     ensures { MatchOption result
         (RepresentsNone (RepresentsOwn L.successor (number A.key_of A.hash_of) B.fronts (L.table links.now) table.now (O.values objects.now) at))

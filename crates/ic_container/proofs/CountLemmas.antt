@@ -1,4 +1,4 @@
--- These lemmas count the objects of a container and the members of its rows after one object is added, removed or replaced.
+-- These lemmas count the objects of a container and the members of its lists after one object is added, removed or replaced.
 use Rattle.std.proofs.Common.{◌≡◌, ℕ, ◌+◌, ◌-◌, true, cond, is_some, IsSome, List, ◌∷◌, ◌++◌, ◌∙◌, ap, sym, subst, length, length-append, arith}
 use Rattle.std.specs.Cmp.{nat_cmp_total}
 use Rattle.std.specs.FinMap as map
@@ -6,11 +6,11 @@ use Rattle.std.specs.FinMap.{len-insert, len-remove}
 use Rattle.ic_link_ops.specs.Prelude.{Place, index_of, Objects, Places, Frees, object_at, is_placed, ArePlaced}
 use Rattle.ic_unsafe_ref.proofs.Placing.{Puts}
 use Rattle.ic_link_ops.proofs.Each.{all_back}
-use Rattle.ic_container.specs.Rows.{Rows, Moves}
+use Rattle.ic_container.specs.NumberedLists.{NumberedLists, Moves}
 use Rattle.ic_container.specs.Values.{Without}
 
--- after a member has moved in its row, the row has as many members as before
-pub length_moved : {k : ℕ} {front : List Place} {p : Place} {back before after : List Place} {old new : Rows} → Moves k front p back before after old new → length (new k) ≡ length (old k)
+-- after a member has moved in its list, the list has as many members as before
+pub length_moved : {k : ℕ} {front : List Place} {p : Place} {back before after : List Place} {old new : NumberedLists} → Moves k front p back before after old new → length (new k) ≡ length (old k)
 length_moved {front = front} {p} {back} {before} {after} t =
     omega (arith, ap length t.is, ap length t.was, ap length t.rest, length-append before (p ∷ after), length-append front (p ∷ back), length-append front back, length-append before after)
 

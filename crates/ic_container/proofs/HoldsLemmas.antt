@@ -24,11 +24,11 @@ use Rattle.ic_link_ops.proofs.LinkedSets.{everywhere}
 use Rattle.ic_link_ops.proofs.SequenceLemmas.{disjoint_cons, member_split, some_same}
 use Rattle.ic_link_ops.proofs.Walks.{is_end_yes, is_end_no}
 use Rattle.ic_pool.specs.Pooled.{Grows}
-use Rattle.ic_container.specs.Rows.{Rows, Adds, Leaves, Moves, Stays, owner_or, owner_of, listed}
+use Rattle.ic_container.specs.NumberedLists.{Adds, Leaves, Moves, Stays, owner_or, owner_of, listed}
 use Rattle.ic_container.specs.Edited.{HasJoined, HasLeft, HasMoved}
-use Rattle.ic_container.specs.Holds.{rows_of, Holds, members_in}
+use Rattle.ic_container.specs.Holds.{lists_of, Holds, members_in}
 use Rattle.ic_container.specs.ListReadings.{ReadsLists}
-use Rattle.ic_container.proofs.RowLemmas.{at_row, rows_apart, housed_same, housed_joined, housed_left, housed_moved, joins_from, owner_placed, owners_placed, owner_freed, owners_freed}
+use Rattle.ic_container.proofs.NumberedListLemmas.{at_every_number, lists_disjoint, owned_same, owned_joined, owned_left, owned_moved, joins_from, owner_placed, owners_placed, owner_freed, owners_freed}
 
 -- a container reads its tables by the five laws of a kind of collection, and `members` gives the sequence that a table represents
 pub record Reading {L E H : Type 0} (Represents : Table E → H → List Place → Type 0) (linked : E → Bool) (empty : H) (table : L → Table E) (members : L → H → List Place) : Type 0 where
@@ -62,7 +62,7 @@ wide_reads = plain_reads wide no_words has_words next_word_of prev_of refl
 pub list_off : {A : Type 0} (links : doubly.DoublyLinkOps A) → (doubly.plain_table links).extent.places ≡ 0 → (p : Place) → IsUnlinked doubly.is_linked (doubly.plain_table links) p
 list_off = nothing_linked wide_reads
 
--- the place p belongs to no row, and each other place belongs where `owner` says
+-- the place p belongs to no collection, and each other place belongs where `owner` says
 pub ownerless : Place → (Place → Option ℕ) → Place → Option ℕ
 ownerless p owner q = cond (is_end (Some p) q) None (owner q)
 
@@ -84,130 +84,127 @@ module _ {L E H : Type 0} {Represents : Table E → H → List Place → Type 0}
   itself : (links : L) (head : H) {s : List Place} → Represents (table links) head s → Represents (table links) head (members links head)
   itself links head {s} shown = subst (Represents (table links) head) (sym (reading.members_are links head s shown)) shown
 
-  -- AT FIRST no place belongs to a row, and no place is linked
+  -- AT FIRST no place belongs to a collection, and no place is linked
   module _ (links : L) {heads : ℕ → H} (none : (i : ℕ) → heads i ≡ empty) where
-    pub none_stand : (i : ℕ) → rows_of members links heads i ≡ []
+    pub none_stand : (i : ℕ) → lists_of members links heads i ≡ []
     none_stand i = reading.members_are links (heads i) [] (rw (none i) (reading.kind.nothing (table links)))
 
     pub holds_none : {owner : Place → Option ℕ} → ((p : Place) → owner p ≡ None) → ((p : Place) → IsUnlinked linked (table links) p) → Holds Represents linked table members links heads owner
     holds_none {owner} ownerless off = record {
       shown = λ i. itself links (heads i) {s = []} (rw (none i) (reading.kind.nothing (table links)));
-      housed = record {
+      owned = record {
         own = λ i. subst (AllByRecursion (λ p. owner p ≡ Some i)) (sym (none_stand i)) tt;
         all = λ p i at. let never : None ≡ Some i = sym (ownerless p) ∙ at in absurd (cc);
       };
       only = λ p at. off p;
     }
 
-  -- if a list has the heads of all collections, row i is item i of the list of their sequences
-  pub rows_seen : (links : L) (heads : List H) → Stays (rows_of members links (listed empty heads)) (listed [] (map (members links) heads))
-  rows_seen links heads i =
+  -- if a list has the heads of all collections, the members of collection i are item i of the list of their sequences
+  pub lists_seen : (links : L) (heads : List H) → Stays (lists_of members links (listed empty heads)) (listed [] (map (members links) heads))
+  lists_seen links heads i =
       let nothing : members links empty ≡ [] = reading.members_are links empty [] (reading.kind.nothing (table links)) in
       ap (λ d. slice_index_or (map (members links) heads) i d) (sym nothing) ∙ get_or-map (members links) heads i empty
 
   module _ {links : L} {heads : ℕ → H} {owner : Place → Option ℕ} (k : Holds Represents linked table members links heads owner) where
-    abbrev rows : Rows
-    rows = rows_of members links heads
-
-    -- a place that belongs to row i is a member of row i
+    -- a place that belongs to collection i is a member of collection i
     module _ (i : ℕ) (p : Place) (at : owner p ≡ Some i) where
-      pub stands_at : (front : List Place) × (back : List Place) × (rows_of members links heads i ≡ front ++ p ∷ back)
-      stands_at = member_split p (rows_of members links heads i) (k.housed.all p i at)
+      pub stands_at : (front : List Place) × (back : List Place) × (lists_of members links heads i ≡ front ++ p ∷ back)
+      stands_at = member_split p (lists_of members links heads i) (k.owned.all p i at)
 
       pub stands : HasMember (Represents (table links) (heads i)) p
-      stands = has_member (Represents (table links) (heads i)) (rows_of members links heads i) (k.shown i) (k.housed.all p i at)
+      stands = has_member (Represents (table links) (heads i)) (lists_of members links heads i) (k.shown i) (k.owned.all p i at)
 
     -- AFTER `cover` or `place`, whatever the call returned, the invariant holds for the table that may have grown
     module _ (grown : L) (grows : Grows (table links) (table grown)) where
-      still_represented : (i : ℕ) → Represents (table grown) (heads i) (rows_of members links heads i)
+      still_represented : (i : ℕ) → Represents (table grown) (heads i) (lists_of members links heads i)
       still_represented i = kept_represented reading.kind grows.entries (k.shown i)
 
-      pub rows_grown : Stays (rows_of members links heads) (rows_of members grown heads)
-      rows_grown i = reading.members_are grown (heads i) (rows_of members links heads i) (still_represented i)
+      pub lists_grown : Stays (lists_of members links heads) (lists_of members grown heads)
+      lists_grown i = reading.members_are grown (heads i) (lists_of members links heads i) (still_represented i)
 
       pub holds_grown : Holds Represents linked table members grown heads owner
       holds_grown = record {
         shown = λ i. itself grown (heads i) (still_represented i);
-        housed = record { own = λ i. subst (AllByRecursion (λ p. owner p ≡ Some i)) (sym (rows_grown i)) (k.housed.own i); all = λ p i at. subst (IsMember p) (sym (rows_grown i)) (k.housed.all p i at) };
+        owned = record { own = λ i. subst (AllByRecursion (λ p. owner p ≡ Some i)) (sym (lists_grown i)) (k.owned.own i); all = λ p i at. subst (IsMember p) (sym (lists_grown i)) (k.owned.all p i at) };
         only = λ p at. rw (grows.entries p) (k.only p at);
       }
 
     -- IF EACH PLACE BELONGS where it belonged before, the invariant still holds
     pub holds_same : {other : Place → Option ℕ} → ((p : Place) → other p ≡ owner p) → Holds Represents linked table members links heads other
-    holds_same same = record { shown = k.shown; housed = housed_same k.housed same; only = λ p at. k.only p (sym (same p) ∙ at) }
+    holds_same same = record { shown = k.shown; owned = owned_same k.owned same; only = λ p at. k.only p (sym (same p) ∙ at) }
 
     -- ONE EDIT of collection j leaves all other collections as they were
     module _ (j : ℕ) (new : L) {front : List Place} {p : Place} {back : List Place} {after : ℕ → H} (others : (i : ℕ) → i ≢ j → after i ≡ heads i) where
       module _ (e : HasJoined Represents linked (table links) (table new) (heads j) (after j) front p back) where
-        joins_was : rows_of members links heads j ≡ front ++ back
+        joins_was : lists_of members links heads j ≡ front ++ back
         joins_was = reading.members_are links (heads j) (front ++ back) e.was
 
-        joins_out : (i : ℕ) → IsAbsent p (rows_of members links heads i)
-        joins_out i = reading.kind.free (table links) (heads i) (rows_of members links heads i) p (k.shown i) e.also.was
+        joins_out : (i : ℕ) → IsAbsent p (lists_of members links heads i)
+        joins_out i = reading.kind.free (table links) (heads i) (lists_of members links heads i) p (k.shown i) e.also.was
 
-        joins_still : (i : ℕ) → i ≢ j → Represents (table new) (after i) (rows_of members links heads i)
+        joins_still : (i : ℕ) → i ≢ j → Represents (table new) (after i) (lists_of members links heads i)
         joins_still i n =
             rw (others i n) (others_stay reading.kind (p ∷ (front ++ back)) (k.shown i)
-            (disjoint_cons p (rows_of members links heads i) (front ++ back) (joins_out i) (subst (IsDisjoint (rows_of members links heads i)) joins_was (rows_apart k.housed i j n))) e.frame)
+            (disjoint_cons p (lists_of members links heads i) (front ++ back) (joins_out i) (subst (IsDisjoint (lists_of members links heads i)) joins_was (lists_disjoint k.owned i j n))) e.frame)
 
-        pub joined : Adds j front p back (rows_of members links heads) (rows_of members new after)
+        pub joined : Adds j front p back (lists_of members links heads) (lists_of members new after)
         joined = record {
           was = joins_was;
           is = reading.members_are new (after j) (front ++ p ∷ back) e.is;
-          others = λ i n. reading.members_are new (after i) (rows_of members links heads i) (joins_still i n);
+          others = λ i n. reading.members_are new (after i) (lists_of members links heads i) (joins_still i n);
         }
 
         -- ONE PLACE MORE has joined collection j, where it belongs now, and the invariant holds
         pub holds_joined : {other : Place → Option ℕ} → other p ≡ Some j → ((q : Place) → q ≢ p → other q ≡ owner q) → Holds Represents linked table members new after other
         holds_joined {other} here beside = record {
-          shown = λ i. at_row (λ i. Represents (table new) (after i) (rows_of members new after i)) j i (itself new (after j) e.is) (λ n. itself new (after i) (joins_still i n));
-          housed = housed_joined k.housed beside joined here joins_out;
+          shown = λ i. at_every_number (λ i. Represents (table new) (after i) (lists_of members new after i)) j i (itself new (after j) e.is) (λ n. itself new (after i) (joins_still i n));
+          owned = owned_joined k.owned beside joined here joins_out;
           only = λ q. everywhere (λ q. other q ≡ None → IsUnlinked linked (table new) q) p q (λ at. let never : None ≡ Some j = sym at ∙ here in absurd (cc))
               (λ n at. e.also.others q n ∙ k.only q (sym (beside q n) ∙ at));
         }
 
       module _ (e : HasLeft Represents linked (table links) (table new) (heads j) (after j) front p back) where
-        leaves_was : rows_of members links heads j ≡ front ++ p ∷ back
+        leaves_was : lists_of members links heads j ≡ front ++ p ∷ back
         leaves_was = reading.members_are links (heads j) (front ++ p ∷ back) e.was
 
-        leaves_still : (i : ℕ) → i ≢ j → Represents (table new) (after i) (rows_of members links heads i)
+        leaves_still : (i : ℕ) → i ≢ j → Represents (table new) (after i) (lists_of members links heads i)
         leaves_still i n =
-            rw (others i n) (others_stay reading.kind (front ++ p ∷ back) (k.shown i) (subst (IsDisjoint (rows_of members links heads i)) leaves_was (rows_apart k.housed i j n)) e.frame)
+            rw (others i n) (others_stay reading.kind (front ++ p ∷ back) (k.shown i) (subst (IsDisjoint (lists_of members links heads i)) leaves_was (lists_disjoint k.owned i j n)) e.frame)
 
-        pub left : Leaves j front p back (rows_of members links heads) (rows_of members new after)
+        pub left : Leaves j front p back (lists_of members links heads) (lists_of members new after)
         left = record {
           was = leaves_was;
           is = reading.members_are new (after j) (front ++ back) e.is;
-          others = λ i n. reading.members_are new (after i) (rows_of members links heads i) (leaves_still i n);
+          others = λ i n. reading.members_are new (after i) (lists_of members links heads i) (leaves_still i n);
         }
 
         -- ONE PLACE LESS is in collection j, it belongs to no collection now, and the invariant holds
         pub holds_left : {other : Place → Option ℕ} → other p ≡ None → ((q : Place) → q ≢ p → other q ≡ owner q) → Holds Represents linked table members new after other
         holds_left {other} gone beside = record {
-          shown = λ i. at_row (λ i. Represents (table new) (after i) (rows_of members new after i)) j i (itself new (after j) e.is) (λ n. itself new (after i) (leaves_still i n));
-          housed = housed_left k.housed beside left gone (reading.kind.distinct (table links) (heads j) (rows_of members links heads j) (k.shown j));
+          shown = λ i. at_every_number (λ i. Represents (table new) (after i) (lists_of members new after i)) j i (itself new (after j) e.is) (λ n. itself new (after i) (leaves_still i n));
+          owned = owned_left k.owned beside left gone (reading.kind.distinct (table links) (heads j) (lists_of members links heads j) (k.shown j));
           only = λ q. everywhere (λ q. other q ≡ None → IsUnlinked linked (table new) q) p q (λ at. e.off.is) (λ n at. e.off.others q n ∙ k.only q (sym (beside q n) ∙ at));
         }
 
       module _ {before following : List Place} (e : HasMoved Represents linked (table links) (table new) (heads j) (after j) front p back before following) where
-        moves_still : (i : ℕ) → i ≢ j → Represents (table new) (after i) (rows_of members links heads i)
+        moves_still : (i : ℕ) → i ≢ j → Represents (table new) (after i) (lists_of members links heads i)
         moves_still i n =
             rw (others i n) (others_stay reading.kind (front ++ p ∷ back) (k.shown i)
-            (subst (IsDisjoint (rows_of members links heads i)) (reading.members_are links (heads j) (front ++ p ∷ back) e.was) (rows_apart k.housed i j n)) e.frame)
+            (subst (IsDisjoint (lists_of members links heads i)) (reading.members_are links (heads j) (front ++ p ∷ back) e.was) (lists_disjoint k.owned i j n)) e.frame)
 
-        pub moved : Moves j front p back before following (rows_of members links heads) (rows_of members new after)
+        pub moved : Moves j front p back before following (lists_of members links heads) (lists_of members new after)
         moved = record {
           was = reading.members_are links (heads j) (front ++ p ∷ back) e.was;
           rest = e.rest;
           is = reading.members_are new (after j) (before ++ p ∷ following) e.is;
-          others = λ i n. reading.members_are new (after i) (rows_of members links heads i) (moves_still i n);
+          others = λ i n. reading.members_are new (after i) (lists_of members links heads i) (moves_still i n);
         }
 
         -- ONE MEMBER HAS MOVED within its collection, and the invariant holds
         pub holds_moved : Holds Represents linked table members new after owner
         holds_moved = record {
-          shown = λ i. at_row (λ i. Represents (table new) (after i) (rows_of members new after i)) j i (itself new (after j) e.is) (λ n. itself new (after i) (moves_still i n));
-          housed = housed_moved k.housed moved;
+          shown = λ i. at_every_number (λ i. Represents (table new) (after i) (lists_of members new after i)) j i (itself new (after j) e.is) (λ n. itself new (after i) (moves_still i n));
+          owned = owned_moved k.owned moved;
           only = λ q at. e.keeps q ∙ k.only q at;
         }
 
@@ -222,7 +219,7 @@ module _ {L E H : Type 0} {Represents : Table E → H → List Place → Type 0}
       pub holds_transferred : {other : Place → Option ℕ} → other p ≡ Some i → ((q : Place) → q ≢ p → other q ≡ owner q) → Holds Represents linked table members new after other
       holds_transferred here beside = holds_joined holds_off i new rest on here (λ q n. beside q n ∙ sym (ownerless_beside p owner q n))
 
-      pub transferred : Leaves j front p back (rows_of members links heads) (rows_of members mid between) × Adds i before p following (rows_of members mid between) (rows_of members new after)
+      pub transferred : Leaves j front p back (lists_of members links heads) (lists_of members mid between) × Adds i before p following (lists_of members mid between) (lists_of members new after)
       transferred = (left k j mid others off, joined holds_off i new rest on)
 
   -- THE OBJECTS decide where places belong: `belongs` gives the collection to which an object belongs, or none
@@ -242,16 +239,16 @@ module _ {L E H : Type 0} {Represents : Table E → H → List Place → Type 0}
       new_off = rw (grows.entries p) (vacant_off places.vacant)
 
       -- the place of the new object is no member of any collection yet
-      pub new_absent : (i : ℕ) → IsAbsent p (rows_of members links heads i)
-      new_absent i = reading.kind.free (table links) (heads i) (rows_of members links heads i) p (k.shown i) (vacant_off places.vacant)
+      pub new_absent : (i : ℕ) → IsAbsent p (lists_of members links heads i)
+      new_absent i = reading.kind.free (table links) (heads i) (lists_of members links heads i) p (k.shown i) (vacant_off places.vacant)
 
       module _ (j : ℕ) (new : L) {front back : List Place} {after : ℕ → H} (others : (i : ℕ) → i ≢ j → after i ≡ heads i) (is : belongs v ≡ Some j)
           (e : HasJoined Represents linked (table grown) (table new) (heads j) (after j) front p back) where
         pub holds_new : Holds Represents linked table members new after (owner_of belongs more)
         holds_new = holds_joined (holds_grown k grown grows) j new others e (owner_placed belongs places ∙ is) (owners_placed belongs places)
 
-        pub new_joined : Adds j front p back (rows_of members links heads) (rows_of members new after)
-        new_joined = joins_from (rows_grown k grown grows) (joined (holds_grown k grown grows) j new others e)
+        pub new_joined : Adds j front p back (lists_of members links heads) (lists_of members new after)
+        new_joined = joins_from (lists_grown k grown grows) (joined (holds_grown k grown grows) j new others e)
 
     -- ONE OBJECT LESS: it is removed from collection j and from the objects, and the invariant holds
     pub holds_freed : {less : Objects T} {p : Place} → Frees objects less p → (j : ℕ) (new : L) {front back : List Place} {after : ℕ → H} → ((i : ℕ) → i ≢ j → after i ≡ heads i)

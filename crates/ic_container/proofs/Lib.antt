@@ -1,5 +1,5 @@
 pub mod EditLemmas
-pub mod RowLemmas
+pub mod NumberedListLemmas
 pub mod HoldsLemmas
 pub mod ValueLemmas
 pub mod TreeLemmas

@@ -14,12 +14,12 @@ use Rattle.ic_pool.specs.Pooled.{Grows}
 use Rattle.ic_container.specs.Holds.{members_in, ListAdds, ListMoves}
 use Rattle.ic_container.specs.ListReadings.{ReadsLists}
 use Rattle.ic_container.specs.Orders.{Order, values_of, IsListed, IsWhole}
-use Rattle.ic_container.specs.Rows.{to_one}
+use Rattle.ic_container.specs.NumberedLists.{to_one}
 use Rattle.ic_container.specs.Values.{first_value, last_value, Without}
 use Rattle.ic_container.proofs.CountLemmas.{count_placed, length_moved}
 use Rattle.ic_container.proofs.HoldsLemmas.{list_reading, holds_moved, holds_new, moved, new_absent, new_joined}
 use Rattle.ic_container.proofs.ListedLemmas.{listed_first, listed_last, listed_placed}
-use Rattle.ic_container.proofs.RowLemmas.{alone_others, no_front, puts_back, without_last}
+use Rattle.ic_container.proofs.NumberedListLemmas.{alone_others, no_front, puts_back, without_last}
 use Rattle.ic_container.proofs.ValueLemmas.{as_many, last_is}
 
 -- AT THE ENDS of a list of values: if there is no first or no last value, the list is empty

@@ -13,10 +13,10 @@ use Rattle.ic_pool.specs.Pooled.{Grows}
 use Rattle.ic_container.specs.Holds.{members_in, ListAdds, ListLeaves, ListMoves}
 use Rattle.ic_container.specs.ListReadings.{ReadsLists}
 use Rattle.ic_container.specs.Orders.{Order, order_of, values_of, IsListed, IsWhole}
-use Rattle.ic_container.specs.Rows.{owner_or, to_one}
+use Rattle.ic_container.specs.NumberedLists.{owner_or, to_one}
 use Rattle.ic_container.specs.Values.{last_value, Without}
-use Rattle.ic_container.proofs.HoldsLemmas.{list_reading, nothing_linked, none_stand, holds_none, holds_changed, holds_freed, holds_grown, holds_moved, holds_new, left, moved, new_absent, new_joined, new_off, rows_grown, stands}
-use Rattle.ic_container.proofs.RowLemmas.{alone_none, alone_others, owner_one, puts_front, rows_placed}
+use Rattle.ic_container.proofs.HoldsLemmas.{list_reading, nothing_linked, none_stand, holds_none, holds_changed, holds_freed, holds_grown, holds_moved, holds_new, left, moved, new_absent, new_joined, new_off, lists_grown, stands}
+use Rattle.ic_container.proofs.NumberedListLemmas.{alone_none, alone_others, owned_placed, owner_one, puts_front}
 use Rattle.ic_container.proofs.ValueLemmas.{last_is, last_placed, value_cut, values_front, values_left, values_moved}
 
 -- AN OBJECT of an order is one of its values
@@ -45,10 +45,10 @@ module _ {L E : Type 0} {neighbors : E → Neighbors} {linked : E → Bool} {tab
   listed_distinct = (k.holds.shown 0).distinct
 
   pub listed_placed : ArePlaced objects (members_in neighbors table links list)
-  listed_placed = rows_placed objects 0 (members_in neighbors table links list) (k.holds.housed.own 0)
+  listed_placed = owned_placed objects 0 (members_in neighbors table links list) (k.holds.owned.own 0)
 
   pub listed_whole : IsWhole (order_of neighbors table objects links list)
-  listed_whole = record { once = listed_distinct; placed = listed_placed; all = λ p is. k.holds.housed.all p 0 (owner_one objects p is) }
+  listed_whole = record { once = listed_distinct; placed = listed_placed; all = λ p is. k.holds.owned.all p 0 (owner_one objects p is) }
 
   -- there is an object at the head of the list and one at its tail, if the list is not empty
   pub listed_first : IfSome list.head (λ p. is_placed objects p ≡ true)
@@ -70,10 +70,10 @@ module _ {L E : Type 0} {neighbors : E → Neighbors} {linked : E → Bool} {tab
   -- AFTER `place`, whatever the call returned, each object is in the list
   module _ (grown : L) (grows : Grows (table links) (table grown)) where
     pub listed_grown : IsListed neighbors linked table objects grown list
-    listed_grown = record { reading = k.reading; holds = holds_grown (list_reading k.reading) k.holds grown grows; count = k.count ∙ sym (ap length (rows_grown (list_reading k.reading) k.holds grown grows 0)) }
+    listed_grown = record { reading = k.reading; holds = holds_grown (list_reading k.reading) k.holds grown grows; count = k.count ∙ sym (ap length (lists_grown (list_reading k.reading) k.holds grown grows 0)) }
 
     pub order_grown : order_of neighbors table objects grown list ≡ order_of neighbors table objects links list
-    order_grown = ap (λ (s : List Place). record { order = s; values = objects }) (rows_grown (list_reading k.reading) k.holds grown grows 0)
+    order_grown = ap (λ (s : List Place). record { order = s; values = objects }) (lists_grown (list_reading k.reading) k.holds grown grows 0)
 
     -- A NEW OBJECT is not linked yet
     module _ {p : Place} {value : T} {new : Objects T} (places : Places objects new p value) where

@@ -38,7 +38,7 @@ use Rattle.ic_container.specs.Orders.{IsWhole}
 use Rattle.ic_container.specs.TreeLaws.{all_grown}
 use Rattle.ic_container.specs.Trees.{HasAll, HasAllIn, IsFound, IsFoundObject, IsUnique, LacksOne, PutsInOrder}
 use Rattle.ic_container.specs.Values.{Without}
-use Rattle.ic_container.proofs.RowLemmas.{no_front}
+use Rattle.ic_container.proofs.NumberedListLemmas.{no_front}
 use Rattle.ic_container.proofs.ValueLemmas.{member_placed, no_more}
 
 -- A TABLE WITH ROOM FOR NO PLACE has no linked place, whatever the width of its words is

@@ -1,4 +1,4 @@
--- These lemmas are about the values of a row after one place was added or removed, or has moved.
+-- These lemmas are about the values of a list after one place was added or removed, or has moved.
 use Rattle.std.proofs.Common.{◌≡◌, ◌≢◌, ℕ, Option, Some, List, [], ◌∷◌, ◌++◌, refl, sym, ap, ◌∙◌, subst, Bool, true, false, is_some, IsSome, None, length, ◌≤◌, arith, length-append, true≢false, inl, inr}
 use Rattle.std.proofs.lemmas.List.Elements.{filter_map-append}
 use Rattle.std.specs.List.{cons_option}
@@ -6,12 +6,12 @@ use Rattle.ic_link_ops.specs.Prelude.{Place, Objects, object_at, is_placed, last
 use Rattle.ic_unsafe_ref.proofs.PlaceLemmas.{same_or_not}
 use Rattle.ic_link_ops.proofs.PlacedValues.{values_beside}
 use Rattle.ic_link_ops.proofs.SequenceLemmas.{absent_with, distinct_middle, member_split, none_not, some_same}
-use Rattle.ic_container.specs.Rows.{Rows, Adds, Leaves, Moves}
+use Rattle.ic_container.specs.NumberedLists.{NumberedLists, Adds, Leaves, Moves}
 use Rattle.ic_container.specs.Values.{last_value, Without}
 
 module _ {T : Type 0} (objects new : Objects T) {p : Place} (same : (q : Place) → q ≢ p → object_at new q ≡ object_at objects q) where
-  -- after a place was added at the front of a row, its value comes before the values that the row had
-  pub values_front : {k : ℕ} {back : List Place} {old after : Rows} {v : T} → object_at new p ≡ Some v → Adds k [] p back old after → IsAbsent p (old k) → values_at new (after k) ≡ v ∷ values_at objects (old k)
+  -- after a place was added at the front of a list, its value comes before the values that the list had
+  pub values_front : {k : ℕ} {back : List Place} {old after : NumberedLists} {v : T} → object_at new p ≡ Some v → Adds k [] p back old after → IsAbsent p (old k) → values_at new (after k) ≡ v ∷ values_at objects (old k)
   values_front {k} {back} {old} {after} {v} there j out =
       ap (values_at new) (j.is ∙ ap (λ (l : List Place). p ∷ l) (sym j.was)) ∙ ap (λ (o : Option T). cons_option o (values_at new (old k))) there
       ∙ ap (λ (l : List T). v ∷ l) (values_beside objects new p same (old k) out)
@@ -26,8 +26,8 @@ module _ {T : Type 0} (objects new : Objects T) {p : Place} (same : (q : Place) 
     value_cut s front back is =
         (values_at objects front ++ values_at objects back, record { front = values_at objects front; back = values_at objects back; was = values_cut s front back is; is = refl })
 
-    -- after a place was removed from a row, its value is removed from the values
-    pub values_left : {k : ℕ} {front back : List Place} {old after : Rows} → IsDistinct (old k) → Leaves k front p back old after → Without out (values_at objects (old k)) (values_at new (after k))
+    -- after a place was removed from a list, its value is removed from the values
+    pub values_left : {k : ℕ} {front back : List Place} {old after : NumberedLists} → IsDistinct (old k) → Leaves k front p back old after → Without out (values_at objects (old k)) (values_at new (after k))
     values_left {k} {front} {back} {old} distinct j = record {
       front = values_at objects front;
       back = values_at objects back;
@@ -35,8 +35,8 @@ module _ {T : Type 0} (objects new : Objects T) {p : Place} (same : (q : Place) 
       is = ap (values_at new) j.is ∙ values_beside objects new p same (front ++ back) (distinct_middle front back p (subst IsDistinct j.was distinct)) ∙ filter_map-append (object_at objects) front back;
     }
 
-    -- after a place has moved to the front of a row, its value, or another value in its place, comes before the other values
-    pub values_moved : {k : ℕ} {front back following : List Place} {old after : Rows} {v : T} → IsDistinct (old k) → object_at new p ≡ Some v → Moves k front p back [] following old after
+    -- after a place has moved to the front of a list, its value, or another value in its place, comes before the other values
+    pub values_moved : {k : ℕ} {front back following : List Place} {old after : NumberedLists} {v : T} → IsDistinct (old k) → object_at new p ≡ Some v → Moves k front p back [] following old after
         → (rest : List T) × Without out (values_at objects (old k)) rest × (values_at new (after k) ≡ v ∷ rest)
     values_moved {k} {front} {back} {following} {old} {v = v} distinct there j = (
       values_at objects (front ++ back),

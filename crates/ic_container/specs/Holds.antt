@@ -5,25 +5,25 @@ use Rattle.ic_link_ops.specs.Chains.{Ends}
 use Rattle.ic_link_ops.specs.LinkedList as lists
 use Rattle.ic_link_ops.specs.LinkedList.{Neighbors}
 use Rattle.ic_container.specs.Edited.{HasJoined, HasLeft, HasMoved}
-use Rattle.ic_container.specs.Rows.{Rows, EachInItsList}
+use Rattle.ic_container.specs.NumberedLists.{NumberedLists, EachInItsList}
 
--- row i has the members of collection i: `heads` gives the collections, and `members` gives the sequence that the table represents for a collection
-abbrev pub rows_of : {L H : Type 0} → (L → H → List Place) → L → (ℕ → H) → Rows
-rows_of members links heads i = members links (heads i)
+-- list i has the members of collection i: `heads` gives the collections, and `members` gives the sequence that the table represents for a collection
+abbrev pub lists_of : {L H : Type 0} → (L → H → List Place) → L → (ℕ → H) → NumberedLists
+lists_of members links heads i = members links (heads i)
 
 module _ {L E H : Type 0} (Represents : Table E → H → List Place → Type 0) (linked : E → Bool) (table : L → Table E) (members : L → H → List Place) where
   pub record Holds (links : L) (heads : ℕ → H) (owner : Place → Option ℕ) : Type 0 where
-    pub shown : (i : ℕ) → Represents (table links) (heads i) (rows_of members links heads i)
-    pub housed : EachInItsList owner (rows_of members links heads)
+    pub shown : (i : ℕ) → Represents (table links) (heads i) (lists_of members links heads i)
+    pub owned : EachInItsList owner (lists_of members links heads)
     pub only : (p : Place) → owner p ≡ None → IsUnlinked linked (table links) p
 
--- `members_in` gives the members of a list, as the table represents them, and `list_rows` the members of each list, over links of any width
+-- `members_in` gives the members of a list, as the table represents them, and `lists_in` the members of each list, over links of any width
 module _ {L E : Type 0} (neighbors : E → Neighbors) (table : L → Table E) where
   abbrev pub members_in : L → Ends → List Place
   members_in links list = lists.members neighbors (table links) list
 
-  abbrev pub list_rows : L → (ℕ → Ends) → Rows
-  list_rows = rows_of members_in
+  abbrev pub lists_in : L → (ℕ → Ends) → NumberedLists
+  lists_in = lists_of members_in
 
 abbrev pub HoldsLists : {L E : Type 0} → (E → Neighbors) → (E → Bool) → (L → Table E) → L → (ℕ → Ends) → (Place → Option ℕ) → Type 0
 HoldsLists neighbors linked table = Holds (lists.Represents neighbors) linked table (members_in neighbors table)

@@ -7,7 +7,7 @@ use Rattle.ic_link_ops.specs.Chains.{Ends, no_members}
 use Rattle.ic_link_ops.specs.LinkedList.{Neighbors}
 use Rattle.ic_container.specs.Holds.{HoldsLists, members_in}
 use Rattle.ic_container.specs.ListReadings.{ReadsLists}
-use Rattle.ic_container.specs.Rows.{alone, owner_of, to_one}
+use Rattle.ic_container.specs.NumberedLists.{alone, owner_of, to_one}
 
 -- `order` has the places of the objects in order, and `values` has the objects. Each object has exactly one position
 pub record Order (T : Type 0) : Type 0 where

@@ -1,4 +1,4 @@
--- These definitions are about the values of the objects in a row.
+-- These definitions are about the values of the objects in a list.
 use Rattle.std.specs.Prelude.{◌≡◌, Option, None, Some, List, [], ◌∷◌, ◌++◌}
 
 -- ONE VALUE IS REMOVED from a sequence, where it was between the values `front` and the values `back`

@@ -22,8 +22,8 @@ of_member P s q all member =
     (all_back P m.0 (q ∷ m.1) (subst (AllByRecursion P) m.2 all)).0
 
 pub of_members : (P : Place → Type 0) (s u : List Place) → ((q : Place) → IsAbsent q s → IsAbsent q u) → AllByRecursion P s → AllByRecursion P u
-of_members P s [] within all = tt
-of_members P s (x ∷ u) within all = (of_member P s x all (λ out. (within x out).0 refl), of_members P s u (λ q out. (within q out).1) all)
+of_members P s [] adds_none all = tt
+of_members P s (x ∷ u) adds_none all = (of_member P s x all (λ out. (adds_none x out).0 refl), of_members P s u (λ q out. (adds_none q out).1) all)
 
 module _ {E : Type 0} {successor : E → Successor} where
   -- AFTER A MEMBER the rest of a chain is represented from the place that the member's entry names as the next
@@ -53,7 +53,7 @@ module _ {E : Type 0} {successor : E → Successor} where
       distinct = rw (append-nil chain) shown.distinct;
       stay = tt;
       move = tt;
-      within = λ q out. rw (append-nil chain) out;
+      adds_none = λ q out. rw (append-nil chain) out;
       all = λ q out. rw (append-nil chain) at out;
       count = omega arith;
       passed = [];
@@ -77,7 +77,7 @@ module _ {E : Type 0} {successor : E → Successor} where
       left_all q n out = k.all q (subst (λ l. IsAbsent q (l ++ (k.staying ++ k.moving))) (sym left_is) (n, out))
 
       left_within : (q : Place) → IsAbsent q chain → IsAbsent q (p ∷ drop 1 k.left ++ (k.staying ++ k.moving))
-      left_within q out = subst (λ l. IsAbsent q (l ++ (k.staying ++ k.moving))) left_is (k.within q out)
+      left_within q out = subst (λ l. IsAbsent q (l ++ (k.staying ++ k.moving))) left_is (k.adds_none q out)
 
       pub left_linked : (successor (old.entry p)).linked ≡ true
       left_linked = left_represented.chain.0.linked
@@ -130,7 +130,7 @@ module _ {E : Type 0} {successor : E → Successor} where
               distinct = distinct_insert l (k.staying ++ k.moving) p left_distinct.1 out;
               stay = (fails, k.stay);
               move = k.move;
-              within = λ q absent. let a = left_within q absent in absent_with l (k.staying ++ k.moving) p q a.0 a.1;
+              adds_none = λ q absent. let a = left_within q absent in absent_with l (k.staying ++ k.moving) p q a.0 a.1;
               all = λ q absent. left_all q (absent_right q l (p ∷ k.staying ++ k.moving) absent).0 (absent_without l (k.staying ++ k.moving) p q absent);
               count = omega (arith, k.count, ap length left_is);
               passed = k.passed ++ p ∷ [];
@@ -160,7 +160,7 @@ module _ {E : Type 0} {successor : E → Successor} where
               distinct = subst IsDistinct with (distinct_insert (l ++ k.staying) k.moving p (subst IsDistinct (sym without) left_distinct.1) (subst (IsAbsent p) (sym without) out));
               stay = k.stay;
               move = (passes, k.move);
-              within = λ q absent. let a = left_within q absent in subst (IsAbsent q) with (absent_with (l ++ k.staying) k.moving p q a.0 (subst (IsAbsent q) (sym without) a.1));
+              adds_none = λ q absent. let a = left_within q absent in subst (IsAbsent q) with (absent_with (l ++ k.staying) k.moving p q a.0 (subst (IsAbsent q) (sym without) a.1));
               all = λ q absent.
                   let a = subst (IsAbsent q) (sym with) absent in
                   left_all q (absent_right q (l ++ k.staying) (p ∷ k.moving) a).0 (subst (IsAbsent q) without (absent_without (l ++ k.staying) k.moving p q a));

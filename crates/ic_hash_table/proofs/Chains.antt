@@ -128,8 +128,8 @@ module _ {E : Type 0} (successor : E → Successor) (Belongs : ℕ → Place →
 
   pub chain_at : (t : Table E) (i k n : ℕ) (fronts : List (Option Place)) (s : List Place) → n ≡ i + k → k < length fronts → AreChained successor Belongs t i fronts s
       → Between successor Belongs t i k n fronts s
-  chain_at t i k n [] s is_n within h = absurd (omega (arith, within))
-  chain_at t i zero n (f ∷ fs) s is_n within (chain, rest, is, shown, own, more) =
+  chain_at t i k n [] s is_n in_bounds h = absurd (omega (arith, in_bounds))
+  chain_at t i zero n (f ∷ fs) s is_n in_bounds (chain, rest, is, shown, own, more) =
       let here : i ≡ n = omega (arith, is_n) in record {
         ahead = [];
         chain = chain;
@@ -152,8 +152,8 @@ module _ {E : Type 0} (successor : E → Successor) (Belongs : ℕ → Place →
           chains_above new n Other other (suc i) fs rest (omega (arith, here)) (chains_frame successor Belongs t new touched (suc i) fs rest more apart same),
         );
       }
-  chain_at t i (suc k) n (f ∷ fs) s is_n within (chain, rest, is, shown, own, more) =
-      let r = chain_at t (suc i) k n fs rest (omega (arith, is_n)) (omega (arith, within)) more in record {
+  chain_at t i (suc k) n (f ∷ fs) s is_n in_bounds (chain, rest, is, shown, own, more) =
+      let r = chain_at t (suc i) k n fs rest (omega (arith, is_n)) (omega (arith, in_bounds)) more in record {
         ahead = chain ++ r.ahead;
         chain = r.chain;
         after = r.after;

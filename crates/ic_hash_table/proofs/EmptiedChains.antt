@@ -32,10 +32,10 @@ module _ {L E : Type 0} (successor : E → Successor) (table : L → Table E) (T
     frame = record { extent = refl; others = λ q out. refl };
   }
 
-  module _ {old mid : L} {at : ℕ} {fronts : List (Option Place)} {s : List Place} (within : at < length fronts) (k : Empties old mid at fronts s) where
+  module _ {old mid : L} {at : ℕ} {fronts : List (Option Place)} {s : List Place} (in_bounds : at < length fronts) (k : Empties old mid at fronts s) where
     -- chain `at` is the next chain to be emptied
     pub next_chain : Between successor (λ i p. ⊤) (table mid) 0 at at fronts k.rest
-    next_chain = chain_at successor (λ i p. ⊤) (table mid) 0 at at fronts k.rest (omega arith) within k.chained
+    next_chain = chain_at successor (λ i p. ⊤) (table mid) 0 at at fronts k.rest (omega arith) in_bounds k.chained
 
     -- ONE CHAIN MORE is emptied, and its members are unlinked
     pub empties_more : (does_on : (a b c : L) (r u : List LinkStep) → Trace a b r → Trace b c u → Trace a c (r ++ u)) (new : L) (none : (j : ℕ) → j < at → slice_index_or fronts j None ≡ None) → IsDistinct s
@@ -60,8 +60,8 @@ module _ {L E : Type 0} (successor : E → Successor) (table : L → Table E) (T
 -- if chain `at` is emptied after all chains before it, all chains up to `at` are empty
 pub none_below : (at : ℕ) (fronts : List (Option Place)) → at < length fronts → ((j : ℕ) → j < at → slice_index_or fronts j None ≡ None)
     → (j : ℕ) → j < at + 1 → slice_index_or (slice_set fronts at None) j None ≡ None
-none_below at fronts within none j less = elim (eq-or-lt_of_le {n = j} {m = at} (omega (arith, less))) [
-  | inl e ↦ rw e (get_or-set_same fronts at None None within)
+none_below at fronts in_bounds none j less = elim (eq-or-lt_of_le {n = j} {m = at} (omega (arith, less))) [
+  | inl e ↦ rw e (get_or-set_same fronts at None None in_bounds)
   | inr l ↦ get_or-set_other fronts at j None None (λ e. absurd (omega (arith, l, e))) ∙ none j l
 ]
 

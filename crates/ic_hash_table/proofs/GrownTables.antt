@@ -37,8 +37,8 @@ middle_apart a m b d =
 
 -- the middle part of a sequence can be replaced by a part with only places of the old one, and no place is twice in the sequence
 within_middle : (a m b u : List Place) → IsDistinct (a ++ (m ++ b)) → IsDistinct u → ((q : Place) → IsAbsent q m → IsAbsent q u) → IsDistinct (a ++ (u ++ b))
-within_middle a m b u d e within =
-    distinct_splice a u b (without_middle a m b d) e (disjoint_sym (a ++ b) u (absent_swap (a ++ b) m (disjoint_sym m (a ++ b) (middle_apart a m b d)) u within))
+within_middle a m b u d e adds_none =
+    distinct_splice a u b (without_middle a m b d) e (disjoint_sym (a ++ b) u (absent_swap (a ++ b) m (disjoint_sym m (a ++ b) (middle_apart a m b d)) u adds_none))
 
 module _ {V : Type 0} (old new : Slots) (hash : V → ℕ) (objects : Objects V) (split : IsSplit old new) where
   -- an object that belongs in another chain than the one that is split belongs there after the split
@@ -94,7 +94,7 @@ module _ {E A B V : Type 0} (successor : E → Successor) (hash : A → V → �
       distinct_parts = subst (λ l. IsDistinct (l ++ (part.staying ++ part.moving))) no_left part.distinct
 
       within_parts : (q : Place) → IsAbsent q parted_chain.chain → IsAbsent q (part.staying ++ part.moving)
-      within_parts q out = subst (λ l. IsAbsent q (l ++ (part.staying ++ part.moving))) no_left (part.within q out)
+      within_parts q out = subst (λ l. IsAbsent q (l ++ (part.staying ++ part.moving))) no_left (part.adds_none q out)
 
       all_parts : (q : Place) → IsAbsent q (part.staying ++ part.moving) → IsAbsent q parted_chain.chain
       all_parts q out = part.all q (subst (λ l. IsAbsent q (l ++ (part.staying ++ part.moving))) (sym no_left) out)
@@ -196,7 +196,7 @@ module _ {E A B V : Type 0} (successor : E → Successor) (hash : A → V → �
 
       -- THE GROWN TABLE HOLDS the members that the table held before
       pub held_grown : HoldsSameMembers successor hash fronts new (record { adapter = table.adapter; buckets = buckets; slots = slots; len = table.len }) objects s
-      held_grown = record { members = grown; holds = grown_holds; within = within_again; all = all_again }
+      held_grown = record { members = grown; holds = grown_holds; adds_none = within_again; all = all_again }
 
       -- IF MEMBERS WITH EQUAL KEYS were side by side before the table grew, they are side by side afterwards
       pub beside_grown : {alike : Place → Place → Bool} → IsPartialEquivalence alike → BelongTogether (BelongsIn table.slots (hash table.adapter) objects) alike

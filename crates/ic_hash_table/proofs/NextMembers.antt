@@ -25,12 +25,12 @@ module _ {E : Type 0} (successor : E → Successor) (t : Table E) where
   -- if there is a chain `at`, the chains from number `at` on are this chain and the chains after it
   at_next : (at : ℕ) (fronts : List (Option Place)) (s : List Place) → at < length fronts → AreChained successor (λ i p. ⊤) t at (drop at fronts) s
       → AreChained successor (λ i p. ⊤) t at (slice_index_or fronts at None ∷ drop (suc at) fronts) s
-  at_next at fronts s within chained = subst (λ l. AreChained successor (λ i p. ⊤) t at l s) (drop-cons fronts at None within) chained
+  at_next at fronts s in_bounds chained = subst (λ l. AreChained successor (λ i p. ⊤) t at l s) (drop-cons fronts at None in_bounds) chained
 
   -- AFTER AN EMPTY CHAIN the chains that follow have all members that are left
   pub past_empty : (at : ℕ) (fronts : List (Option Place)) (s : List Place) → at < length fronts → slice_index_or fronts at None ≡ None → AreChained successor (λ i p. ⊤) t at (drop at fronts) s
       → AreChained successor (λ i p. ⊤) t (suc at) (drop (suc at) fronts) s
-  past_empty at fronts s within none chained = by (at_next at fronts s within chained) where
+  past_empty at fronts s in_bounds none chained = by (at_next at fronts s in_bounds chained) where
     by : AreChained successor (λ i p. ⊤) t at (slice_index_or fronts at None ∷ drop (suc at) fronts) s → AreChained successor (λ i p. ⊤) t (suc at) (drop (suc at) fronts) s
     by (chain, rest, is, shown, own, more) =
         subst (AreChained successor (λ i p. ⊤) t (suc at) (drop (suc at) fronts)) (sym (is ∙ ap (λ c. c ++ rest) (nothing_first chain (sym none ∙ shown.head)))) more
@@ -38,7 +38,7 @@ module _ {E : Type 0} (successor : E → Successor) (t : Table E) where
   -- if chain `at` has a first member, this is the first member of all chains from `at` on
   pub at_first : (at : ℕ) (fronts : List (Option Place)) (s : List Place) → at < length fronts → is_some (slice_index_or fronts at None) ≡ true → AreChained successor (λ i p. ⊤) t at (drop at fronts) s
       → slice_index_or fronts at None ≡ first s
-  at_first at fronts s within some chained = by (at_next at fronts s within chained) where
+  at_first at fronts s in_bounds some chained = by (at_next at fronts s in_bounds chained) where
     first_ahead : (chain rest : List Place) (f : Option Place) → f ≡ first chain → is_some f ≡ true → f ≡ first (chain ++ rest)
     first_ahead [] rest f is some = absurd (true≢false (sym some ∙ ap is_some is))
     first_ahead (x ∷ chain) rest f is some = is

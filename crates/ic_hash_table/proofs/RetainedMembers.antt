@@ -34,7 +34,7 @@ module _ {L E A B V F : Type 0} (successor : E → Successor) (table : L → Tab
     pub holds : Holds successor hash fronts (table now) held objects (kept ++ ahead)
     pub said : (later : List Bool) (last : F) → AreAnswers tells objects asked ahead later last
         → (answers : List Bool) × AreAnswers tells objects test s answers last × (passing answers s ≡ kept ++ passing later ahead) × (failing answers s ≡ gone ++ failing later ahead)
-    pub within : (q : Place) → IsAbsent q s → IsAbsent q (kept ++ ahead)
+    pub adds_none : (q : Place) → IsAbsent q s → IsAbsent q (kept ++ ahead)
     pub steps : Trace start now (releases_each gone)
     pub frame : ChangesOnlyIn (table start) (table now) s
 
@@ -50,7 +50,7 @@ module _ {L E A B V F : Type 0} {successor : E → Successor} {table : L → Tab
     here = here;
     holds = holds;
     said = λ later last answers. (later, answers, refl, refl);
-    within = λ q out. out;
+    adds_none = λ q out. out;
     steps = does_nothing start;
     frame = record { extent = refl; others = λ q out. refl };
   }
@@ -81,7 +81,7 @@ module _ {L E A B V F : Type 0} {successor : E → Successor} {table : L → Tab
     holds_after = subst (Holds successor hash fronts (table now) held objects) (sym (append_assoc r.kept (p ∷ []) (drop 1 r.ahead))) holds_there
 
     within_there : (q : Place) → IsAbsent q s → IsAbsent q (r.kept ++ p ∷ drop 1 r.ahead)
-    within_there q out = subst (λ l. IsAbsent q (r.kept ++ l)) ahead_first (r.within q out)
+    within_there q out = subst (λ l. IsAbsent q (r.kept ++ l)) ahead_first (r.adds_none q out)
 
     -- the test's results for s are its earlier results, its result for the member p, and its results for the members after p
     answers_there : (answer : Bool) {after : F} → TellsAt tells objects asked p answer after → (later : List Bool) (last : F) → AreAnswers tells objects after (drop 1 r.ahead) later last
@@ -108,7 +108,7 @@ module _ {L E A B V F : Type 0} {successor : E → Successor} {table : L → Tab
         said = λ later last rest.
             let a = answers_there true told later last rest in
             (a.0, a.1, a.2 ∙ sym (append_assoc r.kept (p ∷ []) (passing later (drop 1 r.ahead))), a.3);
-        within = λ q out. subst (IsAbsent q) (sym (append_assoc r.kept (p ∷ []) (drop 1 r.ahead))) (within_there q out);
+        adds_none = λ q out. subst (IsAbsent q) (sym (append_assoc r.kept (p ∷ []) (drop 1 r.ahead))) (within_there q out);
         steps = r.steps;
         frame = r.frame;
       },
@@ -130,7 +130,7 @@ module _ {L E A B V F : Type 0} {successor : E → Successor} {table : L → Tab
         said = λ later last answers.
             let a = answers_there false told later last answers in
             (a.0, a.1, a.2, a.3 ∙ sym (append_assoc r.gone (p ∷ []) (failing later (drop 1 r.ahead))));
-        within = λ q out. absent_without r.kept (drop 1 r.ahead) p q (within_there q out);
+        adds_none = λ q out. absent_without r.kept (drop 1 r.ahead) p q (within_there q out);
         steps = subst (Trace start new) (sym (releases_append r.gone (p ∷ []))) (does_on start now new (releases_each r.gone) (releases p ∷ []) r.steps released);
         frame = record { extent = frame.extent ∙ r.frame.extent; others = λ q out. frame.others q (within_there q out) ∙ r.frame.others q out };
       },

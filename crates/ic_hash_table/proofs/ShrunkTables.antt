@@ -24,15 +24,15 @@ use Rattle.ic_hash_table.proofs.HeldTables.{middle_ahead, middle_after}
 -- in the last chain belongs in chain `to` afterwards
 module _ {E : Type 0} (successor : E → Successor) (Belongs Fewer : ℕ → Place → Type 0) (last to : ℕ) (less : to < last) (others : (j : ℕ) (p : Place) → j ≢ last → Belongs j p → Fewer j p)
     (moved : (p : Place) → Belongs last p → Fewer to p) (old : Table E) (fronts : List (Option Place)) (s : List Place) (distinct : IsDistinct s) (chained : AreChained successor Belongs old 0 fronts s)
-    (within : last < length fronts) where
+    (in_bounds : last < length fronts) where
   pub last_chain : Between successor Belongs old 0 last last fronts s
-  last_chain = chain_at successor Belongs old 0 last last fronts s (omega arith) within chained
+  last_chain = chain_at successor Belongs old 0 last last fronts s (omega arith) in_bounds chained
 
   without_last : AreChained successor Fewer old 0 (slice_set fronts last None) (last_chain.ahead ++ last_chain.after)
   without_last = last_chain.put Fewer others None [] [] (nothing_represented old) tt (disjoint_nothing last_chain.ahead) (disjoint_nothing last_chain.after) (λ q out. refl)
 
   pub joined_chain : Between successor Fewer old 0 to to (slice_set fronts last None) (last_chain.ahead ++ last_chain.after)
-  joined_chain = chain_at successor Fewer old 0 to to (slice_set fronts last None) (last_chain.ahead ++ last_chain.after) (omega arith) (omega (arith, less, within, length-set fronts last None)) without_last
+  joined_chain = chain_at successor Fewer old 0 to to (slice_set fronts last None) (last_chain.ahead ++ last_chain.after) (omega arith) (omega (arith, less, in_bounds, length-set fronts last None)) without_last
 
   pub joined_represented : RepresentsFrom successor old (slice_index_or fronts to None) joined_chain.chain
   joined_represented = subst (λ f. RepresentsFrom successor old f joined_chain.chain) (get_or-set_other fronts last to None None (λ e. absurd (omega (arith, less, e)))) joined_chain.shown
@@ -145,7 +145,7 @@ module _ {V : Type 0} (small large : Slots) (hash : V → ℕ) (objects : Object
   last_belong p belongs v there = split.from (hash v) (belongs v there)
 
 module _ {E A B V : Type 0} (successor : E → Successor) (hash : A → V → ℕ) (fronts : B → List (Option Place)) {old : Table E} {table : HashTable A B} {objects : Objects V}
-    (slots : Slots) (split : IsSplit slots table.slots) {s : List Place} (held : Holds successor hash fronts old table objects s) (within : slots.used < length (fronts table.buckets)) where
+    (slots : Slots) (split : IsSplit slots table.slots) {s : List Place} (held : Holds successor hash fronts old table objects s) (in_bounds : slots.used < length (fronts table.buckets)) where
   -- THE SHRUNK TABLE HOLDS the members that the table held before
   module _ (middle buckets : B) {new : Table E} {front : Option Place} (well_formed : IsWellFormed slots)
       (last_set : fronts middle ≡ slice_set (fronts table.buckets) slots.used None) (joined_set : fronts buckets ≡ slice_set (fronts middle) (split_of table.slots slots.used) front)
@@ -155,7 +155,7 @@ module _ {E A B V : Type 0} (successor : E → Successor) (hash : A → V → �
       → IsDisjoint s t → ChangesOnlyIn old new (s ++ t)) where
     abbrev shrunk : List Place
     shrunk = joined successor (BelongsIn table.slots (hash table.adapter) objects) (BelongsIn slots (hash table.adapter) objects) slots.used (split_of table.slots slots.used) split.apart
-        (others_belong slots table.slots (hash table.adapter) objects split) (last_belong slots table.slots (hash table.adapter) objects split) old (fronts table.buckets) s held.distinct held.chained within
+        (others_belong slots table.slots (hash table.adapter) objects split) (last_belong slots table.slots (hash table.adapter) objects split) old (fronts table.buckets) s held.distinct held.chained in_bounds
 
     shrunk_holds : Holds successor hash fronts new (record { adapter = table.adapter; buckets = buckets; slots = slots; len = table.len }) objects shrunk
     shrunk_holds =
@@ -164,18 +164,18 @@ module _ {E A B V : Type 0} (successor : E → Successor) (hash : A → V → �
         let others = others_belong slots table.slots (hash table.adapter) objects split in
         let moved = last_belong slots table.slots (hash table.adapter) objects split in
         let to = split_of table.slots slots.used in
-        let l = last_chain successor Old New slots.used to split.apart others moved old (fronts table.buckets) s held.distinct held.chained within in
-        let j = joined_chain successor Old New slots.used to split.apart others moved old (fronts table.buckets) s held.distinct held.chained within in
-        let j_represented = joined_represented successor Old New slots.used to split.apart others moved old (fronts table.buckets) s held.distinct held.chained within in
-        let apart = chains_apart successor Old New slots.used to split.apart others moved old (fronts table.buckets) s held.distinct held.chained within in
+        let l = last_chain successor Old New slots.used to split.apart others moved old (fronts table.buckets) s held.distinct held.chained in_bounds in
+        let j = joined_chain successor Old New slots.used to split.apart others moved old (fronts table.buckets) s held.distinct held.chained in_bounds in
+        let j_represented = joined_represented successor Old New slots.used to split.apart others moved old (fronts table.buckets) s held.distinct held.chained in_bounds in
+        let apart = chains_apart successor Old New slots.used to split.apart others moved old (fronts table.buckets) s held.distinct held.chained in_bounds in
         record {
-          distinct = joined_distinct successor Old New slots.used to split.apart others moved old (fronts table.buckets) s held.distinct held.chained within;
-          chained = subst (λ f. AreChained successor New new 0 f (joined successor Old New slots.used to split.apart others moved old (fronts table.buckets) s held.distinct held.chained within))
+          distinct = joined_distinct successor Old New slots.used to split.apart others moved old (fronts table.buckets) s held.distinct held.chained in_bounds;
+          chained = subst (λ f. AreChained successor New new 0 f (joined successor Old New slots.used to split.apart others moved old (fronts table.buckets) s held.distinct held.chained in_bounds))
               (sym (joined_set ∙ ap (λ f. slice_set f to front) last_set))
-              (joined_chained successor Old New slots.used to split.apart others moved old (fronts table.buckets) s held.distinct held.chained within (join l.chain j.chain l.shown j_represented apart) (frame l.chain j.chain l.shown j_represented apart));
-          placed = of_members (λ p. IsSome (object_at objects p)) s (joined successor Old New slots.used to split.apart others moved old (fronts table.buckets) s held.distinct held.chained within)
-              (joined_within successor Old New slots.used to split.apart others moved old (fronts table.buckets) s held.distinct held.chained within) held.placed;
-          counted = held.counted ∙ sym (joined_length successor Old New slots.used to split.apart others moved old (fronts table.buckets) s held.distinct held.chained within);
+              (joined_chained successor Old New slots.used to split.apart others moved old (fronts table.buckets) s held.distinct held.chained in_bounds (join l.chain j.chain l.shown j_represented apart) (frame l.chain j.chain l.shown j_represented apart));
+          placed = of_members (λ p. IsSome (object_at objects p)) s (joined successor Old New slots.used to split.apart others moved old (fronts table.buckets) s held.distinct held.chained in_bounds)
+              (joined_within successor Old New slots.used to split.apart others moved old (fronts table.buckets) s held.distinct held.chained in_bounds) held.placed;
+          counted = held.counted ∙ sym (joined_length successor Old New slots.used to split.apart others moved old (fronts table.buckets) s held.distinct held.chained in_bounds);
           well_formed = well_formed;
           enough = omega (arith, split.used, held.enough, ap length joined_set, length-set (fronts middle) to front, ap length last_set, length-set (fronts table.buckets) slots.used None);
         }
@@ -190,8 +190,8 @@ module _ {E A B V : Type 0} (successor : E → Successor) (hash : A → V → �
         record {
           members = shrunk;
           holds = shrunk_holds;
-          within = joined_within successor Old New slots.used to split.apart others moved old (fronts table.buckets) s held.distinct held.chained within;
-          all = joined_all successor Old New slots.used to split.apart others moved old (fronts table.buckets) s held.distinct held.chained within;
+          adds_none = joined_within successor Old New slots.used to split.apart others moved old (fronts table.buckets) s held.distinct held.chained in_bounds;
+          all = joined_all successor Old New slots.used to split.apart others moved old (fronts table.buckets) s held.distinct held.chained in_bounds;
         }
 
     -- IF MEMBERS WITH EQUAL KEYS were side by side before the table shrank, they are side by side afterwards
@@ -203,4 +203,4 @@ module _ {E A B V : Type 0} (successor : E → Successor) (hash : A → V → �
         let others = others_belong slots table.slots (hash table.adapter) objects split in
         let moved = last_belong slots table.slots (hash table.adapter) objects split in
         let to = split_of table.slots slots.used in
-        (shrunk, shrunk_holds, joined_beside successor Old New slots.used to split.apart others moved old (fronts table.buckets) s held.distinct held.chained within together fewer side)
+        (shrunk, shrunk_holds, joined_beside successor Old New slots.used to split.apart others moved old (fronts table.buckets) s held.distinct held.chained in_bounds together fewer side)

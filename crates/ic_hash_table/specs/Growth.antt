@@ -34,7 +34,7 @@ module _ {E : Type 0} (successor : E → Successor) (is : Place → Bool) where
     pub distinct : IsDistinct (left ++ (staying ++ moving))
     pub stay : AllByRecursion (λ p. is p ≡ false) staying
     pub move : AllByRecursion (λ p. is p ≡ true) moving
-    pub within : (q : Place) → IsAbsent q chain → IsAbsent q (left ++ (staying ++ moving))
+    pub adds_none : (q : Place) → IsAbsent q chain → IsAbsent q (left ++ (staying ++ moving))
     pub all : (q : Place) → IsAbsent q (left ++ (staying ++ moving)) → IsAbsent q chain
     pub count : length left + length staying + length moving ≡ length chain
     -- members that are alike, and were side by side in the old chain, are side by side after the split
@@ -48,5 +48,5 @@ module _ {E A B V : Type 0} (successor : E → Successor) (hash : A → V → �
   pub record HoldsSameMembers (t : Table E) (table : HashTable A B) (objects : Objects V) (s : List Place) : Type 0 where
     pub members : List Place
     pub holds : Holds successor hash fronts t table objects members
-    pub within : (q : Place) → IsAbsent q s → IsAbsent q members
+    pub adds_none : (q : Place) → IsAbsent q s → IsAbsent q members
     pub all : (q : Place) → IsAbsent q members → IsAbsent q s

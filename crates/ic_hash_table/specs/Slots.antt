@@ -11,7 +11,7 @@ slot_of s hash = cond (ltb (bit_and hash s.mask) s.used) (bit_and hash s.mask) (
 -- in use
 pub record IsWellFormed (s : Slots) : Type 0 where
   pub half : s.mask + 1 < 2 * s.used
-  pub within : s.used ≤ s.mask + 1
+  pub in_bounds : s.used ≤ s.mask + 1
   pub mask : (k : ℕ) × (s.mask + 1 ≡ 2 ^ k)
 
 -- the chain that had the members of chain i before chain i came into use

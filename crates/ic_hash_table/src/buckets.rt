@@ -32,13 +32,13 @@ pub trait BucketRow {
 
     /// The first member of chain `at`, or `None` if the chain is empty. It requires that `at` is less than the number of buckets. O(1).
     fn front(&self, at: usize) -> Option<Place>
-        requires within { at < length (fronts self.now) }
+        requires in_bounds { at < length (fronts self.now) }
         ensures { result ≡ slice_index_or (fronts self.now) at None };
 
     /// Sets the first member of chain `at`, or sets `None` if the chain is to be empty. It requires that `at` is less than the number of buckets, and that
     /// the buckets have room for the name of the place. O(1).
     fn set_front(&mut self, at: usize, front: Option<Place>)
-        requires within { at < length (fronts self.old) }
+        requires in_bounds { at < length (fronts self.old) }
         requires kept { IsNameable CanKeep front }
         ensures fronts { fronts self.new ≡ set (fronts self.old) at front }
         ensures rewrites { Rewrites self.old self.new };

@@ -36,7 +36,7 @@ impl Slots {
     pub fn slot(&self, hash: u64) -> usize
         requires well_formed { IsWellFormed self.now }
         ensures slot { result ≡ slot_of self.now hash }
-        ensures within { result < self.now.used }
+        ensures in_bounds { result < self.now.used }
         ensures few { result < 18446744073709551615 }
     {
         let at = hash as usize & self.mask;

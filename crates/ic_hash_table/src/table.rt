@@ -116,7 +116,7 @@ impl<A: HashAdapter, B: BucketRow> HashTable<A, B> {
     /// It requires what [`new`](HashTable::new) requires, and that there are at least `used` buckets. O(log n) for n buckets.
     pub fn with_used(adapter: A, buckets: B, used: usize) -> HashTable<A, B>
         requires some { 1 ≤ used }
-        requires within { used ≤ length (B.fronts buckets) }
+        requires in_bounds { used ≤ length (B.fronts buckets) }
         requires few { used ≤ 4294967296 }
         requires empty { AllByRecursion (λ front. front ≡ None) (B.fronts buckets) }
         ensures adapter { adapter_of result ≡ adapter }
@@ -139,7 +139,7 @@ impl<A: HashAdapter, B: BucketRow> HashTable<A, B> {
     /// those of an earlier table, a table of links holds the earlier table's members for the new table. O(log n) for n chains. It takes no memory.
     pub fn from_buckets(adapter: A, buckets: B, used: usize, len: usize) -> HashTable<A, B>
         requires some { 1 ≤ used }
-        requires within { used ≤ length (B.fronts buckets) }
+        requires in_bounds { used ≤ length (B.fronts buckets) }
         requires few { used ≤ 4294967296 }
         ensures adapter { adapter_of result ≡ adapter }
         ensures fronts { fronts_of B.fronts result ≡ B.fronts buckets }
@@ -180,7 +180,7 @@ impl<A: HashAdapter, B: BucketRow> HashTable<A, B> {
         at: usize,
     ) -> SinglyLinkedList<A::Value>
         requires held { HoldsSome L.successor (number A.key_of A.hash_of) B.fronts (L.table links.now) self.now (O.values objects.now) }
-        requires within { at < (slots_of self.now).used }
+        requires in_bounds { at < (slots_of self.now).used }
         ensures front { result ≡ list_from (front_at B.fronts self.now at) }
         ensures placed { RepresentsPlaced (Represents L.successor (L.table links.now) result) (O.values objects.now) }
     {
@@ -373,7 +373,7 @@ impl<A: HashAdapter, B: BucketRow> HashTable<A, B> {
     pub(crate) fn slot_of_object<O: Values<A::Value>>(&self, objects: &O, object: Place) -> usize
         requires placed { is_placed (O.values objects.now) object ≡ true }
         requires well_formed { IsWellFormed (slots_of self.now) }
-        ensures within { result < (slots_of self.now).used }
+        ensures in_bounds { result < (slots_of self.now).used }
         ensures few { result < 18446744073709551615 }
         ensures belongs { BelongsIn (slots_of self.now) (number A.key_of A.hash_of (adapter_of self.now)) (O.values objects.now) result object }
     {
@@ -390,7 +390,7 @@ impl<A: HashAdapter, B: BucketRow> HashTable<A, B> {
         key: &A::Key,
     ) -> (usize, Option<Place>, Option<Place>)
         requires held { HoldsSome L.successor (number A.key_of A.hash_of) B.fronts (L.table links.now) self.now (O.values objects.now) }
-        ensures within { result.0 < (slots_of self.now).used }
+        ensures in_bounds { result.0 < (slots_of self.now).used }
         ensures slot { result.0 ≡ slot_of (slots_of self.now) (A.hash_of (adapter_of self.now) key.now) }
         ensures found { (s : List Place) → Holds L.successor (number A.key_of A.hash_of) B.fronts (L.table links.now) self.now (O.values objects.now) s
             → Finds (has_key A.Key.eq (A.key_of (adapter_of self.now)) key.now (O.values objects.now)) s result.2 }
@@ -414,7 +414,7 @@ impl<A: HashAdapter, B: BucketRow> HashTable<A, B> {
     ) -> Option<(usize, Option<Place>)>
         requires placed { is_placed (O.values objects.now) place ≡ true }
         requires held { HoldsSome L.successor (number A.key_of A.hash_of) B.fronts (L.table links.now) self.now (O.values objects.now) }
-        ensures within { IfSome result (λ r. r.0 < (slots_of self.now).used) }
+        ensures in_bounds { IfSome result (λ r. r.0 < (slots_of self.now).used) }
         ensures member { IfSome result (λ r. (ahead back : List Place)
             × RepresentsFrom L.successor (L.table links.now) (front_at B.fronts self.now r.0) (ahead ++ place ∷ back) × (r.1 ≡ last ahead)) }
         ensures absent { (s : List Place) → Holds L.successor (number A.key_of A.hash_of) B.fronts (L.table links.now) self.now (O.values objects.now) s
@@ -447,7 +447,7 @@ impl<A: HashAdapter, B> HashTable<A, B> {
         B: BucketsFor<L>,
         requires covered { IsCovered (L.table links.old) object }
         requires held { (objects : Objects A.Value) × HoldsSome L.successor (number A.key_of A.hash_of) B.fronts (L.table links.old) self.old objects }
-        requires within { at < (slots_of self.old).used }
+        requires in_bounds { at < (slots_of self.old).used }
         requires gap { (gap : Cut) × RepresentsFrom L.successor (L.table links.old) (front_at B.fronts self.old at) (join gap)
             × IsAfter gap neighbors.0 × IsBefore gap neighbors.1 }
         ensures inserted { (objects : Objects A.Value) (s : List Place) (gap : Cut)
@@ -487,7 +487,7 @@ impl<A: HashAdapter, B> HashTable<A, B> {
     where
         B: BucketsFor<L>,
         requires held { (objects : Objects A.Value) × HoldsSome L.successor (number A.key_of A.hash_of) B.fronts (L.table links.old) self.old objects }
-        requires within { at < (slots_of self.old).used }
+        requires in_bounds { at < (slots_of self.old).used }
         requires member { (ahead back : List Place)
             × RepresentsFrom L.successor (L.table links.old) (front_at B.fronts self.old at) (ahead ++ place ∷ back) × (before ≡ last ahead) }
         ensures removed { (objects : Objects A.Value) (front back : List Place)

@@ -17,7 +17,7 @@ use ic_unsafe_ref::{UnsafeRef, Values};
 
 // Unlinks the members of one chain, and empties it.
 fn clear_chain<L: SinglyLinkedListOps, B: BucketsFor<L>>(buckets: &mut B, links: &mut L, at: usize)
-    requires within { at < length (B.fronts buckets.old) }
+    requires in_bounds { at < length (B.fronts buckets.old) }
     requires shown { RepresentsFromSome L.successor (L.table links.old) (slice_index_or (B.fronts buckets.old) at None) }
     ensures empty { B.fronts buckets.new ≡ slice_set (B.fronts buckets.old) at None }
     ensures rewrites { B.Rewrites buckets.old buckets.new }

@@ -15,7 +15,7 @@ ghost use Rattle.ic_container.specs.Values.{first_value, last_value, Without};
 ghost use Rattle.ic_indexed.specs.Indexed.{order_in, values_of};
 
 use crate::place::place;
-use crate::renew::renew;
+use crate::replace_keyed::replace_keyed;
 use crate::{ByKey, HasKey, Index, NarrowByKey};
 use ic_container::{Iter, lists};
 use ic_link_ops::{CoverError, NodeWords, PlainTable, PrevPlace};
@@ -255,7 +255,7 @@ impl<T: HasKey, I: Index<T, A>, A: Allocator> Indexed<T, I, A> {
     /// place.
     ///
     /// The call costs about as much as two searches of the index, which is O(log n) with a tree. It takes no memory.
-    pub fn renew(&mut self, place: Place, value: T) -> T
+    pub fn replace_and_touch(&mut self, place: Place, value: T) -> T
         requires placed { is_placed self.old.values place ≡ true }
         ensures value { object_at self.old.values place ≡ Some result }
         ensures values { self.new.values ≡ with_object self.old.values place value }
@@ -263,7 +263,7 @@ impl<T: HasKey, I: Index<T, A>, A: Allocator> Indexed<T, I, A> {
         ensures renewed { (rest : List T) × Without result (values_of self.old) rest × (values_of self.new ≡ value ∷ rest) }
     {
         let (objects, links) = (&mut self.pool.objects, &mut self.pool.links.0);
-        let gone = renew(&mut self.index, links, objects, place, value);
+        let gone = replace_keyed(&mut self.index, links, objects, place, value);
         lists::move_to_front(&mut self.in_order, &mut self.pool.links.1, place);
         gone
     }

@@ -255,7 +255,7 @@ impl<T: HasKey, I: Index<T, A>, A: Allocator> Keyed<T, I, A> {
         let Some(place) = place_of(&self.store, *value.key()) else {
             return Err(value);
         };
-        Ok(self.store.renew(place, value))
+        Ok(self.store.replace_and_touch(place, value))
     }
 
     /// Replaces the value that was used longest ago by the given value, moves the given value to the front, and returns the old value. The other values
@@ -271,7 +271,7 @@ impl<T: HasKey, I: Index<T, A>, A: Allocator> Keyed<T, I, A> {
         let Some(oldest) = self.store.last() else {
             return Err(value);
         };
-        Ok(self.store.renew(oldest, value))
+        Ok(self.store.replace_and_touch(oldest, value))
     }
 
     /// Removes the value with the key and returns it, if there is one. The other values keep their order. It costs two searches. O(log n) by a tree, and

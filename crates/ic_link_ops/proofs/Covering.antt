@@ -7,11 +7,11 @@ use Rattle.ic_link_ops.specs.Prelude.{Place, IsAbsent, Table, IsCovered, Changes
 pub still_covered : {E : Type 0} {old new : Table E} {touched : List Place} (p : Place) → ChangesOnlyIn old new touched → IsCovered old p → IsCovered new p
 still_covered p frame was = rw frame.extent was
 
--- ONE EDIT AND THEN ANOTHER change only entries at members of s. `within` says that each place absent from s is absent from t,
+-- ONE EDIT AND THEN ANOTHER change only entries at members of s. `adds_none` says that each place absent from s is absent from t,
 -- the sequence that the second edit may change.
-pub frames_join : {E : Type 0} {a b c : Table E} {s t : List Place} → ChangesOnlyIn a b s → ChangesOnlyIn b c t → (within : (q : Place) → IsAbsent q s → IsAbsent q t)
+pub frames_join : {E : Type 0} {a b c : Table E} {s t : List Place} → ChangesOnlyIn a b s → ChangesOnlyIn b c t → (adds_none : (q : Place) → IsAbsent q s → IsAbsent q t)
     → ChangesOnlyIn a c s
-frames_join first second within = record {
+frames_join first second adds_none = record {
   extent = second.extent ∙ first.extent;
-  others = λ q out. second.others q (within q out) ∙ first.others q out;
+  others = λ q out. second.others q (adds_none q out) ∙ first.others q out;
 }

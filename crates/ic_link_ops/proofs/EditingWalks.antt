@@ -16,7 +16,7 @@ module _ {L E H : Type 0} (Represents : Table E → H → List Place → Type 0)
     pub here : now.position ≡ first ahead
     pub steps : Trace start now.links (releases_each gone)
     pub frame : ChangesOnlyIn (table start) (table now.links) s
-    pub within : (q : Place) → IsAbsent q s → IsAbsent q (after ++ ahead)
+    pub adds_none : (q : Place) → IsAbsent q s → IsAbsent q (after ++ ahead)
 
 module _ {L E H : Type 0} {Represents : Table E → H → List Place → Type 0} {table : L → Table E} {Trace : L → L → List LinkStep → Type 0} where
   -- Before the first step the walk has reached no member of s.
@@ -27,7 +27,7 @@ module _ {L E H : Type 0} {Represents : Table E → H → List Place → Type 0}
     here = here;
     steps = nothing;
     frame = record { extent = refl; others = λ q out. refl };
-    within = λ q out. out;
+    adds_none = λ q out. out;
   }
 
   module _ {start : L} {s : List Place} {now : CursorState L H} {after gone ahead : List Place} {p : Place} (w : Walked Represents table Trace start s now after gone (p ∷ ahead)) where
@@ -41,7 +41,7 @@ module _ {L E H : Type 0} {Represents : Table E → H → List Place → Type 0}
           here = moves.leads gap (rw same w.shown) (w.here ∙ sym (last_of_push after p));
           steps = w.steps;
           frame = w.frame;
-          within = λ q out. rw same (w.within q out);
+          adds_none = λ q out. rw same (w.adds_none q out);
         }
 
     -- ONE STEP that removes: the walk removes the member p, and p joins the members that the walk has removed.
@@ -54,6 +54,6 @@ module _ {L E H : Type 0} {Represents : Table E → H → List Place → Type 0}
           shown = off.shows;
           here = e.moved gap w.shown w.here;
           steps = rw (releases_append gone (p ∷ [])) (does_on _ _ _ _ _ w.steps (rw is at e.released));
-          frame = frames_join w.frame off.frame w.within;
-          within = λ q out. absent_without after ahead p q (w.within q out);
+          frame = frames_join w.frame off.frame w.adds_none;
+          adds_none = λ q out. absent_without after ahead p q (w.adds_none q out);
         }

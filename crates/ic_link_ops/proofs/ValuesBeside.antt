@@ -13,8 +13,8 @@ module _ {W V : Type 0} where
       → (i < length es) × ((e : Link W V) → object_at (at_indexes (values_beside es)) p ≡ Some (value_of (slice_index_or es i e)))
   value_read es p {i} at_index placed =
       let there = in_range (values_beside es) p at_index placed in
-      let within : i < length es = omega (arith, there.0, length-map es value_of) in
-      (within, λ e. there.1 (value_of e) ∙ ap Some (get_or-map value_of es i e (value_of e) within))
+      let in_bounds : i < length es = omega (arith, there.0, length-map es value_of) in
+      (in_bounds, λ e. there.1 (value_of e) ∙ ap Some (get_or-map value_of es i e (value_of e) in_bounds))
 
   -- A write of the link e at the place p writes the value of e as the value of p, whatever the words of e are.
   pub value_set : (es : List (Link W V)) (p : Place) (e : Link W V) {i : ℕ} → i ≡ index_of p → index_of p < length es

@@ -69,7 +69,7 @@ impl<W: Words, V: LinkValue> LentTable<'_, W, V> {
     pub(crate) fn slot(&self, place: Place) -> usize
         requires covered { IsCovered (lent_table W.width W.unlinked V.initial V.printed self.now) place }
         ensures value { result ≡ index_of place }
-        ensures within { result < length (lent_entries self.now) }
+        ensures in_bounds { result < length (lent_entries self.now) }
     {
         place.index()
     }

@@ -59,7 +59,7 @@ impl<W: Words, A: Allocator, V: LinkValue> PlainTable<W, A, V> {
     pub(crate) fn slot(&self, place: Place) -> usize
         requires covered { IsCovered (table_beside W.width W.unlinked V.initial V.printed self.now) place }
         ensures value { result ≡ index_of place }
-        ensures within { result < length (entries self.now) }
+        ensures in_bounds { result < length (entries self.now) }
     {
         place.index()
     }
@@ -69,7 +69,7 @@ impl<W: Words, A: Allocator, V: LinkValue> PlainTable<W, A, V> {
     pub(crate) fn slot_of_linked(&self, place: Place) -> usize
         requires linked { IsLinked (linked_by W.is_linked) (table_beside W.width W.unlinked V.initial V.printed self.now) place }
         ensures value { result ≡ index_of place }
-        ensures within { result < length (entries self.now) }
+        ensures in_bounds { result < length (entries self.now) }
     {
         place.index()
     }

@@ -39,18 +39,20 @@ fn doubly<L: LinkedListOps>(
     [links.prev(place), links.next(place)]
 }
 
-// Sets the places before and after a linked place in an XOR list, and returns both as the table has them. The place after it replaces `None`.
+// Sets the places before and after a linked place in an XOR list to the first and the last place, and returns both as the table has them. The place
+// after it replaces `None`.
 fn xor<L: XorLinkedListOps>(
     links: &mut L,
     place: Place,
-    prev: Option<Place>,
-    next: Option<Place>,
+    first: Place,
+    last: Place,
 ) -> [Option<Place>; 2]
     requires linked { IsLinked L.linked (L.table links.old) place }
-    requires prev { IsNameable L.CanName prev }
-    requires next { IsNameable L.CanName next }
+    requires first { L.CanName first }
+    requires last { L.CanName last }
     ensures linked { IsLinked L.linked (L.table links.new) place }
 {
+    let (prev, next) = (Some(first), Some(last));
     links.set(place, prev, None);
     links.replace_next_or_prev(place, None, next);
     [links.prev(place, next), links.next(place, prev)]
@@ -94,7 +96,7 @@ fn four_kinds<L: RBTreeOps + LinkedListOps + SinglyLinkedListOps + XorLinkedList
     let (one, other) = (Some(first), Some(last));
     let is_singly = singly(links, place, other) == other;
     let is_doubly = doubly(links, place, other, None) == [other, None];
-    let is_xor = xor(links, place, one, other) == [one, other];
+    let is_xor = xor(links, place, first, last) == [one, other];
     let is_tree = tree(links, place, first, last) == ([one, other, other], Color::Red);
     [is_singly, is_doubly, is_xor, is_tree]
 }

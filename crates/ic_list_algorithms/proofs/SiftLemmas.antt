@@ -70,7 +70,7 @@ module _ {L E W : Type 0} (between : E → Option Place → Option Place → Typ
     pub shown : RepresentsChain between kept (table new) list (done ++ rest)
     pub keeps : prev ≡ last done
     pub at : current ≡ first rest
-    pub within : (q : Place) → IsAbsent q s → IsAbsent q (done ++ rest)
+    pub adds_none : (q : Place) → IsAbsent q s → IsAbsent q (done ++ rest)
     pub holds : AllByRecursion Holds (done ++ rest)
     pub mixes : (k o : List Place) → IsMix k o rest → IsMix (done ++ k) (out ++ o) s
     pub by_test : Lawful → (sift keep None s ≡ done ++ sift keep prev rest) × (sift_out keep None s ≡ out ++ sift_out keep prev rest)
@@ -88,7 +88,7 @@ module _ {L E W : Type 0} (between : E → Option Place → Option Place → Typ
       shown = shown;
       keeps = refl;
       at = on ∙ shown.head;
-      within = λ q h. h;
+      adds_none = λ q h. h;
       holds = holds;
       mixes = λ k o m. m;
       by_test = λ law. (refl, refl);
@@ -161,7 +161,7 @@ module _ {L E W : Type 0} (between : E → Option Place → Option Place → Typ
         shown = one.shown;
         keeps = one.last_kept;
         at = one.after;
-        within = λ q h. rw (append_assoc k.done (p ∷ []) r) (rw is at (k.within q h));
+        adds_none = λ q h. rw (append_assoc k.done (p ∷ []) r) (rw is at (k.adds_none q h));
         holds = rw (append_assoc k.done (p ∷ []) r) (rw is at k.holds);
         mixes = λ x o m. rw (append_assoc k.done (p ∷ []) x) (k.mixes (p ∷ x) o (rw is (inl (x, refl, m))));
         by_test = λ law.
@@ -172,7 +172,7 @@ module _ {L E W : Type 0} (between : E → Option Place → Option Place → Typ
         released = rw append-nil at (does_on old mid new (releases_each k.out) [] k.released one.released);
         frame = record {
           extent = one.frame.extent ∙ k.frame.extent;
-          others = λ q h. one.frame.others q (rw is at (k.within q h)) ∙ k.frame.others q h;
+          others = λ q h. one.frame.others q (rw is at (k.adds_none q h)) ∙ k.frame.others q h;
         };
       },
       omega (arith, ap length is),
@@ -187,7 +187,7 @@ module _ {L E W : Type 0} (between : E → Option Place → Option Place → Typ
         shown = rw append-nil at one.shown;
         keeps = rw append-nil at one.last_kept;
         at = one.after;
-        within = λ q h. let h' : IsAbsent q (k.done ++ p ∷ r) = rw is at (k.within q h) in absent_both q k.done r (absent_left q k.done (p ∷ r) h') (absent_right q k.done (p ∷ r) h').1;
+        adds_none = λ q h. let h' : IsAbsent q (k.done ++ p ∷ r) = rw is at (k.adds_none q h) in absent_both q k.done r (absent_left q k.done (p ∷ r) h') (absent_right q k.done (p ∷ r) h').1;
         holds =
             let h' : AllByRecursion Holds (k.done ++ p ∷ r) = rw is at k.holds in
             all_both Holds k.done r (all_front Holds k.done (p ∷ r) h') (all_back Holds k.done (p ∷ r) h').1;
@@ -200,7 +200,7 @@ module _ {L E W : Type 0} (between : E → Option Place → Option Place → Typ
         released = rw (releases_append k.out (p ∷ [])) (does_on old mid new (releases_each k.out) (releases_each (p ∷ [])) k.released one.released);
         frame = record {
           extent = one.frame.extent ∙ k.frame.extent;
-          others = λ q h. one.frame.others q (rw is at (k.within q h)) ∙ k.frame.others q h;
+          others = λ q h. one.frame.others q (rw is at (k.adds_none q h)) ∙ k.frame.others q h;
         };
       },
       omega (arith, ap length is),

@@ -16,7 +16,7 @@ part_bytes bs at n are i =
     ]
 
 part_length : (bs : List ℕ) (at n : ℕ) → at + n ≤ length bs → length (take n (drop at bs)) ≡ n
-part_length bs at n within = omega (arith, within, length-take n (drop at bs), length-drop at bs)
+part_length bs at n in_bounds = omega (arith, in_bounds, length-take n (drop at bs), length-drop at bs)
 
 -- four or eight bytes are the same exactly if they are the same number
 module _ (xs ys : List ℕ) (at m n : ℕ) (bytes_xs : AreBytes xs) (bytes_ys : AreBytes ys) where
@@ -54,29 +54,29 @@ alike_at : (text name : List ℕ) (at n k : ℕ) → Alike text name at n → at
 alike_at text name at n k same low high = sym (part_at text at n k low high) ∙ ap (λ (l : List ℕ). get_or l (k - at) 0) same ∙ part_at name at n k low high
 
 begins : (text name : List ℕ) (n : ℕ) → length name ≡ n → n ≤ length text → ((k : ℕ) → k < n → get_or text k 0 ≡ get_or name k 0) → take n text ≡ name
-begins text name n long within same =
-    let as_long : length (take n text) ≡ length name = omega (arith, long, within, length-take n text) in
+begins text name n long in_bounds same =
+    let as_long : length (take n text) ≡ length name = omega (arith, long, in_bounds, length-take n text) in
     ext_get_or 0 (take n text) name as_long
-    (λ k low. let here : k < n = omega (arith, low, long, within, length-take n text) in get_or-take n text k 0 here ∙ same k here)
+    (λ k low. let here : k < n = omega (arith, low, long, in_bounds, length-take n text) in get_or-take n text k 0 here ∙ same k here)
 
 pub alike_within : (text name : List ℕ) (n at m : ℕ) → take n text ≡ name → at + m ≤ n → Alike text name at m
-alike_within text name n at m is within =
-    let sum : at + (n - at) ≡ n = omega (arith, within) in
+alike_within text name n at m is in_bounds =
+    let sum : at + (n - at) ≡ n = omega (arith, in_bounds) in
     let front : drop at (take n text) ≡ take (n - at) (drop at text) = ap (λ i. drop at (take i text)) (sym sum) ∙ drop-take at (n - at) text in
-    sym (ap (λ (l : List ℕ). take m (drop at l)) (sym is) ∙ ap (take m) front ∙ take-take m (n - at) (drop at text) (omega (arith, within)))
+    sym (ap (λ (l : List ℕ). take m (drop at l)) (sym is) ∙ ap (take m) front ∙ take-take m (n - at) (drop at text) (omega (arith, in_bounds)))
 
 -- A NAME OF 4 TO 7 BYTES is found by its first four and its last four bytes. A name of 8 to 24 bytes is found by two or three groups of eight bytes
-module _ (text name : List ℕ) (n : ℕ) (long : length name ≡ n) (within : n ≤ length text) where
+module _ (text name : List ℕ) (n : ℕ) (long : length name ≡ n) (in_bounds : n ≤ length text) where
   pub short_name : 4 ≤ n → n < 8 → Alike text name 0 4 → Alike text name (n - 4) 4 → take n text ≡ name
   short_name low high first last =
-      begins text name n long within (λ k here. elim (cases_lt k 4) [
+      begins text name n long in_bounds (λ k here. elim (cases_lt k 4) [
         | inl before ↦ alike_at text name 0 4 k first (omega arith) (omega (arith, before))
         | inr after ↦ alike_at text name (n - 4) 4 k last (omega (arith, after, high)) (omega (arith, here, low))
       ])
 
   pub long_name : 8 ≤ n → n ≤ 24 → Alike text name 0 8 → (16 < n → Alike text name 8 8) → Alike text name (n - 8) 8 → take n text ≡ name
   long_name low high first mid last =
-      begins text name n long within (λ k here. elim (cases_lt k 8) [
+      begins text name n long in_bounds (λ k here. elim (cases_lt k 8) [
         | inl before ↦ alike_at text name 0 8 k first (omega arith) (omega (arith, before))
         | inr after ↦ elim (cases_lt k (n - 8)) [
           | inl between ↦ alike_at text name 8 8 k (mid (omega (arith, after, between))) after (omega (arith, between, high))

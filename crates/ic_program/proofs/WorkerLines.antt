@@ -17,7 +17,7 @@ lines_more n (l ∷ ls) s =
     ∙ (sym (append_assoc (worker_line n l) (worker_lines (n + 1) ls) (worker_line (n + 1 + length ls) s))
     ∙ ap (λ (k : ℕ). worker_line n l ++ worker_lines (n + 1) ls ++ worker_line k s) same)
 
-module _ {B : Type 0} (lists : List (Vec Place B)) (i : ℕ) (v : Vec Place B) (within : i < length lists) (cut : take (suc i) lists ≡ take i lists ++ v ∷ []) where
+module _ {B : Type 0} (lists : List (Vec Place B)) (i : ℕ) (v : Vec Place B) (in_bounds : i < length lists) (cut : take (suc i) lists ≡ take i lists ++ v ∷ []) where
   lines_to : worker_lines 1 (places_in (take (i + 1) lists)) ≡ worker_lines 1 (places_in (take i lists)) ++ worker_line (i + 1) v.items
   lines_to =
       let before = take i lists in

@@ -182,7 +182,7 @@ pub(crate) fn push_start<const N: usize, M: Allocator>(
 fn short_line(number: u64) -> ([u8; 11], usize)
     requires { number < 1000 }
     ensures line { take result.1 result.0 ≡ codes "object " ++ decimal number ++ codes "\n" }
-    ensures within { result.1 ≤ 11 }
+    ensures in_bounds { result.1 ≤ 11 }
 {
     let [hundreds, tens, ones] = [digit(number / 100), digit(number / 10), digit(number)];
     match number {

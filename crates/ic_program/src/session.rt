@@ -141,7 +141,7 @@ impl<M: Allocator + Copy> Session<M> {
         ensures answered { HowFar result self.old.lines self.new.lines (λ taken others. others ≡ lines (drop taken text.now))
             (Some (lines text.now)) self.old.world self.new.world
             (Some self.old.answers.items) (Some self.new.answers.items) }
-        ensures within { IfOk result (λ taken. taken ≤ length text.now) }
+        ensures in_bounds { IfOk result (λ taken. taken ≤ length text.now) }
         ensures some { IfOk result (λ taken. 0 < taken) }
     {
         let Some(number) = self.lines.checked_add(1) else {
@@ -168,7 +168,7 @@ impl<M: Allocator + Copy> Session<M> {
         ensures answered { HowFar result (self.old.lines - 1) self.new.lines (λ taken others. others ≡ lines (drop taken text.now))
             (Some (lines text.now)) self.old.world self.new.world
             (Some self.old.answers.items) (Some self.new.answers.items) }
-        ensures within { IfOk result (λ taken. taken ≤ length text.now) }
+        ensures in_bounds { IfOk result (λ taken. taken ≤ length text.now) }
         ensures some { IfOk result (λ taken. 0 < taken) }
     {
         let (said, rest) = Line::first_of(text);
@@ -245,7 +245,7 @@ impl<M: Allocator + Copy> Session<M> {
 // Returns how many bytes at the beginning are complete lines.
 fn ended_bytes(bytes: &[u8]) -> usize
     ensures ended { HaveEnded (take result bytes.now) }
-    ensures within { result ≤ length bytes.now }
+    ensures in_bounds { result ≤ length bytes.now }
     ensures feed { 0 < result → HasFeed bytes.now }
 {
     match memrchr(b'\n', bytes) {

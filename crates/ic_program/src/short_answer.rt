@@ -105,7 +105,7 @@ pub(crate) fn replaced(answer: Result<Place, Refusal>) -> ShortAnswer
 #[inline(always)]
 fn line_in_words(words: InWords) -> (&'static [u8; 32], usize)
     ensures line { take result.1 result.0.now ≡ line_of (reply_in_words words) }
-    ensures within { result.1 ≤ 32 }
+    ensures in_bounds { result.1 ≤ 32 }
 {
     match words {
         InWords::Done => (b"ok\n                             ", 3),
@@ -118,7 +118,7 @@ fn line_in_words(words: InWords) -> (&'static [u8; 32], usize)
 #[inline(always)]
 pub(crate) fn refused(refusal: Refusal) -> (&'static [u8; 32], usize)
     ensures line { take result.1 result.0.now ≡ line_of (reply.refused refusal) }
-    ensures within { result.1 ≤ 32 }
+    ensures in_bounds { result.1 ≤ 32 }
 {
     match refusal {
         Refusal::NoSuchField => (b"refused 1 NoSuchField\n          ", 22),

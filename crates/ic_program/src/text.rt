@@ -75,7 +75,7 @@ pub(crate) fn after_line<'l>(text: &'l [u8]) -> Option<&'l [u8]>
 #[inline(never)]
 fn other_line(text: &[u8]) -> Option<usize>
     ensures end { MatchOption result (words_in text.now ≢ []) (λ taken. (words_in text.now ≡ []) × (drop taken text.now ≡ after_first_line text.now)) }
-    ensures within { IfSome result (λ taken. taken ≤ length text.now) }
+    ensures in_bounds { IfSome result (λ taken. taken ≤ length text.now) }
 {
     match after_end(without_spaces(text)) {
         Some(rest) => Some(text.len().saturating_sub(rest.len())),
@@ -132,7 +132,7 @@ pub(crate) fn after_word<'l>(text: &'l [u8]) -> &'l [u8]
 // Returns how many bytes at the beginning of a text are its first word: the bytes before the next space and before the end of the line.
 fn word_length(text: &[u8]) -> usize
     ensures length { result ≡ length (word_in text.now) }
-    ensures within { result ≤ length text.now }
+    ensures in_bounds { result ≤ length text.now }
 {
     for (at, byte) in text.iter().enumerate() {
         if *byte == b' ' || after_end(&text[at..]).is_some() {
@@ -154,7 +154,7 @@ pub(crate) fn first_line<'l>(text: &'l [u8]) -> &'l [u8]
 // Returns how many bytes at the beginning of a text are its first line: the bytes before `\n` or `\r\n`, or all bytes.
 fn line_length(text: &[u8]) -> usize
     ensures length { result ≡ length (line_in text.now) }
-    ensures within { result ≤ length text.now }
+    ensures in_bounds { result ≤ length text.now }
 {
     for (at, _) in text.iter().enumerate() {
         if after_end(&text[at..]).is_some() {

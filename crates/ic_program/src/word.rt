@@ -96,7 +96,7 @@ pub(crate) fn leading_number(text: &[u8]) -> Option<(u64, usize)>
     ensures valid { IsSome result ↔ IsNumber (leading_digits text.now) }
     ensures value { IfSome result (λ read. read.0 ≡ digits_value 10 (leading_digits text.now)) }
     ensures digits { IfSome result (λ read. read.1 ≡ length (leading_digits text.now)) }
-    ensures within { IfSome result (λ read. read.1 ≤ length text.now) }
+    ensures in_bounds { IfSome result (λ read. read.1 ≤ length text.now) }
 {
     let mut number = 0;
     let mut digits = 0;
@@ -142,7 +142,7 @@ pub(crate) fn small_number<'l>(text: &'l [u8]) -> Option<(u64, &'l [u8])>
 #[inline(always)]
 fn few_digits(text: &[u8]) -> Option<(u64, usize)>
     ensures read { IfSome result (λ read. IsLeading text.now read.0 read.1) }
-    ensures within { IfSome result (λ read. (1 ≤ read.1) × (read.1 ≤ 4) × (5 ≤ length text.now)) }
+    ensures in_bounds { IfSome result (λ read. (1 ≤ read.1) × (read.1 ≤ 4) × (5 ≤ length text.now)) }
 {
     if text.len() < 5 {
         return None;

@@ -160,4 +160,4 @@ module _ {words : List RawOne} {hashes : List ℕ} {buckets : List RawFront} whe
 
     -- the words represent no hash table if the next chain has no end, or has a member whose hash leads to another bucket
     pub not_held : i < length buckets → RepresentsNone (IsOwnChain words hashes buckets i) → RepresentsNone (HoldsByHash words hashes buckets)
-    not_held within never s held = never (held.chains i) (record { shown = held.holds.shown i within; own = held.own i within })
+    not_held in_bounds never s held = never (held.chains i) (record { shown = held.holds.shown i in_bounds; own = held.own i in_bounds })

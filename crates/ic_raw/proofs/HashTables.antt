@@ -29,7 +29,7 @@ module _ (buckets : List RawFront) (hash i : ℕ) (at : i ≡ slot_of buckets ha
   }
 
 module _ {old new : List RawOne} {buckets buckets' : List RawFront} {chains : ℕ → List Place} (holds : HoldsChains old buckets chains) (hash : ℕ)
-    (within : slot_of buckets hash < length buckets) (changes : ChangesOnlyChain buckets buckets' hash) where
+    (in_bounds : slot_of buckets hash < length buckets) (changes : ChangesOnlyChain buckets buckets' hash) where
   -- ONE CHAIN IS REPLACED by the chain `after`, and only entries of the places `touched` have changed. The table then holds the new chains, if no
   -- other chain has a member of `after` or `touched`
   pub holds_again : (after touched : List Place) → RepresentsList new (chain_of buckets' hash) after → ChangesOnlyIn (table_of old) (table_of new) touched
@@ -60,12 +60,12 @@ module _ {old new : List RawOne} {buckets buckets' : List RawFront} {chains : �
       → ChangesOnlyIn (table_of old) (table_of new) (p ∷ chains (slot_of buckets hash))
       → HoldsChains new buckets' (with_at chains (slot_of buckets hash) (p ∷ chains (slot_of buckets hash)))
   holds_inserted p free shows frame = holds_again (p ∷ chains (slot_of buckets hash)) (p ∷ chains (slot_of buckets hash)) shows frame (λ i fits other.
-      let away = disjoint_cons p (chains i) (chains (slot_of buckets hash)) (free_absent law (holds.shown i fits) free.unlinked) (holds.apart i (slot_of buckets hash) fits within other) in
+      let away = disjoint_cons p (chains i) (chains (slot_of buckets hash)) (free_absent law (holds.shown i fits) free.unlinked) (holds.apart i (slot_of buckets hash) fits in_bounds other) in
       (away, away))
 
   -- REMOVE: after a member is removed from its chain, the table holds the remaining chains
   pub holds_removed : (front back : List Place) (p : Place) → chains (slot_of buckets hash) ≡ front ++ p ∷ back → RepresentsList new (chain_of buckets' hash) (front ++ back)
       → ChangesOnlyIn (table_of old) (table_of new) (front ++ p ∷ back) → HoldsChains new buckets' (with_at chains (slot_of buckets hash) (front ++ back))
   holds_removed front back p is shows frame = holds_again (front ++ back) (front ++ p ∷ back) shows frame (λ i fits other.
-      let away : IsDisjoint (chains i) (front ++ p ∷ back) = rw (← is) (holds.apart i (slot_of buckets hash) fits within other) in
+      let away : IsDisjoint (chains i) (front ++ p ∷ back) = rw (← is) (holds.apart i (slot_of buckets hash) fits in_bounds other) in
       (away, disjoint_sym (front ++ back) (chains i) (disjoint_remove front back (chains i) p (disjoint_sym (chains i) (front ++ p ∷ back) away))))

@@ -34,7 +34,7 @@ use Rattle.ic_raw.specs.declared.table.RawTable.{RawTable}
 use Rattle.ic_raw.specs.Tables.{raw_entries}
 use Rattle.ic_raw.specs.Tree.{Represents, IsInsertPos, lent_table, table_of}
 use Rattle.ic_raw.specs.Words.{is_linked_three, no_tree_words}
-use Rattle.ic_raw.proofs.Trees.{beside_stands, child_in, hole_told, seen_represents}
+use Rattle.ic_raw.proofs.Trees.{beside_stands, child_in, insert_pos_told, seen_represents}
 
 -- if there are at least as many keys as places, each place of the table has a key
 pub keyed : (t : Table RawThree) (keys : List ℕ) → t.extent.places ≤ length keys → (p : Place) → has_place t p ≡ true → is_placed (at_indexes keys) p ≡ true
@@ -75,7 +75,7 @@ module _ (t : Table RawThree) {root : Option Place} {at : Place → Ordering} {e
   comes_to_end {tree} x none =
       let ends = sent_ends seen_node x.sent none in
       record {
-        hole = rw (x.parent, x.side) ends.insert_pos;
+        insert_pos = rw (x.parent, x.side) ends.insert_pos;
         front_is = x.front ∙ ends.front_is;
         back_is = x.back ∙ ends.back_is;
       }
@@ -146,7 +146,7 @@ pub record IsDown (t : Table RawThree) (root : Option Place) (at : Place → Ord
   pub ends : (s : List Place) (h : trees.Represents seen_node (seen t) root s) → EndsIn t (gap_in (λ q. goes_left equals (at q)) h.tree) way
   pub down : EndsBelow (seen t) (λ q. goes_left equals (at q)) root
   pub turned : HasTurned (λ q. goes_left equals (at q)) way
-  pub within : (S : Place → Bool) → IsClosed seen_node (seen t) root S → AreIn S (way.parent ∷ way.front ∷ way.back ∷ [])
+  pub in_closed_set : (S : Place → Bool) → IsClosed seen_node (seen t) root S → AreIn S (way.parent ∷ way.front ∷ way.back ∷ [])
 
 module _ {t : Table RawThree} {root : Option Place} {at : Place → Ordering} {equals : Side} {way way' : InsertPos} {p : Place} {looks : ℕ} (x : IsAt t root at equals way p looks)
     (is : way' ≡ past way p (goes_left equals (at p))) where
@@ -173,7 +173,7 @@ module _ {t : Table RawThree} {root : Option Place} {at : Place → Ordering} {e
     ends = λ s h. comes_to_end t (comes_on t (x.each s h) (goes_left equals (at p)) is refl refl (sym below) refl) refl;
     down = down_past (seen t) at equals x.down refl refl (sym below);
     turned = turns;
-    within = keeps;
+    in_closed_set = keeps;
   }
 
 -- a key that is not less than a second key is equal to it or greater
@@ -224,7 +224,7 @@ pub record Fits (t : Table RawThree) (root : Option Place) (at : Place → Order
   pub same : join gap ≡ s
   pub border : IsBorder (less_at at) gap
   pub shown : Represents t root (join gap)
-  pub hole : IsInsertPos side t parent gap
+  pub insert_pos : IsInsertPos side t parent gap
 
 pub fits : (t : Table RawThree) → ((q : Place) → is_linked_three (t.entry q) ≡ true → IsCovered t q) → {root parent : Option Place} {at : Place → Ordering} {s : List Place} (way : InsertPos)
     → Represents t root s → parent ≡ way.parent → ((s : List Place) (h : trees.Represents seen_node (seen t) root s) → EndsIn t (gap_in (less_at at) h.tree) way) → Fits t root at s way.side parent
@@ -238,5 +238,5 @@ fits t law {root} {parent} {at} {s} way shown is ends =
       same = same;
       border = gap_border (less_at at) h.tree;
       shown = shows;
-      hole = subst (λ o. IsInsertPos way.side t o gap) (sym is) (hole_told t law way.side way.parent gap shows (ends s h).hole);
+      insert_pos = subst (λ o. IsInsertPos way.side t o gap) (sym is) (insert_pos_told t law way.side way.parent gap shows (ends s h).insert_pos);
     }

@@ -17,7 +17,7 @@ use Rattle.ic_link_ops.proofs.SequenceLemmas.{gap_not, none_not, absent_with, ab
 use Rattle.ic_link_ops.proofs.Times.{one_at_self, one_at_other, times_order, times_absent}
 use Rattle.ic_link_ops.proofs.RepresentedTrees.{no_members, no_root, root_member, holds_linked, holds_out, represents_kept}
 use Rattle.ic_rbtree.specs.Closed.{IsIn, IsClosed}
-use Rattle.ic_rbtree.specs.Insertion as holes
+use Rattle.ic_rbtree.specs.Insertion as insert_positions
 use Rattle.ic_rbtree.specs.Pieces.{Piece, ArePieces, Represented}
 use Rattle.ic_rbtree.specs.Sides.{IsBeside}
 use Rattle.ic_rbtree.proofs.Closed.{in_there}
@@ -63,18 +63,18 @@ insert_pos_beside t Right None cut h = sym (ap last h.0)
 insert_pos_beside t side (Some x) cut h = h.1
 
 -- the place at a position for a child is none or linked
-pub hole_stands : {t : Table RawThree} {root : Option Place} (side : Side) (at : Option Place) (cut : Cut) → Represents t root (join cut) → IsInsertPos side t at cut → IsNoneOrLinked is_linked_three t at
-hole_stands side None cut shown h = λ q e. absurd (none_not q e)
-hole_stands side (Some x) cut shown h = beside_stands side cut shown h.1
+pub insert_pos_stands : {t : Table RawThree} {root : Option Place} (side : Side) (at : Option Place) (cut : Cut) → Represents t root (join cut) → IsInsertPos side t at cut → IsNoneOrLinked is_linked_three t at
+insert_pos_stands side None cut shown h = λ q e. absurd (none_not q e)
+insert_pos_stands side (Some x) cut shown h = beside_stands side cut shown h.1
 
-pub hole_empty : {t : Table RawThree} {root : Option Place} (side : Side) (cut : Cut) → Represents t root (join cut) → IsInsertPos side t None cut → root ≡ None
-hole_empty {t} {root} side cut shown h = no_members (subst (λ s. Represents t root s) (ap (λ s. s ++ cut.back) h.0 ∙ h.1) shown)
+pub insert_pos_empty : {t : Table RawThree} {root : Option Place} (side : Side) (cut : Cut) → Represents t root (join cut) → IsInsertPos side t None cut → root ≡ None
+insert_pos_empty {t} {root} side cut shown h = no_members (subst (λ s. Represents t root s) (ap (λ s. s ++ cut.back) h.0 ∙ h.1) shown)
 
 -- a position for a child in the words that the caller lent is a position for a child in their view
-pub hole_viewed : {es : List RawThree} (t : RawTable RawThree) (side : Side) (at : Option Place) (cut : Cut) → raw_entries t ≡ es → IsInsertPos side (table_of es) at cut
+pub insert_pos_viewed : {es : List RawThree} (t : RawTable RawThree) (side : Side) (at : Option Place) (cut : Cut) → raw_entries t ≡ es → IsInsertPos side (table_of es) at cut
     → IsInsertPos side (lent_table t) at cut
-hole_viewed t side None cut e h = h
-hole_viewed t side (Some q) cut e h = (subst (λ fs. child_on side (node (entry_at no_tree_words fs q)) ≡ None) (sym e) h.0, h.1)
+insert_pos_viewed t side None cut e h = h
+insert_pos_viewed t side (Some q) cut e h = (subst (λ fs. child_on side (node (entry_at no_tree_words fs q)) ≡ None) (sym e) h.0, h.1)
 
 -- an entry that is as before, as an edit reads it, is as before
 pub frame_told : {t u : Table RawThree} {s : List Place} → ChangesOnlyIn (seen t) (seen u) s → ChangesOnlyIn t u s
@@ -110,10 +110,10 @@ module _ (t : Table RawThree) where
   }
 
   -- a position for a child is a position for a child as an edit reads the words
-  pub seen_hole : (side : Side) (at : Option Place) (cut : Cut) → IsInsertPos side t at cut → holes.IsInsertPos seen_node (seen t) at side cut
-  seen_hole side None cut h = h
-  seen_hole Left (Some q) cut h = (ap (named_within t.extent.places) h.0, h.1)
-  seen_hole Right (Some q) cut h = (ap (named_within t.extent.places) h.0, h.1)
+  pub seen_insert_pos : (side : Side) (at : Option Place) (cut : Cut) → IsInsertPos side t at cut → insert_positions.IsInsertPos seen_node (seen t) at side cut
+  seen_insert_pos side None cut h = h
+  seen_insert_pos Left (Some q) cut h = (ap (named_within t.extent.places) h.0, h.1)
+  seen_insert_pos Right (Some q) cut h = (ap (named_within t.extent.places) h.0, h.1)
 
 -- a place of a table belongs to every table of the same extent
 pub in_kept : (t u : Table RawThree) (at : Option Place) → u.extent ≡ t.extent → IsIn (has_place t) at → IsIn (has_place u) at
@@ -166,10 +166,10 @@ module _ (t : Table RawThree) (law : (q : Place) → is_linked_three (t.entry q)
     positive (suc m) e = omega (arith, e)
 
   -- a position for a child, as an edit reads the words, is a position for a child in the words themselves
-  pub hole_told : {root : Option Place} (side : Side) (at : Option Place) (cut : Cut) → Represents t root (join cut) → holes.IsInsertPos seen_node (seen t) at side cut → IsInsertPos side t at cut
-  hole_told side None cut shown h = h
-  hole_told Left (Some q) cut shown h = (sym (within shown q (beside_member Left cut h.1 refl)).left ∙ h.0, h.1)
-  hole_told Right (Some q) cut shown h = (sym (within shown q (beside_member Right cut h.1 refl)).right ∙ h.0, h.1)
+  pub insert_pos_told : {root : Option Place} (side : Side) (at : Option Place) (cut : Cut) → Represents t root (join cut) → insert_positions.IsInsertPos seen_node (seen t) at side cut → IsInsertPos side t at cut
+  insert_pos_told side None cut shown h = h
+  insert_pos_told Left (Some q) cut shown h = (sym (within shown q (beside_member Left cut h.1 refl)).left ∙ h.0, h.1)
+  insert_pos_told Right (Some q) cut shown h = (sym (within shown q (beside_member Right cut h.1 refl)).right ∙ h.0, h.1)
 
   seen_tree : (up : Option Place) (tree : Tree) → IsTree node t.entry up tree → IsIn (has_place t) up → IsTree seen_node (seen t).entry up tree
   seen_tree up leaf h i = tt

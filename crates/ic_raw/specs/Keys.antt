@@ -47,7 +47,7 @@ past way p false = record { parent = Some p; side = Right; front = Some p; back 
 
 -- THE WAY DOWN ENDS in this gap: the last place on the way has no child on the side to which the search goes, as an edit reads the words
 pub record EndsIn (t : Table RawThree) (gap : Cut) (way : InsertPos) : Type 0 where
-  pub hole : IsInsertPos seen_node (seen t) way.parent way.side gap
+  pub insert_pos : IsInsertPos seen_node (seen t) way.parent way.side gap
   pub front_is : way.front ≡ last gap.front
   pub back_is : way.back ≡ first gap.back
 

@@ -104,7 +104,7 @@ module _ {W : Type 0} (words : LinkWords W) (old new : List W) (status : ℕ) wh
   pub record MoveCall (side : GapSide) (at place : Option Place) : Type 0 where
     pub apart : (h p : Place) (r s : List Place) → at ≡ Some h → place ≡ Some p → IsCircle words (table_of words old) (p ∷ r) → IsCircle words (table_of words old) (h ∷ s)
         → IsDisjoint (p ∷ r) (h ∷ s) → IsAccepted status (MakesTwo words (table_of words old) (table_of words new) (p ∷ r ++ h ∷ s) r (put_in side h p s))
-    pub within : (h p : Place) (r s : List Place) → at ≡ Some h → place ≡ Some p → IsCircle words (table_of words old) (p ∷ r ++ h ∷ s)
+    pub in_circle : (h p : Place) (r s : List Place) → at ≡ Some h → place ≡ Some p → IsCircle words (table_of words old) (p ∷ r ++ h ∷ s)
         → IsAccepted status (Makes words (table_of words old) (table_of words new) (p ∷ r ++ h ∷ s) (put_in side h p (s ++ r)))
     pub itself : (p : Place) (r : List Place) → at ≡ Some p → place ≡ Some p → IsCircle words (table_of words old) (p ∷ r) → IsAccepted status (new ≡ old)
     pub links_back : (p : Place) → place ≡ Some p → status ≡ OK → IsAmid words old p

@@ -24,7 +24,7 @@ module _ (keys : List ℕ) (old new : List RawThree) (status : ℕ) where
     pub enough : status ≡ OK → length old ≤ length keys
     pub root : status ≡ OK → IsNoneOrLinkedIn old (root_in tree)
     pub linked : (p : Place) → place ≡ Some p → status ≡ OK → LinksAlso is_linked_three (table_of old) (table_of new) p
-    pub within : status ≡ OK → StaysWithin (table_of old) (table_of new) (root_in tree) (root_in tree') place None []
+    pub in_closed_set : status ≡ OK → StaysWithin (table_of old) (table_of new) (root_in tree) (root_in tree') place None []
     pub words : status ≡ OK → IsWritten tree'
     pub refused : status ≢ OK → (new ≡ old) × (tree' ≡ tree)
     pub why : status ≢ OK → status ≡ refusal (keys_fault keys (length old) ∷ fault_of old place ∷ [])

@@ -6,7 +6,7 @@ use Rattle.ic_link_ops.specs.Frames.{child_on}
 use Rattle.ic_link_ops.specs.RedBlackTree as trees
 use Rattle.ic_link_ops.specs.RedBlackTree.{Node}
 use Rattle.ic_link_ops.specs.PlainTables as plain
-use Rattle.ic_rbtree.specs.Insertion as holes
+use Rattle.ic_rbtree.specs.Insertion as insert_positions
 use Rattle.ic_raw.specs.declared.words.RawThree.{RawThree}
 use Rattle.ic_raw.specs.declared.words.RawRoot.{RawRoot}
 use Rattle.ic_raw.specs.declared.table.RawTable.{RawTable}
@@ -44,7 +44,7 @@ IsWritten t = t ≡ word_of_root (root_in t)
 -- A POSITION FOR A CHILD on this side of the member `at`, which has no child there: a new member comes before `at` on the left side, and after `at`
 -- on the right. If `at` is none, the tree is empty
 abbrev pub IsInsertPos : Side → Table RawThree → Option Place → Cut → Type 0
-IsInsertPos side t at cut = holes.IsInsertPos node t at side cut
+IsInsertPos side t at cut = insert_positions.IsInsertPos node t at side cut
 
 -- THE LINKS CONFIRM A POSITION FOR A CHILD: the place has no child on this side, or, if no place is given, the tree has no root
 abbrev pub TellsInsertPos : Side → Table RawThree → (root : Option Place) → Option Place → Type 0

@@ -33,7 +33,7 @@ module _ (old new : List RawThree) (tree tree' : RawRoot) (status : ℕ) where
     pub root : status ≡ OK → IsNoneOrLinkedIn old (root_in tree)
     pub links_back : status ≡ OK → TellsInsertPos side (table_of old) (root_in tree) at
     pub linked : (p : Place) → place ≡ Some p → status ≡ OK → LinksAlso is_linked_three (table_of old) (table_of new) p
-    pub within : status ≡ OK → StaysWithin (table_of old) (table_of new) (root_in tree) (root_in tree') place None (at ∷ [])
+    pub in_closed_set : status ≡ OK → StaysWithin (table_of old) (table_of new) (root_in tree) (root_in tree') place None (at ∷ [])
     pub words : status ≡ OK → IsWritten tree'
     pub refused : status ≢ OK → (new ≡ old) × (tree' ≡ tree)
     pub why : status ≢ OK → status ≡ refusal (fault_at old at ∷ fault_of old place ∷ [])
@@ -47,7 +47,7 @@ module _ (old new : List RawThree) (tree tree' : RawRoot) (status : ℕ) where
     pub root : status ≡ OK → IsNoneOrLinkedIn old (root_in tree)
     pub own : (p : Place) → at ≡ Some p → status ≡ OK → IsOwn p
     pub unlinked : (p : Place) → at ≡ Some p → status ≡ OK → Unlinks is_linked_three (table_of old) (table_of new) p
-    pub within : status ≡ OK → StaysWithin (table_of old) (table_of new) (root_in tree) (root_in tree') None at (at ∷ [])
+    pub in_closed_set : status ≡ OK → StaysWithin (table_of old) (table_of new) (root_in tree) (root_in tree') None at (at ∷ [])
     pub words : status ≡ OK → IsWritten tree'
     pub refused : status ≢ OK → (new ≡ old) × (tree' ≡ tree)
     pub why : status ≢ OK → status ≢ NULL → status ≡ refusal (fault_at old at ∷ [])
@@ -64,7 +64,7 @@ module _ (old new : List RawThree) (tree tree' : RawRoot) (status : ℕ) where
     pub own : (p : Place) → at ≡ Some p → status ≡ OK → IsOwn p
     pub exchanged : (out p : Place) → at ≡ Some out → place ≡ Some p → status ≡ OK
         → Exchanges is_linked_three (table_of old) (table_of new) p out
-    pub within : status ≡ OK → StaysWithin (table_of old) (table_of new) (root_in tree) (root_in tree') place at (at ∷ [])
+    pub in_closed_set : status ≡ OK → StaysWithin (table_of old) (table_of new) (root_in tree) (root_in tree') place at (at ∷ [])
     pub words : status ≡ OK → IsWritten tree'
     pub refused : status ≢ OK → (new ≡ old) × (tree' ≡ tree)
     pub why : status ≢ OK → status ≢ NULL → status ≡ refusal (fault_at old at ∷ fault_of old place ∷ [])

@@ -94,7 +94,7 @@ fn own_members(
     at: usize,
 ) -> Option<usize>
     requires hashes { (singly.lent_table links.now).extent.places ≤ length hashes.now }
-    requires within { at < length buckets.now }
+    requires in_bounds { at < length buckets.now }
     ensures { MatchOption result (RepresentsNone (IsOwnChain (raw_entries links.now) hashes.now buckets.now at))
         (IsRepresented (IsOwnChain (raw_entries links.now) hashes.now buckets.now at)) }
 {

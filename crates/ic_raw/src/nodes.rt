@@ -34,12 +34,12 @@ impl RawTable<'_, RawThree> {
         ensures { result ≡ named_within (lent_table self.now).extent.places (place_in word) }
     {
         let number = word / 8 % 8_589_934_592 * 8;
-        let within = if number <= 8 * self.entries.len() as u64 {
+        let word_in_bounds = if number <= 8 * self.entries.len() as u64 {
             number
         } else {
             0
         };
-        Place::from_word(within)
+        Place::from_word(word_in_bounds)
     }
 
     // Returns whether a word names the place `place`. The function compares the numbers of the two places, because a number beyond the table differs

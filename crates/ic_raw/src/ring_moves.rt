@@ -114,7 +114,7 @@ pub(crate) fn move_beside<W: PrevPlace>(
     ensures apart { (r s : List Place) → IsCircle W.PrevPlace (lent_table W.PrevPlace links.old) (place ∷ r) → IsCircle W.PrevPlace (lent_table W.PrevPlace links.old) (at ∷ s)
         → IsDisjoint (place ∷ r) (at ∷ s)
         → (result ≡ true) × MakesTwo W.PrevPlace (lent_table W.PrevPlace links.old) (lent_table W.PrevPlace links.new) (place ∷ r ++ at ∷ s) r (put_in side at place s) }
-    ensures within { (r s : List Place) → IsCircle W.PrevPlace (lent_table W.PrevPlace links.old) (place ∷ r ++ at ∷ s)
+    ensures in_circle { (r s : List Place) → IsCircle W.PrevPlace (lent_table W.PrevPlace links.old) (place ∷ r ++ at ∷ s)
         → (result ≡ true) × Makes W.PrevPlace (lent_table W.PrevPlace links.old) (lent_table W.PrevPlace links.new) (place ∷ r ++ at ∷ s) (put_in side at place (s ++ r)) }
     ensures itself { (r : List Place) → at ≡ place → IsCircle W.PrevPlace (lent_table W.PrevPlace links.old) (place ∷ r) → (result ≡ true) × (links.new ≡ links.old) }
     ensures before { result ≡ true → (q : Place) × AreLinked W.PrevPlace (lent_table W.PrevPlace links.old) q place }

@@ -234,7 +234,7 @@ fn descend(
     ensures down { result ≢ None
         → EndsBelow (seen (lent_table links.now)) (λ p. goes_left equals (against key keys.now p)) (root_of tree.now) }
     ensures turned { IfSome result (λ way. HasTurned (λ p. goes_left equals (against key keys.now p)) way) }
-    ensures within { (S : Place → Bool) → IsClosed seen_node (seen (lent_table links.now)) (root_of tree.now) S
+    ensures in_closed_set { (S : Place → Bool) → IsClosed seen_node (seen (lent_table links.now)) (root_of tree.now) S
         → IfSome result (λ way. AreIn S (way.parent ∷ way.front ∷ way.back ∷ [])) }
 {
     let mut way = InsertPos::new();
@@ -286,7 +286,7 @@ pub(crate) fn find(
         → (member : Option Place) × (result ≡ Some member) × IsTarget target (against key keys.now) s member }
     ensures ended { result ≢ None → SearchEnds target keys.now key (lent_table links.now) (root_of tree.now) }
     ensures bounded { (q : Place) → result ≡ Some (Some q) → Meets target (against key keys.now q) }
-    ensures within { (S : Place → Bool) → IsClosed seen_node (seen (lent_table links.now)) (root_of tree.now) S → IfSome result (λ member. IsIn S member) }
+    ensures in_closed_set { (S : Place → Bool) → IsClosed seen_node (seen (lent_table links.now)) (root_of tree.now) S → IfSome result (λ member. IsIn S member) }
 {
     let Some(way) = descend(links, tree, keys, key, equals_of(target)) else {
         return None;
@@ -353,9 +353,9 @@ pub(crate) fn insert<S: Surgery>(
     ensures keys { result ≡ true → (lent_table links.old).extent.places ≤ length keys.now }
     ensures root { result ≡ true → IsNoneOrLinked is_linked_three (lent_table links.old) (root_of tree.old) }
     ensures linked { (p : Place) → place ≡ Some p → result ≡ true → LinksAlso is_linked_three (lent_table links.old) (lent_table links.new) p }
-    ensures within { result ≡ true
+    ensures in_closed_set { result ≡ true
         → StaysWithin (lent_table links.old) (lent_table links.new) (root_of tree.old) (root_of tree.new) place None [] }
-    ensures told { (p : Place) → place ≡ Some p → result ≡ true
+    ensures reported { (p : Place) → place ≡ Some p → result ≡ true
         → ReportsInsertion S.Reports surgery.old surgery.new (lent_table links.old) (lent_table links.new) p }
     ensures refused { result ≡ false → (links.new ≡ links.old) × (tree.new ≡ tree.old) }
     ensures extent { (lent_table links.new).extent ≡ (lent_table links.old).extent }

@@ -41,7 +41,7 @@ pub fn insert_by<S: Surgery>(
     place: u32,
 ) -> u32
     ensures call { PutCall keys.now table.old table.new result tree.old tree.new (place_of place) }
-    ensures told { (p : Place) → place_of place ≡ Some p → result ≡ OK
+    ensures reported { (p : Place) → place_of place ≡ Some p → result ≡ OK
         → HoldsOfViews table.old table.new (λ old new. ReportsInsertion S.Reports by.old by.new old new p) }
 {
     let mut links = RawTable::new(table);

@@ -39,7 +39,7 @@ pub trait Surgery {
         ensures attached { Attaches seen_node (seen (lent_table links.old)) (seen (lent_table links.new)) (root_of tree.old) (root_of tree.new) parent side place }
         ensures safe { ClosesAt seen_node (seen (lent_table links.old)) (seen (lent_table links.new)) (root_of tree.old) (root_of tree.new) place (Some place ∷ parent ∷ []) }
         ensures keeps_links { KeepsMarks (lent_table links.old) (lent_table links.new) }
-        ensures told { Reports self.old self.new (lent_table links.old) (lent_table links.new) };
+        ensures reported { Reports self.old self.new (lent_table links.old) (lent_table links.new) };
 
     /// Removes the member, as [`RBTree::unlink`] does. O(log n).
     fn unlink(&mut self, links: &mut RawTable<'_, RawThree>, tree: &mut RBTree<()>, place: Place)
@@ -47,7 +47,7 @@ pub trait Surgery {
         ensures taken { TakesAway seen_node (seen (lent_table links.old)) (seen (lent_table links.new)) (root_of tree.old) (root_of tree.new) place }
         ensures safe { StaysClosed seen_node (seen (lent_table links.old)) (seen (lent_table links.new)) (root_of tree.old) (root_of tree.new) (Some place ∷ []) [] }
         ensures keeps_links { KeepsMarks (lent_table links.old) (lent_table links.new) }
-        ensures told { Reports self.old self.new (lent_table links.old) (lent_table links.new) };
+        ensures reported { Reports self.old self.new (lent_table links.old) (lent_table links.new) };
 }
 
 /// The implementation that inserts and removes members and records nothing.

@@ -85,7 +85,7 @@ impl<W: Words> RawTable<'_, W> {
     fn slot(&self, place: Place) -> usize
         requires covered { IsCovered (nameable_table W.width W.unlinked self.now) place }
         ensures value { result ≡ index_of place }
-        ensures within { result < length (raw_entries self.now) }
+        ensures in_bounds { result < length (raw_entries self.now) }
     {
         place.index()
     }
@@ -95,7 +95,7 @@ impl<W: Words> RawTable<'_, W> {
     fn slot_of_linked(&self, place: Place) -> usize
         requires linked { IsLinked W.is_linked (nameable_table W.width W.unlinked self.now) place }
         ensures value { result ≡ index_of place }
-        ensures within { result < length (raw_entries self.now) }
+        ensures in_bounds { result < length (raw_entries self.now) }
     {
         place.index()
     }

@@ -156,9 +156,9 @@ pub(crate) fn put<S: Surgery>(
         → (result ≡ true) × Inserts Represents (lent_table links.old) (lent_table links.new) (root_of tree.new) cut p }
     ensures free { result ≡ true → (p : Place) × (place ≡ Some p) × IsFree is_linked_three (lent_table links.old) p }
     ensures linked { (p : Place) → place ≡ Some p → result ≡ true → LinksAlso is_linked_three (lent_table links.old) (lent_table links.new) p }
-    ensures within { result ≡ true
+    ensures in_closed_set { result ≡ true
         → StaysWithin (lent_table links.old) (lent_table links.new) (root_of tree.old) (root_of tree.new) place None (at ∷ []) }
-    ensures told { (p : Place) → place ≡ Some p → result ≡ true
+    ensures reported { (p : Place) → place ≡ Some p → result ≡ true
         → ReportsInsertion S.Reports surgery.old surgery.new (lent_table links.old) (lent_table links.new) p }
     ensures refused { result ≡ false → (links.new ≡ links.old) × (tree.new ≡ tree.old) }
     ensures extent { (lent_table links.new).extent ≡ (lent_table links.old).extent }
@@ -188,9 +188,9 @@ pub(crate) fn insert<S: Surgery>(
     ensures root { result ≡ true → IsNoneOrLinked is_linked_three (lent_table links.old) (root_of tree.old) }
     ensures links_back { result ≡ true → TellsInsertPos side (lent_table links.old) (root_of tree.old) at }
     ensures linked { (p : Place) → place ≡ Some p → result ≡ true → LinksAlso is_linked_three (lent_table links.old) (lent_table links.new) p }
-    ensures within { result ≡ true
+    ensures in_closed_set { result ≡ true
         → StaysWithin (lent_table links.old) (lent_table links.new) (root_of tree.old) (root_of tree.new) place None (at ∷ []) }
-    ensures told { (p : Place) → place ≡ Some p → result ≡ true
+    ensures reported { (p : Place) → place ≡ Some p → result ≡ true
         → ReportsInsertion S.Reports surgery.old surgery.new (lent_table links.old) (lent_table links.new) p }
     ensures refused { result ≡ false → (links.new ≡ links.old) × (tree.new ≡ tree.old) }
     ensures extent { (lent_table links.new).extent ≡ (lent_table links.old).extent }
@@ -216,9 +216,9 @@ pub(crate) fn remove<S: Surgery>(
     ensures root { result ≡ true → IsNoneOrLinked is_linked_three (lent_table links.old) (root_of tree.old) }
     ensures own { result ≡ true → (node_at node (lent_table links.old) member).parent ≡ None → root_of tree.old ≡ Some member }
     ensures unlinked { result ≡ true → Unlinks is_linked_three (lent_table links.old) (lent_table links.new) member }
-    ensures within { result ≡ true → StaysWithin (lent_table links.old) (lent_table links.new) (root_of tree.old) (root_of tree.new) None (Some member)
+    ensures in_closed_set { result ≡ true → StaysWithin (lent_table links.old) (lent_table links.new) (root_of tree.old) (root_of tree.new) None (Some member)
         (Some member ∷ []) }
-    ensures told { result ≡ true → ReportsRemoval S.Reports surgery.old surgery.new (lent_table links.old) (lent_table links.new) member }
+    ensures reported { result ≡ true → ReportsRemoval S.Reports surgery.old surgery.new (lent_table links.old) (lent_table links.new) member }
     ensures refused { result ≡ false → (links.new ≡ links.old) × (tree.new ≡ tree.old) }
     ensures extent { (lent_table links.new).extent ≡ (lent_table links.old).extent }
 {
@@ -248,7 +248,7 @@ pub(crate) fn replace(
     ensures own { result ≡ true → (node_at node (lent_table links.old) member).parent ≡ None → root_of tree.old ≡ Some member }
     ensures exchanged { (p : Place) → place ≡ Some p → result ≡ true
         → Exchanges is_linked_three (lent_table links.old) (lent_table links.new) p member }
-    ensures within { result ≡ true → StaysWithin (lent_table links.old) (lent_table links.new) (root_of tree.old) (root_of tree.new) place (Some member)
+    ensures in_closed_set { result ≡ true → StaysWithin (lent_table links.old) (lent_table links.new) (root_of tree.old) (root_of tree.new) place (Some member)
         (Some member ∷ []) }
     ensures refused { result ≡ false → (links.new ≡ links.old) × (tree.new ≡ tree.old) }
     ensures extent { (lent_table links.new).extent ≡ (lent_table links.old).extent }

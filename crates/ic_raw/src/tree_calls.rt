@@ -56,7 +56,7 @@ pub fn insert_at_by<S: Surgery>(
     place: u32,
 ) -> u32
     ensures call { InsertCall table.old table.new tree.old tree.new result side (place_of at) (place_of place) }
-    ensures told { (p : Place) → place_of place ≡ Some p → result ≡ OK
+    ensures reported { (p : Place) → place_of place ≡ Some p → result ≡ OK
         → HoldsOfViews table.old table.new (λ old new. ReportsInsertion S.Reports by.old by.new old new p) }
 {
     let mut links = RawTable::new(table);
@@ -87,7 +87,7 @@ pub fn remove(table: &mut [RawThree], tree: &mut RawRoot, at: u32) -> u32
 #[inline]
 pub fn remove_by<S: Surgery>(by: &mut S, table: &mut [RawThree], tree: &mut RawRoot, at: u32) -> u32
     ensures call { RemoveCall table.old table.new tree.old tree.new result (place_of at) }
-    ensures told { (p : Place) → place_of at ≡ Some p → result ≡ OK
+    ensures reported { (p : Place) → place_of at ≡ Some p → result ≡ OK
         → HoldsOfViews table.old table.new (λ old new. ReportsRemoval S.Reports by.old by.new old new p) }
 {
     let Some(member) = place_of(at) else {

@@ -47,7 +47,7 @@ fn first_below(
         → IsSummedTree kind (lent_table links.now) sums.now t → height t ≤ 67 → done ≡ total kind (value_at sums.now) s
         → done ≤ bound → bound < total kind (value_at sums.now) (s ++ in_order t)
         → (m : Place) × (result ≡ Some m) × IsFirstBeyond kind (value_at sums.now) s bound (in_order t) (Some m) }
-    ensures within { (S : Place → Bool) → IsClosed seen_node (seen (lent_table links.now)) None S → S place ≡ true → IsIn S result }
+    ensures in_closed_set { (S : Place → Bool) → IsClosed seen_node (seen (lent_table links.now)) None S → S place ≡ true → IsIn S result }
 {
     let mut place = place;
     let mut done = done;
@@ -83,7 +83,7 @@ fn first_above(
         → IsSummedTree kind (lent_table links.now) sums.now (plug fs t) → length fs < 67 → done ≡ total kind (value_at sums.now) s → done ≤ bound
         → (position : Option Place) × (result ≡ Some position) × IsFirstBeyond kind (value_at sums.now) s bound (after fs) position }
     ensures ended { result ≡ Some None → EndsAbove (lent_table links.now) (Some place) }
-    ensures within { (S : Place → Bool) → IsClosed seen_node (seen (lent_table links.now)) None S → S place ≡ true → IfSome result (λ position. IsIn S position) }
+    ensures in_closed_set { (S : Place → Bool) → IsClosed seen_node (seen (lent_table links.now)) None S → S place ≡ true → IfSome result (λ position. IsIn S position) }
 {
     let mut place = place;
     let mut done = done;
@@ -137,7 +137,7 @@ pub(crate) fn find(
     ensures found { (cut : Cut) → IsSeen (lent_table links.now) root (join cut) → IsAfter cut at → IsSummed kind (lent_table links.now) sums.now (join cut)
         → (position : Option Place) × (result ≡ Some position) × IsFirstBeyond kind (value_at sums.now) [] bound cut.back position }
     ensures ended { result ≡ Some None → FindEnds (lent_table links.now) sums.now root at bound }
-    ensures within { (S : Place → Bool) → IsClosed seen_node (seen (lent_table links.now)) root S → IsIn S at → IfSome result (λ position. IsIn S position) }
+    ensures in_closed_set { (S : Place → Bool) → IsClosed seen_node (seen (lent_table links.now)) root S → IsIn S at → IfSome result (λ position. IsIn S position) }
 {
     let below = next_end(links, root, at);
     let done = sum_below(sums, below);
@@ -169,7 +169,7 @@ pub(crate) fn overlap(
         → IsSorted nat_cmp (map (key_of starts.now) cut.back)
         → result ≡ Some (first (filter (overlaps (key_of starts.now) (value_at sums.now) from to) cut.back)) }
     ensures ended { result ≡ Some None → OverlapEnds (lent_table links.now) sums.now root at starts.now from to }
-    ensures within { (S : Place → Bool) → IsClosed seen_node (seen (lent_table links.now)) root S → IsIn S at → IfSome result (λ position. IsIn S position) }
+    ensures in_closed_set { (S : Place → Bool) → IsClosed seen_node (seen (lent_table links.now)) root S → IsIn S at → IfSome result (λ position. IsIn S position) }
 {
     let position = find(links, sums, Kind::Greatest, root, at, from)?;
     let Some(member) = position else {

@@ -296,8 +296,8 @@ pub all_stand : (hashes : List ℕ) (t : RawTable RawOne) {buckets : List RawFro
     → (s : List Place) → AllByRecursion (LeadsToLinked (lent_table t) hashes buckets) s
 all_stand hashes t holds any [] = tt
 all_stand hashes t {buckets} {chains} holds any (p ∷ s) =
-    let within : slot_for hashes (length buckets) p < length buckets = mod-lt (key_of hashes p) (omega (arith, any)) in
-    (stand_front (chains (slot_for hashes (length buckets) p)) (viewed no_word kept t refl (holds.shown (slot_for hashes (length buckets) p) within)), all_stand hashes t holds any s)
+    let in_bounds : slot_for hashes (length buckets) p < length buckets = mod-lt (key_of hashes p) (omega (arith, any)) in
+    (stand_front (chains (slot_for hashes (length buckets) p)) (viewed no_word kept t refl (holds.shown (slot_for hashes (length buckets) p) in_bounds)), all_stand hashes t holds any s)
 
 -- if a list is reversed and its members are spread, only entries of its members change
 pub both_frames : {t u v : Table RawOne} (s : List Place) → ChangesOnlyIn t u s → ChangesOnlyIn u v (reverse s) → ChangesOnlyIn t v s

@@ -46,8 +46,8 @@ inwards_other Right front p back distinct is same =
 
 -- a position at which the child of `at` is missing is below `at` on the given side
 pub insert_pos_below : (t : Table RawThree) (side : Side) (at : Option Place) (cut : Cut) → IsInsertPos side t at cut → IsBelow at side cut
-insert_pos_below t side None cut hole = hole
-insert_pos_below t side (Some q) cut hole = hole.1
+insert_pos_below t side None cut insert_pos = insert_pos
+insert_pos_below t side (Some q) cut insert_pos = insert_pos.1
 
 -- A PLACE IS INSERTED as a child of `at`: the new end of the sequence follows from the old end
 pub end_comes : (d : Side) (at : Option Place) (side : Side) (cut : Cut) (p : Place) {end : Option Place} → IsBelow at side cut → IsDistinct (join cut)
@@ -114,4 +114,4 @@ has_viewed t (Some p) view within = let back : has_place (table_of (raw_entries 
 pub put_in : {keys : List ℕ} {old new : List RawThree} {status : ℕ} {tree tree' : RawRoot} {place : Option Place} → PutCall keys old new status tree tree' place
     → (p : Place) → place ≡ Some p → status ≡ 0 → AreIn (has_place (table_of new)) (Some p ∷ root_in tree' ∷ [])
 put_in {new = new} put p is made =
-    (stands_in new (Some p) (λ q e. subst (IsLinked is_linked_three (table_of new)) (some_same e) (put.linked p is made).is), ((put.within made).starts, tt))
+    (stands_in new (Some p) (λ q e. subst (IsLinked is_linked_three (table_of new)) (some_same e) (put.linked p is made).is), ((put.in_closed_set made).starts, tt))

@@ -1,4 +1,4 @@
--- A new member is inserted into a hole, which is a missing child.
+-- A new member is inserted into an insert position, which is a missing child.
 use Rattle.std.proofs.Common.{◌≡◌, ◌≢◌, ◌+◌, ◌≤◌, Bool, true, false, Option, Some, None, List, [], ◌∷◌, ◌++◌, refl, sym, ap, ◌∙◌, subst, arith, append-nil, append_assoc, inl, inr}
 use Rattle.ic_link_ops.specs.Prelude.{Place, Cut, join, first, last_or, IsAbsent, Table, ChangesOnly, IsLinked, IsUnlinked}
 use Rattle.ic_unsafe_ref.proofs.PlaceLemmas.{same_or_not}
@@ -41,7 +41,8 @@ ends o (x ∷ z ∷ s) p e h = let r = ends_on x z s p e in (x ∷ r.0, ap (λ (
   ends_on x z (y ∷ s) p e = let r = ends_on z y s p e in (z ∷ r.0, ap (λ (k : List Place). z ∷ k) r.1)
 
 module _ {E : Type 0} (n : E → Node) where
-  -- THE HOLE IN THE TREE: the member q has no child on side d. The tree around this hole has the members `front` before the hole and `back` after the hole
+  -- THE INSERT POSITION IN THE TREE: the member q has no child on side d. The tree around this insert position has the members `front` before the insert
+  -- position and `back` after the insert position
   pub record InsertPos (base v : Table E) (root : Option Place) (d : Side) (q : Place) (front back : List Place) (ps : List Piece) : Type 0 where
     pub c : Color
     pub b : Tree
@@ -165,14 +166,14 @@ module _ {E : Type 0} (n : E → Node) where
         let c : times q h.tree ≡ 0 = sym (times_order q h.tree) ∙ (ap (λ (s : List Place). times_in q s) h.order ∙ b) in
         h.stands.beside q (omega arith) ∙ only.others q k
 
-  pub hole_linked : {base v : Table E} {root : Option Place} {d : Side} {q : Place} {front back : List Place} {ps : List Piece} → InsertPos base v root d q front back ps → (n (v.entry q)).linked ≡ true
-  hole_linked {base} {v} {root} {d} {q} x = side_linked n v.entry d q x.c None (top x.b) (above x.fs) x.stands.are.0.0.0
+  pub insert_pos_linked : {base v : Table E} {root : Option Place} {d : Side} {q : Place} {front back : List Place} {ps : List Piece} → InsertPos base v root d q front back ps → (n (v.entry q)).linked ≡ true
+  insert_pos_linked {base} {v} {root} {d} {q} x = side_linked n v.entry d q x.c None (top x.b) (above x.fs) x.stands.are.0.0.0
 
-  -- if another place p is linked, a hole of the tree is still at the gap where it was
-  pub hole_kept : (linked : E → Bool) → ((e : E) → (n e).linked ≡ linked e) → (old v : Table E) (root parent : Option Place) (d : Side) (gap : Cut) (p : Place) → Represents n old root (join gap)
+  -- if another place p is linked, an insert position of the tree is still at the gap where it was
+  pub insert_pos_kept : (linked : E → Bool) → ((e : E) → (n e).linked ≡ linked e) → (old v : Table E) (root parent : Option Place) (d : Side) (gap : Cut) (p : Place) → Represents n old root (join gap)
       → IsUnlinked linked old p → ChangesOnly old v p → IsInsertPos n old parent d gap → IsInsertPos n v parent d gap
-  hole_kept linked alike old v root None d gap p h was only at = at
-  hole_kept linked alike old v root (Some q) d gap p h was only at =
-      let l = hole_linked (insert_pos (Some q) q d gap refl (represented_of n h) at) in
+  insert_pos_kept linked alike old v root None d gap p h was only at = at
+  insert_pos_kept linked alike old v root (Some q) d gap p h was only at =
+      let l = insert_pos_linked (insert_pos (Some q) q d gap refl (represented_of n h) at) in
       let other : q ≢ p = λ e. let m : true ≡ false = sym l ∙ (alike (old.entry q) ∙ (ap (λ (z : Place). linked (old.entry z)) e ∙ was)) in cc in
       (ap (λ (e : E). child_on d (n e)) (only.others q other) ∙ at.0, at.1)

@@ -1,4 +1,4 @@
--- Lemmas about the step from a position in a represented tree to the member beside the position, and about the hole between them.
+-- Lemmas about the step from a position in a represented tree to the member beside the position, and about the insert position between them.
 use Rattle.std.proofs.Common.{◌≡◌, ◌<◌, Option, Some, None, List, [], ◌∷◌, refl, sym, ap, ◌∙◌, subst}
 use Rattle.ic_link_ops.specs.Prelude.{Place, Cut, join, Table, HasMember}
 use Rattle.ic_link_ops.specs.declared.color.Color.{Color}
@@ -99,15 +99,15 @@ module _ {E : Type 0} (n : E → Node) where
       pub null_step : {o : Option Place} → IsBeside d gap None → o ≡ nearest d (join gap) → IsBeside (across d) gap o
       null_step {o} here end = is_beside d gap o (end ∙ sym (ap (nearest d) (beside_null d gap here)))
 
-      -- a step from null leads to the outermost member y of the tree on the other side, and the hole at the gap is below y
+      -- a step from null leads to the outermost member y of the tree on the other side, and the insert position at the gap is below y
       pub null_end : {k : Side} {r y : Place} → k ≡ across d → IsBeside d gap None → root ≡ Some r → IsOutermostWithin n v r k y → IsInsertPos n v (Some y) k gap
       null_end {k} {r} {y} other here is outermost =
           let e = root_end (across d) shown is (subst (λ z. IsOutermostWithin n v r z y) other outermost) in
           subst (λ z. IsInsertPos n v (Some y) z gap) (sym other)
           (e.1, is_beside d gap (Some y) (sym (ap (nearest d) (beside_null d gap here) ∙ sym (nearest_twice d (join gap)) ∙ e.0)))
 
-      -- if the member p has a child on side d, the hole at the gap beside p is below y. The member y is the outermost member at or below this child, on the
-      -- other side
+      -- if the member p has a child on side d, the insert position at the gap beside p is below y. The member y is the outermost member at or below this
+      -- child, on the other side
       pub member_end : {k : Side} (p : Place) {q y : Place} → k ≡ across d → IsBeside d gap (Some p) → child_on d (n (v.entry p)) ≡ Some q → IsOutermostWithin n v q k y → IsInsertPos n v (Some y) k gap
       member_end {k} p {q} {y} other here is outermost =
           let m = beside_member d gap p here in
@@ -126,6 +126,6 @@ module _ {E : Type 0} (n : E → Node) where
       pub null_alone : IsBeside d gap None → root ≡ None → IsBeside (across d) gap None
       null_alone here is = null_step here (sym (ap (nearest d) (no_root (subst (λ o. Represents n v o (join gap)) is shown)) ∙ nearest_plain d [] ∙ nearest_nothing d None))
 
-      -- in an empty tree, the hole without a parent is at the only gap
-      pub null_hole : IsBeside d gap None → root ≡ None → IsInsertPos n v None d gap
-      null_hole here is = nothing_both gap.front gap.back (no_root (subst (λ o. Represents n v o (join gap)) is shown))
+      -- in an empty tree, the insert position without a parent is at the only gap
+      pub null_insert_pos : IsBeside d gap None → root ≡ None → IsInsertPos n v None d gap
+      null_insert_pos here is = nothing_both gap.front gap.back (no_root (subst (λ o. Represents n v o (join gap)) is shown))

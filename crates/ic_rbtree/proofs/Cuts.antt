@@ -1,4 +1,4 @@
--- A tree is split at a hole, which is a missing child. The split goes from the hole up to the root.
+-- A tree is split at an insert position, which is a missing child. The split goes from the insert position up to the root.
 use Rattle.std.proofs.Common.{◌≡◌, ℕ, ◌+◌, ◌-◌, ◌<◌, Option, Some, None, List, [], ◌∷◌, ◌++◌, refl, sym, ap, ◌∙◌, subst, arith, append-nil, append_assoc}
 use Rattle.ic_link_ops.specs.Prelude.{Place, Cut, join, Table, ChangesOnly}
 use Rattle.ic_link_ops.specs.declared.color.Color.{Color}
@@ -90,7 +90,7 @@ module _ {E : Type 0} (n : E → Node) where
       let m : top b ≡ Some p = sym (side_far n v.entry Right q c (Some p) (top b) (above fs) a.0) ∙ tells q refl in
       absurd (omega (arith, none, times_top p b m))
 
-  -- AT THE MEMBER p above the hole: the lowest frame is that of p, with the other subtree b of p
+  -- AT THE MEMBER p above the insert position: the lowest frame is that of p, with the other subtree b of p
   module _ {v : Table E} {root : Option Place} {left right : Measured} {k : CutUp E} (x : IsCutUp n v root left right k)
       (d : Side) (c : Color) (p : Place) (b : Tree) (fs : List Frame) (is : k.frames ≡ frame d c p b ∷ fs) where
     here : IsCutUp n v root left right (record k { frames = frame d c p b ∷ fs })
@@ -112,7 +112,7 @@ module _ {E : Type 0} (n : E → Node) where
     opened = regroup n (below (Some p) b ∷ others) here.held (λ q. omega arith)
         (here.held.are.0.0.1, (lowest_node, ((here.held.are.0.0.2, here.held.are.0.1), here.held.are.1)))
 
-    -- the number of black members on a path down at the hole is less than `turns`
+    -- the number of black members on a path down at the insert position is less than `turns`
     pub count_low : k.count < turns
     count_low = omega (arith, blacks_low n b opened here.even.1, here.even.0)
 
@@ -127,7 +127,8 @@ module _ {E : Type 0} (n : E → Node) where
       apart : Held n k.base w (below None (blackened b) ∷ others)
       apart = apart_is.0
 
-      -- the member p and its other subtree can be joined to a part. If the hole is left of p, they can be joined to the part after the hole
+      -- the member p and its other subtree can be joined to a part. If the insert position is left of p, they can be joined to the part after the insert
+      -- position
       abbrev pub back_pair : Pair E
       back_pair = record { base = k.base; one = k.back; two = blackened b; pieces = around root fs (Some p) ∷ below None k.front ∷ k.pieces }
 
@@ -165,7 +166,8 @@ module _ {E : Type 0} (n : E → Node) where
         two_height = x.left_is.height_is;
       }
 
-      -- THE JOIN IS MADE: if the hole is left of p, then p and its other subtree are joined to the part after the hole. The loop's invariant holds again
+      -- THE JOIN IS MADE: if the insert position is left of p, then p and its other subtree are joined to the part after the insert position. The loop's
+      -- invariant holds again
       pub cut_back : {u : Table E} {new : Measured} → d ≡ Left → IsJoined n k.base u new (in_order k.back ++ p ∷ in_order (blackened b)) back_pair.pieces
           → (front back : Tree) × IsCutUp n u root left new (record k { frames = fs; named = Some p; count = weight c + k.count; front = front; back = back })
       cut_back {u} {new} left_side (h, tall) = (
@@ -214,14 +216,14 @@ module _ {E : Type 0} (n : E → Node) where
     pub upper_node : {up : Option Place} → up ≡ above fs → (q : Place) → up ≡ Some q → IsNode n v q
     upper_node is q e = around_linked n v.entry fs (Some p) q here.held.are.0.0.2 (sym is ∙ e)
 
-    -- THE NEXT HOLE is at the position of the member p: its parent is the parent of p, which is the member of the next frame
+    -- THE NEXT INSERT POSITION is at the position of the member p: its parent is the parent of p, which is the member of the next frame
     pub next_parent : {up : Option Place} → up ≡ (n (v.entry p)).parent → up ≡ above fs
     next_parent e = e ∙ side_up n v.entry d p c k.named (top b) (above fs) here.held.are.0.0.0
 
     pub next_side : (i : Side) → ((q : Place) → above fs ≡ Some q → IsSideOf n v p q i) → IsOn i fs
     next_side i tells = side_there v fs i p here.held.are.0.0.2 (omega (arith, here.held.once p, one_at_self p)) tells
 
-  -- THE LOOP BEGINS at a hole of a represented tree, with two empty parts
+  -- THE LOOP BEGINS at an insert position of a represented tree, with two empty parts
   pub begins : {base v : Table E} {root : Option Place} {d : Side} {gap : Cut} {ps : List Piece} (parent : Option Place) → Represented n base v root (join gap) ps → IsInsertPos n v parent d gap
       → IsCutting n base v root parent d 0 nothing nothing gap ps turns
   begins {base} {v} {root} {d} {gap} {ps} None h at =
@@ -278,7 +280,7 @@ module _ {E : Type 0} (n : E → Node) where
         frames_low n x.stands x.right,
       )
 
-  -- the loop ends if the hole has no parent: then the tree is cut apart into two trees with the members before and after the gap
+  -- the loop ends if the insert position has no parent: then the tree is cut apart into two trees with the members before and after the gap
   pub ends : {v : Table E} {root parent : Option Place} {d : Side} {height : ℕ} {left right : Measured} {k : CutUp E} → parent ≡ None → IsCutBelow n v root parent d height left right k
       → AreCutApart n k.base v left.root right.root k.gap k.pieces
   ends {v} {root} {parent} {d} {height} {left} {right} {k} is x = at k.frames x where

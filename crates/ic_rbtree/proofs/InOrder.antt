@@ -18,7 +18,7 @@ use Rattle.ic_rbtree.specs.Borders.{less_at}
 use Rattle.ic_rbtree.specs.Closed.{IsSafeBut}
 use Rattle.ic_rbtree.specs.Comparing.{answer_at, compared, order_of, own_order}
 use Rattle.ic_rbtree.specs.Descents.{gap_in, EndsAt}
-use Rattle.ic_rbtree.specs.Holes.{IsInOrder}
+use Rattle.ic_rbtree.specs.InsertPositions.{IsInOrder}
 use Rattle.ic_rbtree.specs.Insertion.{IsInsertPos, Attaches}
 use Rattle.ic_rbtree.specs.Kept.{Kept, root_kept, RepresentsFor, RepresentsKept, TellsEnds, IsBelow}
 use Rattle.ic_rbtree.specs.Ordered.{InsertsInOrder, InsertsAmong}
@@ -26,9 +26,9 @@ use Rattle.ic_rbtree.specs.Pieces.{loose, Represented}
 use Rattle.ic_rbtree.proofs.Attaching.{acquired_represented, inserts}
 use Rattle.ic_rbtree.proofs.Gaps.{gap_join, gap_border}
 use Rattle.ic_rbtree.proofs.KeptHeads.{shown, printed, shows, inserts_kept, insert_pos_below}
-use Rattle.ic_rbtree.proofs.RepresentedClosed.{with_place, represented_closed_but, with_itself, hole_in}
+use Rattle.ic_rbtree.proofs.RepresentedClosed.{with_place, represented_closed_but, with_itself, insert_pos_in}
 
--- A DESCENT ENDS at the hole where the searched key belongs
+-- A DESCENT ENDS at the insert position where the searched key belongs
 pub ended_in_order : {E : Type 0} (n : E → Node) {v : Table E} {root : Option Place} {s : List Place} {at : Place → Ordering} {d : Descent} {parent : Option Place}
     (h : Represents n v root s) → EndsAt n v at Right h.tree d → parent ≡ d.parent → IsInOrder n v at s parent d.side
 ended_in_order n {v} {at = at} {d} h x same =
@@ -54,10 +54,10 @@ module _ {E : Type 0} (n : E → Node) (linked : E → Bool) (alike : (e : E) �
       → Represented n v v root (join x.gap) (loose p ∷ [])
   fits {root} h x = acquired_represented n linked alike old v root (join x.gap) p (subst (Represents n old root) (sym x.same) h) was is only
 
-  -- the place p and the parent at the hole are in a set that is closed except at p, so the insert of p is safe
+  -- the place p and the parent at the insert position are in a set that is closed except at p, so the insert of p is safe
   pub fits_safe : {root : Option Place} {at : Place → Ordering} {parent : Option Place} {d : Side} {s : List Place} → Represents n old root s → IsInOrder n v at s parent d
       → IsSafeBut n v root p (Some p ∷ parent ∷ [])
-  fits_safe h x = let f = fits h x in (with_place p (join x.gap), represented_closed_but n f, (with_itself n f, (hole_in n v p _ _ x.gap x.insert_pos, tt)))
+  fits_safe h x = let f = fits h x in (with_place p (join x.gap), represented_closed_but n f, (with_itself n f, (insert_pos_in n v p _ _ x.gap x.insert_pos, tt)))
 
   pub fitted : {H : Type 0} (kept : H → Kept) (head new : H) {at : Place → Ordering} {parent : Option Place} {d : Side} {s : List Place} {w : Table E} → RepresentsFor n old (kept head) s → IsInOrder n v at s parent d
       → Attaches n v w (root_kept (kept head)) (root_kept (kept new)) parent d p

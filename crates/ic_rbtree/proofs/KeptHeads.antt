@@ -86,7 +86,7 @@ module _ {H E : Type 0} (kept : H → Kept) {n : E → Node} where
       → Splits (RepresentsKept kept n) old w a b s t
   splits_kept a b x ta tb = record { keeps = shows (kept a) x.keeps ta; hands_out = shows (kept b) x.hands_out tb; frame = x.frame }
 
--- the gap of a hole on side d of a member is on this side of the member
+-- the gap of an insert position on side d of a member is on this side of the member
 pub insert_pos_below : {E : Type 0} (n : E → Node) (v : Table E) (parent : Option Place) (d : Side) (gap : Cut) → IsInsertPos n v parent d gap → IsBelow parent d gap
 insert_pos_below n v None d gap h = h
 insert_pos_below n v (Some q) d gap h = h.1

@@ -9,7 +9,7 @@ use Rattle.ic_link_ops.proofs.PlacedEnds.{last_placed}
 use Rattle.ic_link_ops.proofs.SequenceLemmas.{none_not, nothing_last}
 use Rattle.ic_rbtree.specs.Borders.{less_at}
 use Rattle.ic_rbtree.specs.Comparing.{HasRoom, WithinComparisonBound, Looks, compared}
-use Rattle.ic_rbtree.specs.Holes.{after_there, looks_there}
+use Rattle.ic_rbtree.specs.InsertPositions.{after_there, looks_there}
 use Rattle.ic_rbtree.specs.Kept.{Kept, alone, ended, last_kept, TellsEnds, HasRoomFor, InsertLooks}
 
 -- a sequence that has a last member has at least one member

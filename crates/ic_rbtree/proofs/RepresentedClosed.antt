@@ -160,11 +160,11 @@ module _ {E : Type 0} (n : E → Node) where
       pub with_member : (q : Place) → among q s ≡ true → with_place p s q ≡ true
       with_member q m = or_right (is_it q p) (among q s) m
 
-  -- the parent at a hole is none or a member of the tree
-  pub hole_in : (v : Table E) (p : Place) (parent : Option Place) (d : Side) (gap : Cut) → IsInsertPos n v parent d gap → IsIn (with_place p (gap.front ++ gap.back)) parent
-  hole_in v p None d gap h = tt
-  hole_in v p (Some q) Left gap h = or_right (is_it q p) (among q (gap.front ++ gap.back)) (among_right q gap.front gap.back (among_first q gap.back (sym h.1)))
-  hole_in v p (Some q) Right gap h = or_right (is_it q p) (among q (gap.front ++ gap.back)) (among_left q gap.front gap.back (among_last q gap.front None (sym h.1) (none_not q)))
+  -- the parent at an insert position is none or a member of the tree
+  pub insert_pos_in : (v : Table E) (p : Place) (parent : Option Place) (d : Side) (gap : Cut) → IsInsertPos n v parent d gap → IsIn (with_place p (gap.front ++ gap.back)) parent
+  insert_pos_in v p None d gap h = tt
+  insert_pos_in v p (Some q) Left gap h = or_right (is_it q p) (among q (gap.front ++ gap.back)) (among_right q gap.front gap.back (among_first q gap.back (sym h.1)))
+  insert_pos_in v p (Some q) Right gap h = or_right (is_it q p) (among q (gap.front ++ gap.back)) (among_left q gap.front gap.back (among_last q gap.front None (sym h.1) (none_not q)))
 
   -- a member of the tree is different from a place that is a piece of its own
   pub member_apart : {base v : Table E} {root : Option Place} (front : List Place) (p new : Place) (back : List Place) {ps : List Piece} → Represented n base v root (front ++ p ∷ back) (loose new ∷ ps) → p ≢ new

@@ -228,8 +228,8 @@ module _ {E : Type 0} (n : E → Node) where
             ∙ ap (λ t. gap_around x.fs (gap_in (λ p. goes_left equals (at p)) t)) bare
             ∙ (λ k. record { front = append-nil (before x.fs) k; back = after x.fs })
 
-        hole_is : IsInsertPos n v d.parent d.side (record { front = before x.fs; back = after x.fs })
-        hole_is = subst (λ o. IsInsertPos n v o d.side (record { front = before x.fs; back = after x.fs })) (sym x.parent_is) (by x.fs x.stands x.side_is) where
+        insert_pos_is : IsInsertPos n v d.parent d.side (record { front = before x.fs; back = after x.fs })
+        insert_pos_is = subst (λ o. IsInsertPos n v o d.side (record { front = before x.fs; back = after x.fs })) (sym x.parent_is) (by x.fs x.stands x.side_is) where
           by : (fs : List Frame) → ClimbState n v v root fs x.t [] → IsOn d.side fs → IsInsertPos n v (above fs) d.side (record { front = before fs; back = after fs })
           by [] h on = (refl, refl)
           by (frame k c q b ∷ fs) h on =
@@ -249,7 +249,7 @@ module _ {E : Type 0} (n : E → Node) where
 
         pub sent_ends : EndsAt n v at equals tree d
         sent_ends = record {
-          insert_pos = subst (IsInsertPos n v d.parent d.side) (sym gap_is) hole_is;
+          insert_pos = subst (IsInsertPos n v d.parent d.side) (sym gap_is) insert_pos_is;
           front_is = x.front_is ∙ sym (ap (λ (g : Cut). last g.front) gap_is);
           back_is = x.back_is ∙ sym (ap (λ (g : Cut). first g.back) gap_is);
           equal_is = equal_by d.back refl;

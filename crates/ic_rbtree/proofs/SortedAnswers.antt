@@ -58,8 +58,8 @@ vacant_finds {at} gap same smaller larger = record { gap = gap; same = same; bor
     nobody (Some p) e = sym (ap (λ b. cond b (Some p) None) (not_equal _ (larger.passes p e)))
 
 module _ {A V K : Type 0} {cmp : K → K → Ordering} (total : IsTotalOrder cmp) (key_of : A → V → K) (adapter : A) (objects : Objects V) where
-  abbrev within : Bound K → Bound (Place → Ordering)
-  within bound = compared_within (order_of cmp (key_of adapter)) objects bound
+  abbrev compared_bound : Bound K → Bound (Place → Ordering)
+  compared_bound bound = compared_within (order_of cmp (key_of adapter)) objects bound
 
   -- a member that doesn't meet a lower bound has a smaller key than a member that does. `seen` turns a comparison with a place into one with the key of its
   -- object
@@ -67,7 +67,7 @@ module _ {A V K : Type 0} {cmp : K → K → Ordering} (total : IsTotalOrder cmp
       → f (cmp key (key_of adapter u)) ≡ b
   seen key f x is h = sym (ap (λ o. f (answer_at (order_of cmp (key_of adapter) key) o)) is) ∙ h
 
-  rises : (bound : Bound K) → Rises total key_of adapter objects (meets_lower (within bound))
+  rises : (bound : Bound K) → Rises total key_of adapter objects (meets_lower (compared_bound bound))
   rises (Included key) = record { less = λ x y u v ex ey h g. le_fails total key (key_of adapter u) (key_of adapter v) _ _ refl refl (seen key is_le x ex h) (seen key is_le y ey g) }
   rises (Excluded key) = record { less = λ x y u v ex ey h g. lt_fails total key (key_of adapter u) (key_of adapter v) _ _ refl refl (seen key is_lt x ex h) (seen key is_lt y ey g) }
   rises Unbounded = record { less = λ x y u v ex ey h g. absurd (true≢false h) }
@@ -83,24 +83,24 @@ module _ {A V K : Type 0} {cmp : K → K → Ordering} (total : IsTotalOrder cmp
     found_first key finds = found_is (for_key key) finds
 
     -- the members that meet a lower bound are all members after some gap of the sequence
-    lower_cuts : (bound : Bound K) → Cuts (meets_lower (within bound)) s
+    lower_cuts : (bound : Bound K) → Cuts (meets_lower (compared_bound bound)) s
     lower_cuts (Included key) = cuts_at_most (for_key key)
     lower_cuts (Excluded key) = cuts_less (for_key key)
     lower_cuts Unbounded = record { front = []; back = s; same = refl; fail = tt; pass = all_same true s }
 
-    upper_cuts : (bound : Bound K) → Cuts (is_beyond (within bound)) s
+    upper_cuts : (bound : Bound K) → Cuts (is_beyond (compared_bound bound)) s
     upper_cuts (Included key) = same_cuts (λ p. not_ge (compared (order_of cmp (key_of adapter) key) objects p)) (cuts_less (for_key key))
     upper_cuts (Excluded key) = same_cuts (λ p. not_gt (compared (order_of cmp (key_of adapter) key) objects p)) (cuts_at_most (for_key key))
     upper_cuts Unbounded = record { front = s; back = []; same = append-nil s; fail = all_same false s; pass = tt }
 
     -- A LOWER BORDER is the first member that meets the lower bound, and an upper border is the last member that meets the upper bound
-    pub lower_first : (bound : Bound K) {o : Option Place} → IsLowerBorder (within bound) s o → o ≡ first (filter (meets_lower (within bound)) s)
+    pub lower_first : (bound : Bound K) {o : Option Place} → IsLowerBorder (compared_bound bound) s o → o ≡ first (filter (meets_lower (compared_bound bound)) s)
     lower_first bound border = lower_is (lower_cuts bound) border
 
-    pub upper_last : (bound : Bound K) {o : Option Place} → IsUpperBorder (within bound) s o → o ≡ last (filter (meets_upper (within bound)) s)
+    pub upper_last : (bound : Bound K) {o : Option Place} → IsUpperBorder (compared_bound bound) s o → o ≡ last (filter (meets_upper (compared_bound bound)) s)
     upper_last bound border = upper_is (upper_cuts bound) border
 
     -- A RANGE consists of the members of the sequence that meet both bounds
-    pub range_filter : (min max : Bound K) {w : List Place} → IsDistinct s → IsRange (within min) (within max) (runs_up cmp (key_of adapter) objects) s w
-        → w ≡ filter (λ p. meets_lower (within min) p && meets_upper (within max) p) s
+    pub range_filter : (min max : Bound K) {w : List Place} → IsDistinct s → IsRange (compared_bound min) (compared_bound max) (runs_up cmp (key_of adapter) objects) s w
+        → w ≡ filter (λ p. meets_lower (compared_bound min) p && meets_upper (compared_bound max) p) s
     range_filter min max distinct range = range_is total key_of adapter objects (rises min) (lower_cuts min) (upper_cuts max) distinct placed sorted range

@@ -103,12 +103,12 @@ module _ {E : Type 0} (n : E → Node) where
   RotatesInnerGrandchild v w root new_root x q i upper =
       (g : Place) (m : RedPair) (k : Focus E) → PairAt v root x q g i m k → HasOuterGrandchild w new_root upper g i m k
 
-  -- THE HOLE on side d of the member q, which has no child there, is at the gap `gap`. If there is no member q, the tree is empty
+  -- THE INSERT POSITION on side d of the member q, which has no child there, is at the gap `gap`. If there is no member q, the tree is empty
   abbrev pub IsInsertPos : Table E → Option Place → Side → Cut → Type 0
   IsInsertPos v None d gap = (gap.front ≡ []) × (gap.back ≡ [])
   IsInsertPos v (Some q) d gap = (child_on d (n (v.entry q)) ≡ None) × IsBeside d gap (Some q)
 
-  -- the linked place p is inserted into the tree at the gap of the hole on side d of `parent`
+  -- the linked place p is inserted into the tree at the gap of the insert position on side d of `parent`
   abbrev pub Attaches : Table E → Table E → Option Place → Option Place → Option Place → Side → Place → Type 0
   Attaches v w root new_root parent d p =
       (base : Table E) (gap : Cut) (ps : List Piece) → Represented n base v root (gap.front ++ gap.back) (loose p ∷ ps) → IsInsertPos v parent d gap

@@ -8,7 +8,7 @@ use Rattle.ic_link_ops.specs.Walk.{is_end}
 use Rattle.ic_link_ops.specs.RedBlackTree.{Node, Represents, RepresentsSome}
 use Rattle.ic_rbtree.specs.Comparing.{HasRoom, WithinComparisonBound, Looks, compared}
 use Rattle.ic_rbtree.specs.Ends.{end_on}
-use Rattle.ic_rbtree.specs.Holes.{after_there}
+use Rattle.ic_rbtree.specs.InsertPositions.{after_there}
 use Rattle.ic_rbtree.specs.Insertion.{are_across}
 use Rattle.ic_rbtree.specs.Sides.{IsBeside}
 

@@ -1,4 +1,4 @@
-//! Steps from a position in a tree to a neighbor, and to the hole between them.
+//! Steps from a position in a tree to a neighbor, and to the insert position between them.
 //!
 //! If a member has a child on the side of the step, its neighbor is the outermost member below that child, on the other side. Otherwise the neighbor is the
 //! lowest member above whose subtree on the other side contains the member.
@@ -88,7 +88,8 @@ pub(crate) fn step<L: RBTreeOps>(
     }
 }
 
-// Returns the hole, a missing child, beside a position: the member above the hole, `None` in an empty tree, and the side of this member.
+// Returns the insert position, a missing child, beside a position: the member above the insert position, `None` in an empty tree, and the side of this
+// member.
 #[inline]
 pub(crate) fn insert_pos_beside<L: RBTreeOps>(
     links: &L,

@@ -69,7 +69,7 @@ module _ {E V : Type 0} (n : E → Node) (cmp : Place → Place → Ordering) (o
     pub left_run : IsRun n objects new left x
     pub right_run : IsRun n objects new right y
     pub goes : (r : List Place) → IsMerge (is_less cmp) x y r → IsMerge (is_less cmp) s u (done ++ r)
-    pub within : (q : Place) → IsAbsent q (s ++ u) → IsAbsent q (done ++ (x ++ y))
+    pub adds_none : (q : Place) → IsAbsent q (s ++ u) → IsAbsent q (done ++ (x ++ y))
     pub extent : new.extent ≡ old.extent
     pub others : (q : Place) → IsAbsent q (s ++ u) → new.entry q ≡ old.entry q
     pub counted : length done ≡ count
@@ -86,7 +86,7 @@ module _ {E V : Type 0} (n : E → Node) (cmp : Place → Place → Ordering) (o
     left_run = a;
     right_run = b;
     goes = λ r m. m;
-    within = λ q o. o;
+    adds_none = λ q o. o;
     extent = refl;
     others = λ q o. refl;
     counted = refl;
@@ -126,10 +126,10 @@ module _ {E V : Type 0} (n : E → Node) (cmp : Place → Place → Ordering) (o
             left_run = run_kept x (disjoint_front x y (p ∷ k.done) apart) a;
             right_run = run_kept y (disjoint_back x y (p ∷ k.done) apart) b;
             goes = λ r m. rw (append_assoc k.done (p ∷ []) r) (k.goes (p ∷ r) (goes r m));
-            within = λ q o. subst (IsAbsent q) (sym e) (moves q (k.within q o));
+            adds_none = λ q o. subst (IsAbsent q) (sym e) (moves q (k.adds_none q o));
             extent = h.frame.extent ∙ k.extent;
             others = λ q o.
-                let m = moves q (k.within q o) in
+                let m = moves q (k.adds_none q o) in
                 let z = absent_right q k.done (p ∷ (x ++ y)) m in
                 (hung_frame n h).others q (z.0, absent_left q k.done (p ∷ (x ++ y)) m) ∙ k.others q o;
             counted = omega (arith, k.counted, length-append k.done (p ∷ []));
@@ -212,5 +212,5 @@ module _ {E V : Type 0} (n : E → Node) (cmp : Place → Place → Ordering) (o
             is = merges cmp s u k.done (subst (IsMerge (is_less cmp) s u) (append-nil k.done) whole);
             frame = record { extent = k.extent; others = k.others };
           },
-          λ q o. absent_left q k.done (k.x ++ k.y) (k.within q o),
+          λ q o. absent_left q k.done (k.x ++ k.y) (k.adds_none q o),
         )

@@ -52,7 +52,7 @@ module _ {E : Type 0} (n : E → Node) where
       pub next_placed : ArePlaced objects y
       pub other : Represents n new root u
       pub apart : IsDisjoint u s
-      pub within : (q : Place) → IsAbsent q s → IsAbsent q (common ++ (rest ++ x))
+      pub adds_none : (q : Place) → IsAbsent q s → IsAbsent q (common ++ (rest ++ x))
       pub extent : new.extent ≡ old.extent
       pub others : (q : Place) → IsAbsent q s → new.entry q ≡ old.entry q
       pub counted : length common + length rest + length passed ≡ count
@@ -76,7 +76,7 @@ module _ {E : Type 0} (n : E → Node) where
       next_placed = placed;
       other = other;
       apart = apart;
-      within = λ q o. o;
+      adds_none = λ q o. o;
       extent = refl;
       others = λ q o. refl;
       counted = refl;
@@ -109,7 +109,7 @@ module _ {E : Type 0} (n : E → Node) where
         now_distinct = subst (λ (z : List Place). IsDistinct (k.common ++ (k.rest ++ z))) left_is k.distinct
 
         now_within : (q : Place) → IsAbsent q s → IsAbsent q (k.common ++ (k.rest ++ p ∷ drop 1 k.x))
-        now_within q o = subst (λ (z : List Place). IsAbsent q (k.common ++ (k.rest ++ z))) left_is (k.within q o)
+        now_within q o = subst (λ (z : List Place). IsAbsent q (k.common ++ (k.rest ++ z))) left_is (k.adds_none q o)
 
         common_first : IsDistinct (k.common ++ p ∷ (k.rest ++ drop 1 k.x))
         common_first = distinct_moved k.common k.rest p (drop 1 k.x) now_distinct
@@ -156,7 +156,7 @@ module _ {E : Type 0} (n : E → Node) where
                 next_placed = k.next_placed;
                 other = represents_frame k.other (absent_swap u s k.apart (p ∷ k.common) common_out) (hung_frame n h);
                 apart = k.apart;
-                within = λ q o. subst (IsAbsent q) (sym e) (absent_moved q k.common k.rest p (drop 1 k.x) (now_within q o));
+                adds_none = λ q o. subst (IsAbsent q) (sym e) (absent_moved q k.common k.rest p (drop 1 k.x) (now_within q o));
                 extent = h.frame.extent ∙ k.extent;
                 others = λ q o. (hung_frame n h).others q (common_out q o) ∙ k.others q o;
                 counted = omega (arith, k.counted, length-append k.common (p ∷ []));
@@ -199,7 +199,7 @@ module _ {E : Type 0} (n : E → Node) where
                 next_placed = k.next_placed;
                 other = represents_frame k.other (absent_swap u s k.apart (p ∷ k.rest) rest_out) (hung_frame n h);
                 apart = k.apart;
-                within = λ q o. subst (λ (z : List Place). IsAbsent q (k.common ++ z)) (sym e) (now_within q o);
+                adds_none = λ q o. subst (λ (z : List Place). IsAbsent q (k.common ++ z)) (sym e) (now_within q o);
                 extent = h.frame.extent ∙ k.extent;
                 others = λ q o. (hung_frame n h).others q (rest_out q o) ∙ k.others q o;
                 counted = omega (arith, k.counted, length-append k.rest (p ∷ []));
@@ -255,7 +255,7 @@ module _ {E : Type 0} (n : E → Node) where
               next_placed = (subst (ArePlaced objects) right_is k.next_placed).1;
               other = k.other;
               apart = k.apart;
-              within = k.within;
+              adds_none = k.adds_none;
               extent = k.extent;
               others = k.others;
               counted = omega (arith, k.counted, length-append k.passed (b ∷ []));
@@ -290,6 +290,6 @@ module _ {E : Type 0} (n : E → Node) where
               is = parting_last cmp (subst (λ (z : List Place). Parting cmp s u k.common k.rest z k.y) x_is k.parting);
               frame = record { extent = k.extent; others = k.others };
             },
-            λ q o. let m = k.within q o in
+            λ q o. let m = k.adds_none q o in
                 absent_both q k.common k.rest (absent_left q k.common (k.rest ++ k.x) m) (absent_left q k.rest k.x (absent_right q k.common (k.rest ++ k.x) m)),
           )

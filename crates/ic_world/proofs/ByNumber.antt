@@ -66,9 +66,9 @@ module _ {V : Type 0} where
       → ((d : ℕ) → d ≢ c → shown new (slice_get after d) ≡ shown ls (slice_get ns d)) → shown new (slice_get after c) ≡ x → by_number new after ≡ set (by_number ls ns) c x
   shows ls new ns after c x count others here =
       let long : length (by_number new after) ≡ length (set (by_number ls ns) c x) = length-map after (in_slot new) ∙ count ∙ sym (length-set (by_number ls ns) c x ∙ length-map ns (in_slot ls)) in
-      ext_get_or None _ _ long (λ d within. at_number new after d ∙ elim (cases_eq d c) [
+      ext_get_or None _ _ long (λ d in_bounds. at_number new after d ∙ elim (cases_eq d c) [
         | inl same ↦
-            let low : c < length (by_number ls ns) = omega (arith, within, same, count, length-map after (in_slot new), length-map ns (in_slot ls)) in
+            let low : c < length (by_number ls ns) = omega (arith, in_bounds, same, count, length-map after (in_slot new), length-map ns (in_slot ls)) in
             ap (λ i. shown new (slice_get after i)) same ∙ here ∙ sym (ap (at (set (by_number ls ns) c x)) same ∙ get_or-set_same (by_number ls ns) c x None low)
         | inr other ↦ others d other ∙ sym (get_or-set_other (by_number ls ns) c d x None other ∙ at_number ls ns d)
       ])

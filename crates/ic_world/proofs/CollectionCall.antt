@@ -105,7 +105,7 @@ module _ {V : Type 0} {objects : Objects V} {room : ℕ} {ts : List (Table Entry
         | inl out ↦ whole.placed k.field q (turns.only q out h)
         | inr there ↦ there
       ];
-      within = turns.within;
+      adds_none = turns.adds_none;
       beside = λ d l n is_l same. apart l (λ p free. unlinked_absent (table ts l.field) l.members (sequence ts l) (whole.held d l is_l).shown
           (subst (λ f. IsUnlinked is_linked (table ts f) p) (sym same) free)) (whole.apart d c l k n is_l is same) turns.fresh turns.free;
     }
@@ -145,7 +145,7 @@ module _ {A V M : Type 0} {adapter : A} {objects : Objects V} {room : ℕ} {tabl
   placed_each (p ∷ s) e = let h = and_parts (place_is_placed objects p) _ e in (h.0, placed_each s h.1)
 
   pub room_for : (s : List Place) → list_all (place_is_placed objects) s ≡ true → Each (IsCovered (table_of now)) s
-  room_for s e = each_map (λ p. HasObject objects (index_of p)) (IsCovered (table_of now)) (λ p has. let a = (whole.within (index_of p) has).0 in let b = rw at_k.read at (whole.covered k.field at_k.field) in omega (arith, a, b)) s (placed_each s e)
+  room_for s e = each_map (λ p. HasObject objects (index_of p)) (IsCovered (table_of now)) (λ p has. let a = (whole.in_bounds (index_of p) has).0 in let b = rw at_k.read at (whole.covered k.field at_k.field) in omega (arith, a, b)) s (placed_each s e)
 
   module _ {K : Type 0} (cmp : K → K → Ordering) (key_of : A → V → K) (call : Call K) (placed : list_all (place_is_placed objects) (names call) ≡ true) {R : Type 0} (accepted : R → Reply) (r : Result R Refusal) (links : AnyTable M) (m : AnyCollection V)
       (ran : Ran (names call) (refusal_of call) (λ a s t. Replies cmp (key_of adapter) objects call s (accepted a) t) now.links links k.members m r) where

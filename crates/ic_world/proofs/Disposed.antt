@@ -26,7 +26,7 @@ module _ {V : Type 0} where
   at_dropped cs c d l is = elim (cases_eq d c) [
     | inl same ↦ elim (side (length cs) c) [
       | inl past ↦ absurd (let no = get_or_past (set cs c None) d None (let n = length-set cs c None in omega (arith, n, past, same)) in let both : None ≡ Some l = sym no ∙ is in cc)
-      | inr within ↦ absurd (let no : at (set cs c None) d ≡ None = ap (at (set cs c None)) same ∙ get_or-set_same cs c None None within in let both : None ≡ Some l = sym no ∙ is in cc)
+      | inr in_bounds ↦ absurd (let no : at (set cs c None) d ≡ None = ap (at (set cs c None)) same ∙ get_or-set_same cs c None None in_bounds in let both : None ≡ Some l = sym no ∙ is in cc)
     ]
     | inr other ↦ sym (get_or-set_other cs c d None None other) ∙ is
   ]
@@ -34,7 +34,7 @@ module _ {V : Type 0} where
   -- THE INVARIANT still holds if the collection with the number c is removed
   pub dropped_whole : {objects : Objects V} {room : ℕ} {ts : List (Table Entry)} {cs : List (Option (Collection V))} → IsWhole objects room ts cs → (c : ℕ) → IsWhole objects room ts (set cs c None)
   dropped_whole {cs = cs} whole c = record {
-    within = whole.within;
+    in_bounds = whole.in_bounds;
     covered = whole.covered;
     placed = whole.placed;
     in_field = λ d l is. whole.in_field d l (at_dropped cs c d l is);

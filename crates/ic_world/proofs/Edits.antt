@@ -42,9 +42,9 @@ module _ {V : Type 0} where
   lawful {objects} {room} {ts} {cs} whole f q h =
       elim (side (length ts) f) [
         | inl past ↦ absurd (let no : is_linked ((table ts f).entry q) ≡ false = ap (λ (t : Table Entry). is_linked (t.entry q)) (get_or_past ts f no_table past) in cc)
-        | inr within ↦
-            let a = (whole.within (index_of q) (whole.placed f q h)).0 in
-            let b = whole.covered f within in
+        | inr in_bounds ↦
+            let a = (whole.in_bounds (index_of q) (whole.placed f q h)).0 in
+            let b = whole.covered f in_bounds in
             omega (arith, a, b)
       ]
 
@@ -56,7 +56,7 @@ module _ {V : Type 0} where
     pub alike : Alike k.members m
     pub frame : ChangesOnlyIn (table ts k.field) t touched
     pub placed : (q : Place) → is_linked (t.entry q) ≡ true → HasObject objects (index_of q)
-    pub within : (q : Place) → IsAbsent q touched → IsAbsent q members
+    pub adds_none : (q : Place) → IsAbsent q touched → IsAbsent q members
     pub beside : (d : ℕ) (l : Collection V) → d ≢ c → at cs d ≡ Some l → l.field ≡ k.field → IsDisjoint (sequence ts l) touched
 
   -- the collection after an edit that gives it the members m
@@ -73,7 +73,7 @@ module _ {V : Type 0} where
 
     pub edited_lawful : IsLawful t
     edited_lawful q h =
-        let a = (whole.within (index_of q) (e.placed q h)).0 in
+        let a = (whole.in_bounds (index_of q) (e.placed q h)).0 in
         let b = whole.covered k.field in_ts in
         let same = ap (λ x. x.places) e.frame.extent in
         omega (arith, a, b, same)
@@ -162,11 +162,11 @@ module _ {V : Type 0} where
     -- THE INVARIANT of the world holds after an edit
     pub edited_whole : IsWhole objects room (set ts k.field t) (set cs c (Some (after k m)))
     edited_whole = record {
-      within = whole.within;
-      covered = λ f within.
+      in_bounds = whole.in_bounds;
+      covered = λ f in_bounds.
           elim (cases_eq f k.field) [
             | inl same ↦ rw (same, here, e.frame.extent) (whole.covered k.field in_ts)
-            | inr other ↦ rw (table_other ts k.field f t other) (whole.covered f (rw length-set at within))
+            | inr other ↦ rw (table_other ts k.field f t other) (whole.covered f (rw length-set at in_bounds))
           ];
       placed = λ f q h.
           elim (cases_eq f k.field) [
@@ -186,12 +186,12 @@ module _ {V : Type 0} where
           | inl b_c ↦ absurd (n (a_c.0 ∙ sym b_c.0))
           | inr b_d ↦
               let field : y.field ≡ k.field = sym same_field ∙ ap (λ z. z.field) a_c.1 in
-              rw (a_c.1, new_sequence, same_sequence b y b_d.0 b_d.1) (disjoint_sym _ _ (absent_swap _ touched (e.beside b y b_d.0 b_d.1 field) members e.within))
+              rw (a_c.1, new_sequence, same_sequence b y b_d.0 b_d.1) (disjoint_sym _ _ (absent_swap _ touched (e.beside b y b_d.0 b_d.1 field) members e.adds_none))
         ]
         | inr a_d ↦ elim (at_after b y is_y) [
           | inl b_c ↦
               let field : x.field ≡ k.field = same_field ∙ ap (λ z. z.field) b_c.1 in
-              rw (b_c.1, new_sequence, same_sequence a x a_d.0 a_d.1) (absent_swap _ touched (e.beside a x a_d.0 a_d.1 field) members e.within)
+              rw (b_c.1, new_sequence, same_sequence a x a_d.0 a_d.1) (absent_swap _ touched (e.beside a x a_d.0 a_d.1 field) members e.adds_none)
           | inr b_d ↦ rw (same_sequence a x a_d.0 a_d.1, same_sequence b y b_d.0 b_d.1) (whole.apart a b x y n a_d.1 b_d.1 same_field)
         ]
       ];

@@ -101,21 +101,21 @@ module _ {V : Type 0} where
         map-append (in_slot new) ns (s ∷ []) ∙ (λ i. same ns (λ c t e. (c, e)) i ++ in_field (entered.field i) ((ap (λ h. lying new h s.index) entered.field ∙ last) i) ∷ [])
       where
         same : (part : List Slot) → ((c : ℕ) (t : Slot) → slice_get part c ≡ Some t → (d : ℕ) × (slice_get ns d ≡ Some t)) → by_number new part ≡ by_number ls part
-        same [] within = refl
-        same (t ∷ part) within =
-            let there = within zero t refl in
-            λ i. in_field t.field (before_last t.field t.index (free there.0 t there.1) i) ∷ same part (λ c u e. within (suc c) u e) i
+        same [] in_bounds = refl
+        same (t ∷ part) in_bounds =
+            let there = in_bounds zero t refl in
+            λ i. in_field t.field (before_last t.field t.index (free there.0 t there.1) i) ∷ same part (λ c u e. in_bounds (suc c) u e) i
 
 -- THE LISTS AS A CALL WRITES THEM: the call reads the list of the field f, and writes it back
-module _ {V M : Type 0} (old lists : List (Vec (Numbered V) M)) (same : HaveLists (map items_of old) (map items_of lists)) (f : ℕ) (within : f < length lists) (list : Vec (Numbered V) M) (read : list ≡ get_or lists f list) (v : Vec (Numbered V) M) where
+module _ {V M : Type 0} (old lists : List (Vec (Numbered V) M)) (same : HaveLists (map items_of old) (map items_of lists)) (f : ℕ) (in_bounds : f < length lists) (list : Vec (Numbered V) M) (read : list ≡ get_or lists f list) (v : Vec (Numbered V) M) where
   here : live_in (map items_of (set lists f v)) f ≡ v.items
-  here = ap (λ ls. live_in ls f) (map-set items_of lists f v) ∙ get_or-set_same (map items_of lists) f v.items [] (rw length-map within)
+  here = ap (λ ls. live_in ls f) (map-set items_of lists f v) ∙ get_or-set_same (map items_of lists) f v.items [] (rw length-map in_bounds)
 
   elsewhere : (g : ℕ) → g ≢ f → live_in (map items_of (set lists f v)) g ≡ live_in (map items_of old) g
   elsewhere g other = ap (λ ls. live_in ls g) (map-set items_of lists f v) ∙ get_or-set_other (map items_of lists) f g v.items [] other ∙ same g
 
   was : live_in (map items_of old) f ≡ list.items
-  was = sym (same f) ∙ get_or-map items_of lists f list [] within ∙ ap (λ (x : Vec (Numbered V) M). x.items) (sym read)
+  was = sym (same f) ∙ get_or-map items_of lists f list [] in_bounds ∙ ap (λ (x : Vec (Numbered V) M). x.items) (sym read)
 
   pub lists_kept : v.items ≡ list.items → HaveLists (map items_of old) (map items_of (set lists f v))
   lists_kept back g = elim (cases_eq g f) [

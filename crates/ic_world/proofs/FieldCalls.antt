@@ -39,24 +39,24 @@ module _ {A V M : Type 0} {adapter : A} {objects : Objects V} {room : ℕ} (tabl
 
   -- each table covers the place of each object
   pub covers_object : (f : ℕ) (t : WorldField M) (p : Place) → f < length tables → t ≡ get_or tables f t → place_is_placed objects p ≡ true → IsCovered (table_of t) p
-  covers_object f t p within read has =
-      let reach = (kept.0.within (index_of p) has).0 in
-      let covers = kept.0.covered f (rw length-map within) in
-      let same = ap (λ u. u.extent.places) (table_read tables f t within read) in
+  covers_object f t p in_bounds read has =
+      let reach = (kept.0.in_bounds (index_of p) has).0 in
+      let covers = kept.0.covered f (rw length-map in_bounds) in
+      let same = ap (λ u. u.extent.places) (table_read tables f t in_bounds read) in
       omega (arith, reach, covers, same)
 
   -- a place is in the linked set of the family's field exactly if its entry in the table is linked
   linked_read : (f : ℕ) (t : WorldField M) (p : Place) → f < length tables → t ≡ get_or tables f t
       → set.contains (linked_of (family_of adapter objects (map table_of tables) cs) f) (index_of p) ≡ is_linked ((table_of t).entry p)
-  linked_read f t p within read =
-      ap (λ l. set.contains l (index_of p)) (linked_at adapter objects (map table_of tables) cs f (rw length-map within) ∙ ap linked_in (table_read tables f t within read)) ∙ in_linked (table_of t) (lawful_field t.links) p
+  linked_read f t p in_bounds read =
+      ap (λ l. set.contains l (index_of p)) (linked_at adapter objects (map table_of tables) cs f (rw length-map in_bounds) ∙ ap linked_in (table_read tables f t in_bounds read)) ∙ in_linked (table_of t) (lawful_field t.links) p
 
   pub is_linked_step : {K : Type 0} (cmp : K → K → Ordering) (key_of : A → V → K) (f : ℕ) (t : WorldField M) (p : Place) → f < length tables → t ≡ get_or tables f t → place_is_placed objects p ≡ true
       → (answer : Bool) → answer ≡ is_linked ((table_of t).entry p)
       → Step cmp key_of (family_of adapter objects (map table_of tables) cs) (IsLinked f p) (linked answer) (family_of adapter objects (map table_of tables) cs)
-  is_linked_step cmp key_of f t p within read has answer is =
+  is_linked_step cmp key_of f t p in_bounds read has answer is =
       let w = family_of adapter objects (map table_of tables) cs in
-      step_accepted cmp key_of w (IsLinked f p) (linked answer) w (field_there w f _ (rw (length-map, length-map) within) ∙ passes (is_placed w p) NoSuchObject None has) (ap linked (is ∙ sym (linked_read f t p within read)), refl)
+      step_accepted cmp key_of w (IsLinked f p) (linked answer) w (field_there w f _ (rw (length-map, length-map) in_bounds) ∙ passes (is_placed w p) NoSuchObject None has) (ap linked (is ∙ sym (linked_read f t p in_bounds read)), refl)
 
 -- the function `is_among` says whether p is a member of s: `false` if p is absent, and `true` if p is a member
 absent_among : (p : Place) (s : List Place) → IsAbsent p s → is_among p s ≡ false
@@ -103,8 +103,8 @@ module _ {A V M : Type 0} {adapter : A} {objects : Objects V} {room : ℕ} (tabl
   -- the table that a call reads for the field f keeps each collection of the field
   pub held_read : (c : ℕ) (k : Collection V) (t : WorldField M) → at cs c ≡ Some k → k.field ≡ f → t ≡ get_or tables f t → Held (table_of t) k.members
   held_read c k t is same read =
-      let within : f < length tables = let a = whole.in_field c k is in omega (arith, a, same, length-map tables table_of) in
-      subst (λ u. Held u k.members) (ap (table (map table_of tables)) same ∙ table_read tables f t within read) (whole.held c k is)
+      let in_bounds : f < length tables = let a = whole.in_field c k is in omega (arith, a, same, length-map tables table_of) in
+      subst (λ u. Held u k.members) (ap (table (map table_of tables)) same ∙ table_read tables f t in_bounds read) (whole.held c k is)
 
   has_at : (c : ℕ) → has_member_in f p (get_or (map (represented_as (map table_of tables)) cs) c None) ≡ has_member_in f p (represented_as (map table_of tables) (at cs c))
   has_at c = ap (has_member_in f p) (map_at (represented_as (map table_of tables)) cs c None)
@@ -113,8 +113,8 @@ module _ {A V M : Type 0} {adapter : A} {objects : Objects V} {room : ℕ} (tabl
   here_is : (c : ℕ) (k : Collection V) (t : WorldField M) → at cs c ≡ Some k → k.field ≡ f → t ≡ get_or tables f t → (b : Bool) → (IsTrue b ↔ IsMember p (members_in (table_of t) k.members))
       → has_member_in f p (get_or (map (represented_as (map table_of tables)) cs) c None) ≡ b
   here_is c k t is same read b tells =
-      let within : f < length tables = let a = whole.in_field c k is in omega (arith, a, same, length-map tables table_of) in
-      let seen : members_in (table_of t) k.members ≡ sequence (map table_of tables) k = ap (λ u. members_in u k.members) (sym (ap (table (map table_of tables)) same ∙ table_read tables f t within read)) in
+      let in_bounds : f < length tables = let a = whole.in_field c k is in omega (arith, a, same, length-map tables table_of) in
+      let seen : members_in (table_of t) k.members ≡ sequence (map table_of tables) k = ap (λ u. members_in u k.members) (sym (ap (table (map table_of tables)) same ∙ table_read tables f t in_bounds read)) in
       has_at c ∙ ap (λ o. has_member_in f p (represented_as (map table_of tables) o)) is
       ∙ ap (λ x. x && is_among p (sequence (map table_of tables) k)) (eq-eqb k.field f same)
       ∙ ap (is_among p) (sym seen) ∙ among_is p (members_in (table_of t) k.members) b tells
@@ -160,26 +160,26 @@ module _ {A V M : Type 0} {adapter : A} {objects : Objects V} {room : ℕ} (tabl
   -- A LINKED OBJECT is a member of a collection of the field, if `fast_clear` left no member linked in the field
   pub in_some : (t : WorldField M) → f < length tables → t ≡ get_or tables f t → is_linked ((table_of t).entry p) ≡ true → t.left_linked ≡ false
       → is_member_in (family_of adapter objects (map table_of tables) cs) f p ≡ true
-  in_some t within read held left = by (is_member_in w f p) refl
+  in_some t in_bounds read held left = by (is_member_in w f p) refl
     where
       w : Family A V
       w = family_of adapter objects (map table_of tables) cs
 
       kept_in : get_or (left_in tables) f true ≡ false
-      kept_in = get_or-map (λ (x : WorldField M). x.left_linked) tables f t true within ∙ ap (λ (x : WorldField M). x.left_linked) (sym read) ∙ left
+      kept_in = get_or-map (λ (x : WorldField M). x.left_linked) tables f t true in_bounds ∙ ap (λ (x : WorldField M). x.left_linked) (sym read) ∙ left
 
       by : (b : Bool) → is_member_in w f p ≡ b → is_member_in w f p ≡ true
       by true e = e
-      by false e = absurd (kept.1.none f p kept_in (linked_read tables kept f t p within read ∙ held, absent_in w f p e))
+      by false e = absurd (kept.1.none f p kept_in (linked_read tables kept f t p in_bounds read ∙ held, absent_in w f p e))
 
   -- AN OBJECT IS UNLINKED BY FORCE, if it is a member of no collection of the field
-  module _ (within : f < length tables) (t : WorldField M) (read : t ≡ get_or tables f t) (links : AnyTable M) (free : IsUnlinked is_linked (table_in links) p) (frame : ChangesOnly (table_of t) (table_in links) p)
+  module _ (in_bounds : f < length tables) (t : WorldField M) (read : t ≡ get_or tables f t) (links : AnyTable M) (free : IsUnlinked is_linked (table_in links) p) (frame : ChangesOnly (table_of t) (table_in links) p)
       {old : Family A V} (view : family_of adapter objects (map table_of tables) cs ≡ old) (none : is_member_in old f p ≡ false) where
     in_map : f < length (map table_of tables)
-    in_map = rw length-map within
+    in_map = rw length-map in_bounds
 
     changes : ChangesOnly (table (map table_of tables) f) (table_in links) p
-    changes = subst (λ u. ChangesOnly u (table_in links) p) (sym (table_read tables f t within read)) frame
+    changes = subst (λ u. ChangesOnly u (table_in links) p) (sym (table_read tables f t in_bounds read)) frame
 
     absent : (c : ℕ) (k : Collection V) → at cs c ≡ Some k → k.field ≡ f → IsAbsent p (sequence (map table_of tables) k)
     absent c k is same =

@@ -51,10 +51,10 @@ grows_on t u v a b = record {
 
 -- if the table of the field f grows once more, the tables have still grown from `ts`
 grown_more : (ts us : List (Table Entry)) (f : ℕ) (t : Table Entry) → Grown ts us → f < length us → GrowsTo (table us f) t → Grown ts (set us f t)
-grown_more ts us f t so within more = record {
+grown_more ts us f t so in_bounds more = record {
   count = length-set us f t ∙ so.count;
   each = λ g. elim (cases_eq g f) [
-    | inl e ↦ rw (e, get_or-set_same us f t no_table within) (grows_on (table ts f) (table us f) t (so.each f) more)
+    | inl e ↦ rw (e, get_or-set_same us f t no_table in_bounds) (grows_on (table ts f) (table us f) t (so.each f) more)
     | inr d ↦ rw (get_or-set_other us f g t no_table d) (so.each g)
   ];
 }
@@ -76,7 +76,7 @@ Covering count r said old new is_enough = record {
 }
 
 -- the table that grows is the table of the field f, which the call has read
-module _ {M A E : Type 0} {said is_enough : Type 0} (ts : List (Table Entry)) (tables : List (WorldField M)) (f count : ℕ) (within : f < length tables) (x : WorldField M) (links : AnyTable M) (r : Result A E)
+module _ {M A E : Type 0} {said is_enough : Type 0} (ts : List (Table Entry)) (tables : List (WorldField M)) (f count : ℕ) (in_bounds : f < length tables) (x : WorldField M) (links : AnyTable M) (r : Result A E)
     (e : Covering count r said (table_of (get_or tables f x)) (table_in links) is_enough) where
   abbrev u : WorldField M
   u = record (get_or tables f x) { links = links }
@@ -85,13 +85,13 @@ module _ {M A E : Type 0} {said is_enough : Type 0} (ts : List (Table Entry)) (t
   covered_more so =
       let t = table_of (get_or tables f x) in
       let more : GrowsTo t (table_of u) = record { longer = covers_more r t.extent (table_of u).extent count e.covers e.refused; identity = e.identity; entries = e.stays } in
-      rw map-set (grown_more ts (map table_of tables) f (table_of u) so (rw length-map within) (subst (λ v. GrowsTo v (table_of u)) (sym (get_or-map table_of tables f x no_table within)) more))
+      rw map-set (grown_more ts (map table_of tables) f (table_of u) so (rw length-map in_bounds) (subst (λ v. GrowsTo v (table_of u)) (sym (get_or-map table_of tables f x no_table in_bounds)) more))
 
   pub covered_next : is_ok r ≡ true → GrownTo ts (map table_of tables) f count → GrownTo ts (map table_of (set tables f u)) (f + 1) count
   covered_next ok so = record {
     grown = covered_more so.grown;
     done = λ g h. elim (cases_eq g f) [
-      | inl same ↦ let all = from_ok r ok e.covers in rw (map-set, same, get_or-set_same (map table_of tables) f (table_of u) no_table (rw length-map within)) (omega (arith, all))
+      | inl same ↦ let all = from_ok r ok e.covers in rw (map-set, same, get_or-set_same (map table_of tables) f (table_of u) no_table (rw length-map in_bounds)) (omega (arith, all))
       | inr d ↦ rw (map-set, get_or-set_other (map table_of tables) f g (table_of u) no_table d) (so.done g (omega (arith, h, d)))
     ];
   }
@@ -129,7 +129,7 @@ module _ {V : Type 0} {objects : Objects V} {room : ℕ} {ts : List (Table Entry
   pub kept_whole : (more : ℕ) → room ≤ more → length ts ≤ length us → ((f : ℕ) → f < length us → more ≤ (table us f).extent.places)
       → ((f : ℕ) (q : Place) → is_linked ((table us f).entry q) ≡ true → HasObject objects (index_of q)) → IsWhole objects more us cs
   kept_whole more reach longer covered placed = record {
-    within = λ i has. let h = whole.within i has in (let low = h.0 in omega (arith, low, reach), h.1);
+    in_bounds = λ i has. let h = whole.in_bounds i has in (let low = h.0 in omega (arith, low, reach), h.1);
     covered = covered;
     placed = placed;
     in_field = λ c k is. let old = whole.in_field c k is in omega (arith, old, longer);
@@ -187,13 +187,13 @@ module _ {V : Type 0} {objects : Objects V} {room : ℕ} {ts : List (Table Entry
   in_old f h = get_or_append_left ts (t ∷ []) no_table f h
 
   last : (f : ℕ) → length ts ≤ f → f < length more → table more f ≡ t
-  last f past within = get_or_push ts t no_table f (let n = length-append ts (t ∷ []) in omega (arith, within, past, n))
+  last f past in_bounds = get_or_push ts t no_table f (let n = length-append ts (t ∷ []) in omega (arith, in_bounds, past, n))
 
   -- no place is linked in a field whose number is past the old fields
   unlinked : (f : ℕ) (q : Place) → length ts ≤ f → is_linked ((table more f).entry q) ≡ false
   unlinked f q past = elim (side (length more) f) [
     | inl beyond ↦ rw (get_or_past more f no_table beyond) refl
-    | inr within ↦ rw (last f past within) (none q)
+    | inr in_bounds ↦ rw (last f past in_bounds) (none q)
   ]
 
   -- in each table, with the added one, only covered places are linked, and each collection is still kept
@@ -241,14 +241,14 @@ module _ {A V K M : Type 0} {adapter : A} {objects : Objects V} {room : ℕ} (ta
   field_added kind links fresh (Err r) news e = rw (e.0, e.1) (kept, view)
 
 -- A PLACE p IS UNLINKED in the table of the field f. The place p is a member of no collection of the field
-module _ {V : Type 0} {objects : Objects V} {room : ℕ} {ts : List (Table Entry)} {cs : List (Option (Collection V))} (whole : IsWhole objects room ts cs) (f : ℕ) (within : f < length ts)
+module _ {V : Type 0} {objects : Objects V} {room : ℕ} {ts : List (Table Entry)} {cs : List (Option (Collection V))} (whole : IsWhole objects room ts cs) (f : ℕ) (in_bounds : f < length ts)
     (t : Table Entry) (p : Place) (free : IsUnlinked is_linked t p) (frame : ChangesOnly (table ts f) t p)
     (none : (c : ℕ) (k : Collection V) → at cs c ≡ Some k → k.field ≡ f → IsAbsent p (sequence ts k)) where
   abbrev us : List (Table Entry)
   us = set ts f t
 
   here : table us f ≡ t
-  here = get_or-set_same ts f t no_table within
+  here = get_or-set_same ts f t no_table in_bounds
 
   there : (g : ℕ) → g ≢ f → table us g ≡ table ts g
   there g d = get_or-set_other ts f g t no_table d
@@ -281,7 +281,7 @@ module _ {V : Type 0} {objects : Objects V} {room : ℕ} {ts : List (Table Entry
   pub freed_whole : IsWhole objects room us cs
   freed_whole =
       kept_whole whole us law_all kept_all room (omega arith) (let n = length-set ts f t in omega (arith, n)) (λ g h. elim (cases_eq g f) [
-        | inl same ↦ rw (same, here, frame.extent) (whole.covered f within)
+        | inl same ↦ rw (same, here, frame.extent) (whole.covered f in_bounds)
         | inr other ↦ rw (there g other) (whole.covered g (rw length-set at h))
       ]) (λ g q h. elim (cases_eq g f) [
         | inl same ↦ whole.placed f q (fewer q (rw (same, here) at h))
@@ -290,7 +290,7 @@ module _ {V : Type 0} {objects : Objects V} {room : ℕ} {ts : List (Table Entry
 
   pub freed_family : {A : Type 0} {adapter : A} → family_of adapter objects us cs ≡ with_linked (family_of adapter objects ts cs) f (set_of.remove (linked_of (family_of adapter objects ts cs) f) (index_of p))
   freed_family {adapter = adapter} =
-      let at_f = field_at adapter objects ts cs f within in
+      let at_f = field_at adapter objects ts cs f in_bounds in
       let kinds : kind_of t ≡ (field_of (family_of adapter objects ts cs) f).kind = ap (λ (x : Extent). kind_with x.identity) frame.extent ∙ ap (λ (x : LinkField). x.kind) (sym at_f) in
       let links = linked_loses (table ts f) t (lawful whole f) law_here p free (λ q d. ap is_linked (frame.others q d)) ∙ ap (λ (x : LinkField). set_of.remove x.linked (index_of p)) (sym at_f) in
       let field : field_in t ≡ record { kind = (field_of (family_of adapter objects ts cs) f).kind; linked = set_of.remove (linked_of (family_of adapter objects ts cs) f) (index_of p) } = λ i. record { kind = kinds i; linked = links i } in

@@ -33,7 +33,7 @@ module _ {V : Type 0} {objects : Objects V} {room : ℕ} {ts : List (Table Entry
     alike = parts.alike;
     frame = parts.frame;
     placed = λ q h. whole.placed k.field q (sym (parts.links q) ∙ h);
-    within = λ q out. (parts.within q out).0;
+    adds_none = λ q out. (parts.adds_none q out).0;
     beside = λ d l n is_l same. whole.apart d c l k n is_l is same;
   }
 
@@ -57,7 +57,7 @@ module _ {V : Type 0} {objects : Objects V} {room : ℕ} {ts : List (Table Entry
       subst (IsDisjoint (sequence tables l)) (sym shows) (elim (at_after whole part_edit d l is_l) [
         | inl this ↦ subst (λ x. IsDisjoint (sequence tables x) (members_in new handed)) (sym this.1) (subst (λ s. IsDisjoint s (members_in new handed)) (sym (new_sequence whole part_edit)) parts.apart)
         | inr old ↦ subst (λ s. IsDisjoint s (members_in new handed)) (sym (same_sequence whole part_edit d l old.0 old.1))
-            (absent_swap (sequence ts l) (sequence ts k) (whole.apart d c l k old.0 old.1 is same) (members_in new handed) (λ q out. (parts.within q out).1))
+            (absent_swap (sequence ts l) (sequence ts k) (whole.apart d c l k old.0 old.1 is same) (members_in new handed) (λ q out. (parts.adds_none q out).1))
       ])
 
   field_there : k.field < length tables

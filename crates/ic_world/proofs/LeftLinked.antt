@@ -126,7 +126,7 @@ module _ {A V : Type 0} (w : Family A V) (f : ℕ) (p : Place) where
   linked_now : (l : set_of.FinSet nat_cmp) → set_of.contains (linked_of (with_linked w f l) f) (index_of p) ≡ true → set_of.contains l (index_of p) ≡ true
   linked_now l h = elim (side (length w.fields) f) [
     | inl past ↦ absurd (let no = ap (λ (fs : List LinkField). set_of.contains (field_of (record w { fields = fs }) f).linked (index_of p)) (set_past w.fields f _ past) ∙ ap (λ (x : LinkField). set_of.contains x.linked (index_of p)) (get_or_past w.fields f _ past) ∙ contains-empty nat_cmp (index_of p) in let both : false ≡ true = sym no ∙ h in cc)
-    | inr within ↦ sym (ap (λ (x : LinkField). set_of.contains x.linked (index_of p)) (get_or-set_same w.fields f _ _ within)) ∙ h
+    | inr in_bounds ↦ sym (ap (λ (x : LinkField). set_of.contains x.linked (index_of p)) (get_or-set_same w.fields f _ _ in_bounds)) ∙ h
   ]
 
   relinked : (g : ℕ) (l : set_of.FinSet nat_cmp) → (f ≡ g → set_of.contains l (index_of p) ≡ true → set_of.contains (linked_of w g) (index_of p) ≡ true)
@@ -259,8 +259,8 @@ none_cleared {left = left} {old = old} before c s is = record {
   none = λ f p kept h. elim (cases_eq f s.field) [
     | inl same ↦ absurd (elim (side (length left) f) [
       | inl past ↦ let no = get_or_past (set left s.field true) f true (let n = length-set left s.field true in omega (arith, n, past)) in let both : true ≡ false = sym no ∙ kept in cc
-      | inr within ↦
-          let no : get_or (set left s.field true) f true ≡ true = ap (λ g. get_or (set left g true) f true) (sym same) ∙ get_or-set_same left f true true within in
+      | inr in_bounds ↦
+          let no : get_or (set left s.field true) f true ≡ true = ap (λ g. get_or (set left g true) f true) (sym same) ∙ get_or-set_same left f true true in_bounds in
           let both : true ≡ false = sym no ∙ kept in cc
     ])
     | inr other ↦ before.none f p (sym (get_or-set_other left s.field f true true other) ∙ kept) (replaced old f p c (Some (with_members s [] None)) (λ r is_r field.
@@ -282,8 +282,8 @@ pub none_added : {A V : Type 0} {left : List Bool} {old : Family A V} → NoneLe
 none_added {left = left} {old = old} before count kind = record {
   none = λ f p kept h. elim (side (length old.fields) f) [
     | inl past ↦ absurd (let both : false ≡ true = sym (unlinked_there f p past) ∙ h.0 in cc)
-    | inr within ↦ before.none f p (sym (get_or_append_left left (false ∷ []) true f (omega (arith, within, count))) ∙ kept)
-        (sym (ap (λ (x : LinkField). set_of.contains x.linked (index_of p)) (get_or_append_left old.fields (new ∷ []) _ f within)) ∙ h.0, h.1)
+    | inr in_bounds ↦ before.none f p (sym (get_or_append_left left (false ∷ []) true f (omega (arith, in_bounds, count))) ∙ kept)
+        (sym (ap (λ (x : LinkField). set_of.contains x.linked (index_of p)) (get_or_append_left old.fields (new ∷ []) _ f in_bounds)) ∙ h.0, h.1)
   ];
 }
   where

@@ -87,14 +87,14 @@ beyond t i h =
 -- a set is the linked set of t, if it has the linked places and no other index
 is_linked_set : (t : Table Entry) → IsLawful t → (s : set.FinSet nat_cmp) → ((p : Place) → set.contains s (index_of p) ≡ is_linked (t.entry p))
     → ((i : ℕ) → 8589934591 ≤ i → set.contains s i ≡ false) → linked_in t ≡ s
-is_linked_set t law s within past =
+is_linked_set t law s in_bounds past =
     same_set nat_cmp_total nat_cmp-IsAntisymmetric _ _ (λ i.
     elim (side 8589934591 i) [
       | inl h ↦ beyond t i h ∙ sym (past i h)
       | inr h ↦
           let p = place_with i h in
           let P : ℕ → Type 0 = λ j. set.contains (linked_in t) j ≡ set.contains s j in
-          subst P p.1 (in_linked t law p.0 ∙ sym (within p.0))
+          subst P p.1 (in_linked t law p.0 ∙ sym (in_bounds p.0))
     ])
 
 pub linked_empty : linked_in no_table ≡ set.empty

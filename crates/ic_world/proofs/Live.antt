@@ -68,15 +68,15 @@ module _ {V : Type 0} (t : Table Entry) (p : Place) (list : List (Numbered V)) w
   Lack i = (j : ℕ) → j < i → (n : Numbered V) → slice_get list j ≡ Some n → IsMember p (members_in t n.members) → ⊥
 
   pub one_held : EachHeld t list → (i : ℕ) (n : Numbered V) → i < length list → n ≡ get_or list i n → Held t n.members
-  one_held held i n within read = held i n (slice_get_read list (length list) i n refl within read)
+  one_held held i n in_bounds read = held i n (slice_get_read list (length list) i n refl in_bounds read)
 
   pub some_has : (i : ℕ) (n : Numbered V) → i < length list → n ≡ get_or list i n → IsMember p (members_in t n.members) → IsTrue true ↔ SomeHas t p list
-  some_has i n within read member = ((λ _. record { index = i; one = n; is = slice_get_read list (length list) i n refl within read; member = member }), (λ _. refl))
+  some_has i n in_bounds read member = ((λ _. record { index = i; one = n; is = slice_get_read list (length list) i n refl in_bounds read; member = member }), (λ _. refl))
 
   pub none_more : (i : ℕ) (n : Numbered V) → i < length list → n ≡ get_or list i n → (IsMember p (members_in t n.members) → ⊥) → Lack i → Lack (i + 1)
-  none_more i n within read lacks before j low m is = elim (cases_eq j i) [
+  none_more i n in_bounds read lacks before j low m is = elim (cases_eq j i) [
     | inl same ↦
-        let this : n ≡ m = same_Some _ _ (sym (slice_get_read list (length list) i n refl within read) ∙ ap (slice_get list) (sym same) ∙ is) in
+        let this : n ≡ m = same_Some _ _ (sym (slice_get_read list (length list) i n refl in_bounds read) ∙ ap (slice_get list) (sym same) ∙ is) in
         subst (λ (x : Numbered V). IsMember p (members_in t x.members) → ⊥) this lacks
     | inr other ↦ before j (omega (arith, low, other)) m is
   ]
@@ -87,4 +87,4 @@ module _ {V : Type 0} (t : Table Entry) (p : Place) (list : List (Numbered V)) w
 
 -- the list that a call reads for the field f has the live collections of the field
 pub field_list : {V M : Type 0} (lists : List (Vec (Numbered V) M)) (f : ℕ) (list : Vec (Numbered V) M) → f < length lists → list ≡ get_or lists f list → live_in (map items_of lists) f ≡ list.items
-field_list {V} {M} lists f list within read = get_or-map items_of lists f list [] within ∙ ap (λ (v : Vec (Numbered V) M). v.items) (sym read)
+field_list {V} {M} lists f list in_bounds read = get_or-map items_of lists f list [] in_bounds ∙ ap (λ (v : Vec (Numbered V) M). v.items) (sym read)

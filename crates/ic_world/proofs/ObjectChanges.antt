@@ -38,8 +38,8 @@ use Rattle.ic_world.proofs.Steps.{step_accepted, step_refused, passes, fails}
 -- p is linked in the field f of the family exactly if its entry in the table of f is linked
 pub field_has : {M : Type 0} (tables : List (WorldField M)) (p : Place) (f : ℕ) (x : WorldField M) → f < length tables
     → set_of.contains (get_or (map field_in (map table_of tables)) f (field_in no_table)).linked (index_of p) ≡ is_linked ((table_of (get_or tables f x)).entry p)
-field_has tables p f x within =
-    ap (λ (t : LinkField). set_of.contains t.linked (index_of p)) (map_at field_in (map table_of tables) f no_table ∙ ap field_in (get_or-map table_of tables f x no_table within))
+field_has tables p f x in_bounds =
+    ap (λ (t : LinkField). set_of.contains t.linked (index_of p)) (map_at field_in (map table_of tables) f no_table ∙ ap field_in (get_or-map table_of tables f x no_table in_bounds))
     ∙ in_linked (table_of (get_or tables f x)) (lawful_field (get_or tables f x).links) p
 
 -- after a value was put at p, there is an object at p, and every other index has the value that it had
@@ -82,18 +82,18 @@ module _ {V : Type 0} {objects : Objects V} {room : ℕ} {ts : List (Table Entry
       by false e = e
       by true e = elim (side (length ts) f) [
         | inl past ↦ ap (λ (t : Table Entry). is_linked (t.entry p)) (get_or_past ts f no_table past)
-        | inr within ↦
+        | inr in_bounds ↦
             let here : has (get_or (map field_in ts) f (field_in no_table)) ≡ true = ap has (map_at field_in ts f no_table) ∙ in_linked (table ts f) (lawful whole f) p ∙ e in
-            absurd (let both : true ≡ false = sym (list_any_at has (map field_in ts) f (field_in no_table) (rw length-map within) here) ∙ none in cc)
+            absurd (let both : true ≡ false = sym (list_any_at has (map field_in ts) f (field_in no_table) (rw length-map in_bounds) here) ∙ none in cc)
       ]
 
 module _ {V : Type 0} {old new : Objects V} {room : ℕ} {ts : List (Table Entry)} {cs : List (Option (Collection V))} (whole : IsWhole old room ts cs) where
   -- A VALUE IS PUT at a place for which there is room, and the invariant of the world still holds
   pub put_whole : (p : Place) (v : V) → new.values ≡ map_of.insert old.values (index_of p) v → (index_of p < room) × (index_of p < 2 ^ 32) → IsWhole new room ts cs
   put_whole p v values reach = record {
-    within = λ i has. elim (put_at old new p v values i) [
+    in_bounds = λ i has. elim (put_at old new p v values i) [
       | inl here ↦ rw here.0 reach
-      | inr there ↦ whole.within i (rw there.1 at has)
+      | inr there ↦ whole.in_bounds i (rw there.1 at has)
     ];
     covered = whole.covered;
     placed = λ f q h. elim (put_at old new p v values (index_of q)) [
@@ -109,9 +109,9 @@ module _ {V : Type 0} {old new : Objects V} {room : ℕ} {ts : List (Table Entry
   pub removed_whole : (p : Place) → new.values ≡ map_of.remove old.values (index_of p) → list_any (λ (f : LinkField). set_of.contains f.linked (index_of p)) (map field_in ts) ≡ false
       → IsWhole new room ts cs
   removed_whole p values none = record {
-    within = λ i has. elim (removed_at old new p values i) [
+    in_bounds = λ i has. elim (removed_at old new p values i) [
       | inl gone ↦ absurd (let h = rw gone.1 at has in cc)
-      | inr there ↦ whole.within i (rw there.1 at has)
+      | inr there ↦ whole.in_bounds i (rw there.1 at has)
     ];
     covered = whole.covered;
     placed = λ f q h. elim (removed_at old new p values (index_of q)) [
@@ -136,7 +136,7 @@ module _ {A V K : Type 0} (cmp : K → K → Ordering) (key_of : A → V → K) 
       → IsWhole new room ts cs × Step cmp key_of old (SetValue p v) (reply_of_value (λ _. done) r) (family_of adapter new ts cs)
   value_swapped p v (Ok was) new e =
       let has : place_is_placed objects p ≡ true = ap is_some e.0 in (
-        put_whole whole p v (ap (λ (o : Objects V). o.values) e.1) (whole.within (index_of p) has),
+        put_whole whole p v (ap (λ (o : Objects V). o.values) e.1) (whole.in_bounds (index_of p) has),
         rw (← view, e.1) (step_accepted cmp key_of (family_of adapter objects ts cs) (SetValue p v) done _ (passes _ NoSuchObject None has) (refl, refl)),
       )
   value_swapped p v (Err x) new e =

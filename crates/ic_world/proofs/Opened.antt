@@ -48,16 +48,16 @@ get_pushed (y ∷ xs) x (suc d) l e =
 
 -- A COLLECTION k IS ADDED. It shares no member with another collection of its field
 module _ {V : Type 0} {objects : Objects V} {room : ℕ} {ts : List (Table Entry)} {cs : List (Option (Collection V))} (whole : IsWhole objects room ts cs)
-    (k : Collection V) (within : k.field < length ts) (held : Held (table ts k.field) k.members)
+    (k : Collection V) (in_bounds : k.field < length ts) (held : Held (table ts k.field) k.members)
     (apart : (d : ℕ) (l : Collection V) → at cs d ≡ Some l → l.field ≡ k.field → IsDisjoint (sequence ts l) (sequence ts k)) where
   pub appended_whole : IsWhole objects room ts (cs ++ Some k ∷ [])
   appended_whole = record {
-    within = whole.within;
+    in_bounds = whole.in_bounds;
     covered = whole.covered;
     placed = whole.placed;
     in_field = λ c l is. elim (get_pushed cs _ c l is) [
       | inl h ↦ whole.in_field c l h
-      | inr h ↦ let e : k ≡ l = some_same h.1 in rw (← e) within
+      | inr h ↦ let e : k ≡ l = some_same h.1 in rw (← e) in_bounds
     ];
     held = λ c l is. elim (get_pushed cs _ c l is) [
       | inl h ↦ whole.held c l h
@@ -81,9 +81,9 @@ module _ {V : Type 0} {objects : Objects V} {room : ℕ} {ts : List (Table Entry
 -- the tests of `open` for an existing field depend only on the kind of the table that the call has read
 pub open_tests : {A V M : Type 0} (adapter : A) (objects : Objects V) (tables : List (WorldField M)) (cs : List (Option (Collection V))) {old : Family A V} → family_of adapter objects (map table_of tables) cs ≡ old → (f : ℕ) (kind : Kind) (t : WorldField M)
     → f < length tables → t ≡ get_or tables f t → refusal_of_open old f kind ≡ asks (carries (kind_of (table_of t)) kind) WrongKind None
-open_tests adapter objects tables cs view f kind t within read =
-    rw (← view) (field_there (family_of adapter objects (map table_of tables) cs) f _ (rw (length-map, length-map) within)
-    ∙ ap (λ x. asks (carries x.kind kind) WrongKind None) (field_at adapter objects (map table_of tables) cs f (rw length-map within) ∙ ap field_in (table_read tables f t within read)))
+open_tests adapter objects tables cs view f kind t in_bounds read =
+    rw (← view) (field_there (family_of adapter objects (map table_of tables) cs) f _ (rw (length-map, length-map) in_bounds)
+    ∙ ap (λ x. asks (carries x.kind kind) WrongKind None) (field_at adapter objects (map table_of tables) cs f (rw length-map in_bounds) ∙ ap field_in (table_read tables f t in_bounds read)))
 
 -- a list or tree m of the given kind is new: it is empty in each table that can serve its kind, and its cursor is at null
 abbrev New : {V : Type 0} → Kind → AnyCollection V → Type 0
@@ -103,11 +103,11 @@ module _ {A V K : Type 0} (cmp : K → K → Ordering) (key_of : A → V → K) 
   tests : (has_field (family_of adapter objects ts cs) f ≡ true) × (asks (carries (field_of (family_of adapter objects ts cs) f).kind kind) WrongKind None ≡ None)
   tests = asks_none (has_field (family_of adapter objects ts cs) f) NoSuchField _ (rw (← view) at none)
 
-  within : f < length ts
-  within = rw length-map at (ltb-true f (length (map field_in ts)) tests.0)
+  in_bounds : f < length ts
+  in_bounds = rw length-map at (ltb-true f (length (map field_in ts)) tests.0)
 
   keeps : Keeps (table ts f) m []
-  keeps = new.kept (table ts f) (ap (λ x. carries x.kind kind) (sym (field_at adapter objects ts cs f within)) ∙ (asks_none (carries (field_of (family_of adapter objects ts cs) f).kind kind) WrongKind None tests.1).0)
+  keeps = new.kept (table ts f) (ap (λ x. carries x.kind kind) (sym (field_at adapter objects ts cs f in_bounds)) ∙ (asks_none (carries (field_of (family_of adapter objects ts cs) f).kind kind) WrongKind None tests.1).0)
 
   no_members : sequence ts fresh ≡ []
   no_members = one_sequence (table ts f) (lawful whole f) m [] keeps.shown
@@ -118,7 +118,7 @@ module _ {A V K : Type 0} (cmp : K → K → Ordering) (key_of : A → V → K) 
       let last : represented_as ts (Some fresh) ≡ Some (record { field = f; kind = kind; members = []; cursor = None }) = λ i. Some (record { field = f; kind = new.kind i; members = no_members i; cursor = new.null i }) in
       let all = map-append (represented_as ts) cs (Some fresh ∷ []) ∙ ap (λ x. map (represented_as ts) cs ++ x ∷ []) last in
       rw e.1 (
-        appended_whole whole fresh within (subst (Keeps (table ts f) m) (sym no_members) keeps) (λ d l is same. subst (IsDisjoint (sequence ts l)) (sym no_members) (disjoint_none (sequence ts l))),
+        appended_whole whole fresh in_bounds (subst (Keeps (table ts f) m) (sym no_members) keeps) (λ d l is same. subst (IsDisjoint (sequence ts l)) (sym no_members) (disjoint_none (sequence ts l))),
         step_accepted cmp key_of old (Open f kind) (opened n) _ none (rw (← view) (rw length-map e.0, λ i. record { adapter = adapter; objects = objects.values; fields = map field_in ts; collections = all i })),
       )
   opened_by (Err r) news e = rw (e.0, e.1) (whole, step_accepted cmp key_of old (Open f kind) (refused OutOfMemory) _ none view)
@@ -126,7 +126,7 @@ module _ {A V K : Type 0} (cmp : K → K → Ordering) (key_of : A → V → K) 
 -- THE INVARIANT HOLDS OF A NEW WORLD, which has no object, field or collection
 pub empty_whole : {V : Type 0} (objects : Objects V) → objects.values ≡ map_of.empty → IsWhole objects 0 [] []
 empty_whole objects none = record {
-  within = λ i has. let lacks : map_of.get objects.values i ≡ None = ap (λ m. map_of.get m i) none ∙ get-empty nat_cmp i in let h = rw lacks at has in cc;
+  in_bounds = λ i has. let lacks : map_of.get objects.values i ≡ None = ap (λ m. map_of.get m i) none ∙ get-empty nat_cmp i in let h = rw lacks at has in cc;
   covered = λ f h. absurd (omega (arith, h));
   placed = λ f q h. cc;
   in_field = λ c k is. cc;

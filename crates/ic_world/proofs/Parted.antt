@@ -27,7 +27,7 @@ module _ {V : Type 0} {old new : Table Entry} {m m' part : AnyCollection V} (law
       → cursor_in m' ≡ cursor → cursor_in part ≡ None → KeepsLinked is_linked old new → ChangesOnlyIn old new (members_in old m)
       → ((q : Place) → IsAbsent q (members_in old m) → IsAbsent q s × IsAbsent q u) → IsDisjoint s u
       → P (state_of old m) (having (state_of old m) s cursor) (having (state_of old m) u None) → HandsOut P old new m m' part
-  hands_by {P} s u cursor kept handed alike part_alike at null links frame within apart parts =
+  hands_by {P} s u cursor kept handed alike part_alike at null links frame adds_none apart parts =
       let shown = one_sequence new law' m' s kept.shown in
       let part_represented = one_sequence new law' part u handed.shown in
       let linked = linked_same old new law law' links in
@@ -40,7 +40,7 @@ module _ {V : Type 0} {old new : Table Entry} {m m' part : AnyCollection V} (law
         part_alike = part_alike;
         links = links;
         frame = frame;
-        within = λ q out. rw (shown, part_represented) (within q out);
+        adds_none = λ q out. rw (shown, part_represented) (adds_none q out);
         apart = rw (shown, part_represented) apart;
         parts = subst (P (state_of old m) (state_of new m')) (sym goes) (subst (λ t. P (state_of old m) t (having (state_of old m) u None)) (sym stays) parts);
       }
@@ -49,10 +49,10 @@ module _ {V : Type 0} {old new : Table Entry} {m m' part : AnyCollection V} (law
   by_gap : {P : State → State → State → Type 0} (kept handed : List Place) → Parts old new m m' kept handed part
       → ((q : Place) → IsAbsent q (members_in old m) → IsAbsent q kept × IsAbsent q handed) → IsDisjoint kept handed
       → P (state_of old m) (having (state_of old m) kept (cursor_in m)) (having (state_of old m) handed None) → HandsOut P old new m m' part
-  by_gap kept handed e within apart parts =
+  by_gap kept handed e adds_none apart parts =
       hands_by kept handed (cursor_in m) e.leaves.kept e.hands_out e.leaves.alike e.part_alike e.leaves.cursor_is e.null e.links
-      (record { extent = e.leaves.frame.extent; others = λ q out. e.leaves.frame.others q (absent_both q kept handed (within q out).0 (within q out).1) })
-      within apart parts
+      (record { extent = e.leaves.frame.extent; others = λ q out. e.leaves.frame.others q (absent_both q kept handed (adds_none q out).0 (adds_none q out).1) })
+      adds_none apart parts
 
   module _ (held : Held old m) (gap : Cut) (cut : join gap ≡ members_in old m) where
     -- the members after the cursor are given away

@@ -51,7 +51,7 @@ module _ {A V M : Type 0} (adapter : A) {objects : Objects V} {room : ℕ} (fiel
   w = family_of adapter objects ts cs
 
   linked_read : (f : ℕ) → f < length ts → (p : Place) → set.contains (linked_of w f) (index_of p) ≡ is_linked ((table ts f).entry p)
-  linked_read f within p = ap (λ l. set.contains l (index_of p)) (linked_at adapter objects ts cs f within) ∙ in_linked (table ts f) (lawful_at fields f) p
+  linked_read f in_bounds p = ap (λ l. set.contains l (index_of p)) (linked_at adapter objects ts cs f in_bounds) ∙ in_linked (table ts f) (lawful_at fields f) p
 
   none_past : (f : ℕ) (p : Place) → set.contains (linked_of w f) (index_of p) ≡ true → f < length ts
   none_past f p h = elim (side (length ts) f) [
@@ -59,7 +59,7 @@ module _ {A V M : Type 0} (adapter : A) {objects : Objects V} {room : ℕ} (fiel
         let none : set.contains (linked_of w f) (index_of p) ≡ false =
         ap (λ (x : LinkField). set.contains x.linked (index_of p)) (get_or_past (map field_in ts) f (record { kind = SinglyKind; linked = set.empty }) (rw length-map past)) ∙ contains-empty nat_cmp (index_of p) in
         absurd (true≢false (sym h ∙ none))
-    | inr within ↦ within
+    | inr in_bounds ↦ in_bounds
   ]
 
   member_linked : (c : ℕ) (k : Collection V) → at cs c ≡ Some k → (p : Place) → IsMember p (sequence ts k) → (b : Bool) → is_linked ((table ts k.field).entry p) ≡ b → b ≡ true
@@ -68,18 +68,18 @@ module _ {A V M : Type 0} (adapter : A) {objects : Objects V} {room : ℕ} (fiel
 
   sound_at : (c : ℕ) (k : Collection V) → at cs c ≡ Some k → IsSoundIn w (seen_as k (sequence ts k))
   sound_at c k is =
-      let within = kept.0.in_field c k is in
+      let in_bounds = kept.0.in_field c k is in
       let held = kept.0.held c k is in
       record {
-        in_field = lt-ltb k.field (length (map field_in ts)) (rw (length-map ts field_in) within);
-        carried = ap (λ (x : LinkField). carries x.kind (kind_in k.members)) (field_at adapter objects ts cs k.field within) ∙ held.carried;
-        linked = λ p there. linked_read k.field within p ∙ member_linked c k is p there (is_linked ((table ts k.field).entry p)) refl;
+        in_field = lt-ltb k.field (length (map field_in ts)) (rw (length-map ts field_in) in_bounds);
+        carried = ap (λ (x : LinkField). carries x.kind (kind_in k.members)) (field_at adapter objects ts cs k.field in_bounds) ∙ held.carried;
+        linked = λ p there. linked_read k.field in_bounds p ∙ member_linked c k is p there (is_linked ((table ts k.field).entry p)) refl;
         cursor = stands_on k.members (sequence ts k) held.stands;
       }
 
   pub is_sound : IsSound w
   is_sound = record {
-    below = λ p has. (kept.0.within (index_of p) has).1;
+    below = λ p has. (kept.0.in_bounds (index_of p) has).1;
     placed = λ f p h. kept.0.placed f p (sym (linked_read f (none_past f p h) p) ∙ h);
     collections = λ c s is. let k = seen_at adapter kept.0 c s is in subst (IsSoundIn w) k.2 (sound_at c k.0 k.1);
     apart = are_apart adapter kept.0;

@@ -32,7 +32,7 @@ module _ {V : Type 0} {objects : Objects V} {room : ℕ} {ts : List (Table Entry
     alike = e.alike;
     frame = record { extent = refl; others = λ q out. refl };
     placed = whole.placed k.field;
-    within = λ q out. tt;
+    adds_none = λ q out. tt;
     beside = λ d l n is_l same. disjoint_none (sequence ts l);
   }
 
@@ -90,7 +90,7 @@ module _ {V : Type 0} {objects : Objects V} {room : ℕ} {ts : List (Table Entry
     alike = puts.leaves.alike;
     frame = puts.leaves.frame;
     placed = λ q h. whole.placed k.field q (sym (puts.links q) ∙ h);
-    within = λ q out. out;
+    adds_none = λ q out. out;
     beside = others_apart;
   }
 

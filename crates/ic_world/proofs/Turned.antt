@@ -33,14 +33,14 @@ module _ {V : Type 0} {old new : Table Entry} {m m' : AnyCollection V} (law : Is
       → ((q : Place) → IsAbsent q fresh → is_linked (new.entry q) ≡ true → is_linked (old.entry q) ≡ true)
       → (e : Leaves old new m m' s cursor (fresh ++ members_in old m)) → ((q : Place) → IsAbsent q (fresh ++ members_in old m) → IsAbsent q s)
       → linked_in new ≡ linked → (state_of new m' ≡ after_call m s cursor linked → Accepts (state_of old m) (state_of new m')) → Turns names Accepts old new m m'
-  turns_by {s = s} fresh named free only e within is accepts =
+  turns_by {s = s} fresh named free only e adds_none is accepts =
       let shown = one_sequence new law' m' s e.kept.shown in record {
         fresh = fresh;
         named = named;
         free = free;
         only = only;
         frame = e.frame;
-        within = λ q out. subst (IsAbsent q) (sym shown) (within q out);
+        adds_none = λ q out. subst (IsAbsent q) (sym shown) (adds_none q out);
         held = held_of law' m' s e.kept;
         alike = e.alike;
         accepts = accepts (λ i. record { kind = e.alike i; members = shown i; cursor = e.cursor_is i; linked = is i });
@@ -116,6 +116,6 @@ module _ {V : Type 0} where
   pub turns_kept : {t : Table Entry} {m m' : AnyCollection V} {cursor : Option Place} {Accepts : State → State → Type 0} (law : IsLawful t) (s : List Place) → Keeps t m' s → Alike m m'
       → cursor_in m' ≡ cursor → ((q : Place) → IsAbsent q (members_in t m) → IsAbsent q s) → (state_of t m' ≡ having (state_of t m) s cursor → Accepts (state_of t m) (state_of t m'))
       → Turns [] Accepts t t m m'
-  turns_kept law s kept alike cursor_is within accepts =
+  turns_kept law s kept alike cursor_is adds_none accepts =
       turns_by law law [] (inl refl) tt (λ q out h. h)
-      (record { kept = kept; alike = alike; cursor_is = cursor_is; frame = record { extent = refl; others = λ q out. refl } }) within refl accepts
+      (record { kept = kept; alike = alike; cursor_is = cursor_is; frame = record { extent = refl; others = λ q out. refl } }) adds_none refl accepts

@@ -63,7 +63,7 @@ module _ {V : Type 0} where
   -- A WORLD IS WHOLE: the places of objects are below 2 ^ 32 and below `room`, and each table covers the places below `room`. Only places of objects
   -- are linked, each collection is kept by the table of its field, and the collections of one field share no member
   pub record IsWhole (objects : Objects V) (room : ℕ) (ts : List (Table Entry)) (cs : List (Option (Collection V))) : Type 0 where
-    pub within : (i : ℕ) → HasObject objects i → (i < room) × (i < 2 ^ 32)
+    pub in_bounds : (i : ℕ) → HasObject objects i → (i < room) × (i < 2 ^ 32)
     pub covered : (f : ℕ) → f < length ts → room ≤ (table ts f).extent.places
     pub placed : (f : ℕ) (q : Place) → is_linked ((table ts f).entry q) ≡ true → HasObject objects (index_of q)
     pub in_field : (c : ℕ) (k : Collection V) → at cs c ≡ Some k → k.field < length ts

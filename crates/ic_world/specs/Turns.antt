@@ -35,7 +35,7 @@ module _ {V : Type 0} where
     pub free : Each (IsUnlinked is_linked old) fresh
     pub only : (q : Place) → IsAbsent q fresh → is_linked (new.entry q) ≡ true → is_linked (old.entry q) ≡ true
     pub frame : ChangesOnlyIn old new (fresh ++ members_in old m)
-    pub within : (q : Place) → IsAbsent q (fresh ++ members_in old m) → IsAbsent q (members_in new m')
+    pub adds_none : (q : Place) → IsAbsent q (fresh ++ members_in old m) → IsAbsent q (members_in new m')
     pub held : Held new m'
     pub alike : Alike m m'
     pub accepts : Accepts (state_of old m) (state_of new m')
@@ -57,6 +57,6 @@ module _ {V : Type 0} where
     pub part_alike : Alike m handed
     pub links : KeepsLinked is_linked old new
     pub frame : ChangesOnlyIn old new (members_in old m)
-    pub within : (q : Place) → IsAbsent q (members_in old m) → IsAbsent q (members_in new m') × IsAbsent q (members_in new handed)
+    pub adds_none : (q : Place) → IsAbsent q (members_in old m) → IsAbsent q (members_in new m') × IsAbsent q (members_in new handed)
     pub apart : IsDisjoint (members_in new m') (members_in new handed)
     pub parts : Parts (state_of old m) (state_of new m') (state_of new handed)

@@ -39,7 +39,7 @@ record HandsRight (has : Place → Bool) (s t handed : State) : Type 0 where
   kind : handed.kind ≡ s.kind
   linked : t.linked ≡ s.linked
   distinct : IsDistinct handed.members
-  within : (q : Place) → IsAbsent q s.members → IsAbsent q handed.members
+  adds_none : (q : Place) → IsAbsent q s.members → IsAbsent q handed.members
   apart : IsDisjoint t.members handed.members
   null : handed.cursor ≡ None
 
@@ -53,7 +53,7 @@ module _ (has : Place → Bool) (s : State) (right : IsRight has s) where
         kind = refl;
         linked = refl;
         distinct = distinct_right front back distinct;
-        within = λ q out. absent_right q front back (subst (IsAbsent q) (sym cut) out);
+        adds_none = λ q out. absent_right q front back (subst (IsAbsent q) (sym cut) out);
         apart = distinct_disjoint front back distinct;
         null = refl;
       }))
@@ -67,7 +67,7 @@ module _ (has : Place → Bool) (s : State) (right : IsRight has s) where
         kind = refl;
         linked = refl;
         distinct = distinct_left front back distinct;
-        within = λ q out. absent_left q front back (subst (IsAbsent q) (sym cut) out);
+        adds_none = λ q out. absent_left q front back (subst (IsAbsent q) (sym cut) out);
         apart = disjoint_sym front back (distinct_disjoint front back distinct);
         null = refl;
       }))
@@ -130,13 +130,13 @@ module _ {A V : Type 0} (old : Family A V) (sound : IsSound old) where
         carried = ap (carries (field_of (with_state old c s.field t) s.field).kind) (h.kind ∙ sym h.kept.kind) ∙ here.carried;
         linked = λ p member.
             ap (λ u. set_of.contains u (index_of p)) (linked_there (with_collection old c (Some (sequence_of s.field t))) s.field t.linked k.in_field ∙ h.linked)
-            ∙ k.linked p (λ out. member (h.within p out));
+            ∙ k.linked p (λ out. member (h.adds_none p out));
         cursor = λ p e. absurd (none_not p (sym h.null ∙ e));
       })
       h.distinct
       (λ d r is_r same. elim (which_at old.collections c (Some (sequence_of s.field t)) is d r is_r) [
         | inl e ↦ subst (λ (x : Sequence). IsDisjoint x.members handed.members) (some_same e.1) h.apart
-        | inr e ↦ all_out r.members handed.members (λ p member. h.within p (outside old sound c s is d r e.0 e.1 same p member).1)
+        | inr e ↦ all_out r.members handed.members (λ p member. h.adds_none p (outside old sound c s is d r e.0 e.1 same p member).1)
       ])
     where
       k : IsSoundIn old s

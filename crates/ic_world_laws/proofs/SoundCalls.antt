@@ -153,10 +153,10 @@ module _ (has : Place → Bool) where
 
     -- a call that leaves some of the members, or reverses their order, keeps the state right, because each member was a member before
     pub keeps_part : (u : List Place) (o : Option Place) → IsDistinct u → ((q : Place) → IsAbsent q s.members → IsAbsent q u) → ((p : Place) → o ≡ Some p → IsMember p u) → KeepsRight s (having s u o)
-    keeps_part u o distinct within at = record {
+    keeps_part u o distinct adds_none at = record {
       kind = refl;
-      right = record { distinct = distinct; linked = λ p there. right.linked p (λ out. there (within p out)); cursor = at; placed = right.placed };
-      others = λ q h out. (h, within q out);
+      right = record { distinct = distinct; linked = λ p there. right.linked p (λ out. there (adds_none p out)); cursor = at; placed = right.placed };
+      others = λ q h out. (h, adds_none q out);
     }
 
     keeps_cleared : KeepsRight s (cleared s)

@@ -191,7 +191,7 @@ module _ {A V : Type 0} (w : Family A V) (sound : IsSound w) (x : Sequence) (rig
       | inl same ↦ inl (same, some_same (sym (get_or_push w.collections (Some x) None d (sym same)) ∙ e))
       | inr beyond ↦ absurd (none_not r (sym (get_or_past (w.collections ++ Some x ∷ []) d None (let n = length-append w.collections (Some x ∷ []) in omega (arith, n, past, beyond))) ∙ e))
     ]
-    | inr within ↦ inr (sym (get_or_append_left w.collections (Some x ∷ []) None d within) ∙ e)
+    | inr in_bounds ↦ inr (sym (get_or_append_left w.collections (Some x ∷ []) None d in_bounds) ∙ e)
   ]
 
   pub opened_sound : IsSound (with_opened w x)
@@ -220,7 +220,7 @@ module _ {A V : Type 0} (w : Family A V) (sound : IsSound w) (kind : Kind) where
   added = record w { fields = w.fields ++ record { kind = kind; linked = set_of.empty } ∷ [] }
 
   field_still : (f : ℕ) → f < length w.fields → field_of added f ≡ field_of w f
-  field_still f within = get_or_append_left w.fields (record { kind = kind; linked = set_of.empty } ∷ []) _ f within
+  field_still f in_bounds = get_or_append_left w.fields (record { kind = kind; linked = set_of.empty } ∷ []) _ f in_bounds
 
   none_linked : (f : ℕ) (p : Place) → length w.fields ≤ f → set_of.contains (linked_of added f) (index_of p) ≡ false
   none_linked f p past = elim (cases_eq f (length w.fields)) [
@@ -235,14 +235,14 @@ module _ {A V : Type 0} (w : Family A V) (sound : IsSound w) (kind : Kind) where
     below = sound.below;
     placed = λ f p h. elim (side (length w.fields) f) [
       | inl past ↦ absurd (true≢false (sym h ∙ none_linked f p past))
-      | inr within ↦ sound.placed f p (ap (λ (x : LinkField). set_of.contains x.linked (index_of p)) (sym (field_still f within)) ∙ h)
+      | inr in_bounds ↦ sound.placed f p (ap (λ (x : LinkField). set_of.contains x.linked (index_of p)) (sym (field_still f in_bounds)) ∙ h)
     ];
     collections = λ c s e.
         let k = sound.collections c s e in
-        let within : s.field < length w.fields = ltb-true s.field (length w.fields) k.in_field in
-        let same = field_still s.field within in
+        let in_bounds : s.field < length w.fields = ltb-true s.field (length w.fields) k.in_field in
+        let same = field_still s.field in_bounds in
         record {
-          in_field = lt-ltb s.field (length added.fields) (let n = length-append w.fields (record { kind = kind; linked = set_of.empty } ∷ []) in omega (arith, n, within));
+          in_field = lt-ltb s.field (length added.fields) (let n = length-append w.fields (record { kind = kind; linked = set_of.empty } ∷ []) in omega (arith, n, in_bounds));
           carried = ap (λ (x : LinkField). carries x.kind s.kind) same ∙ k.carried;
           linked = λ p member. ap (λ (x : LinkField). set_of.contains x.linked (index_of p)) same ∙ k.linked p member;
           cursor = k.cursor;
@@ -295,13 +295,13 @@ module _ {A V : Type 0} (w : Family A V) (sound : IsSound w) (p : Place) where
             ∙ sound.placed f q h
       ])
     where
-      within : (f : ℕ) (q : Place) → set_of.contains (linked_of w f) (index_of q) ≡ true → f < length w.fields
-      within f q h = elim (side (length w.fields) f) [
+      in_bounds : (f : ℕ) (q : Place) → set_of.contains (linked_of w f) (index_of q) ≡ true → f < length w.fields
+      in_bounds f q h = elim (side (length w.fields) f) [
         | inl past ↦ absurd (true≢false (sym h ∙ ap (λ (x : LinkField). set_of.contains x.linked (index_of q)) (get_or_past w.fields f _ past) ∙ contains-empty nat_cmp (index_of q)))
         | inr low ↦ low
       ]
 
       linked_is : (f : ℕ) (q : Place) → set_of.contains (linked_of w f) (index_of q) ≡ true → index_of q ≡ index_of p → is_linked_somewhere w p ≡ true
       linked_is f q h e =
-          list_any_at (λ (x : LinkField). set_of.contains x.linked (index_of p)) w.fields f (record { kind = Singly; linked = set_of.empty }) (within f q h)
+          list_any_at (λ (x : LinkField). set_of.contains x.linked (index_of p)) w.fields f (record { kind = Singly; linked = set_of.empty }) (in_bounds f q h)
           (ap (λ i. set_of.contains (linked_of w f) i) (sym e) ∙ h)

@@ -72,32 +72,31 @@ fn merged<L: RBTreeOps>(
     order.looks()
 }
 
-// Keeps in `tree` the members whose keys `other` also has, and returns a tree of the remaining members.
-fn kept_common<L: RBTreeOps>(
+// The members that a tree keeps when another tree parts it.
+#[derive(Clone, Copy)]
+enum Kept {
+    // The members whose keys the other tree also has.
+    Common,
+    // The members whose keys the other tree does not have.
+    Rest,
+}
+
+// Keeps one part of the members in `tree`, and returns a tree of the remaining members.
+fn parted<L: RBTreeOps>(
     tree: &mut RBTree<OwnKey>,
     links: &mut L,
     objects: &Objects<u64>,
     other: &RBTree<OwnKey>,
+    part: Kept,
 ) -> RBTree<OwnKey>
     requires two { TwoRepresented (Represents L.node) objects.now (L.table links.old) (root_of tree.old) (root_of other.now) }
     ensures kept { RepresentsPlaced (Represents L.node (L.table links.new) (root_of tree.new)) objects.now }
     ensures rest { RepresentsPlaced (Represents L.node (L.table links.new) (root_of result)) objects.now }
 {
-    intersection(tree, links, objects, &mut ByKeys::new(OwnKey), other)
-}
-
-// Keeps in `tree` the members whose keys `other` does not have, and returns a tree of the members whose keys both have.
-fn kept_rest<L: RBTreeOps>(
-    tree: &mut RBTree<OwnKey>,
-    links: &mut L,
-    objects: &Objects<u64>,
-    other: &RBTree<OwnKey>,
-) -> RBTree<OwnKey>
-    requires two { TwoRepresented (Represents L.node) objects.now (L.table links.old) (root_of tree.old) (root_of other.now) }
-    ensures kept { RepresentsPlaced (Represents L.node (L.table links.new) (root_of tree.new)) objects.now }
-    ensures common { RepresentsPlaced (Represents L.node (L.table links.new) (root_of result)) objects.now }
-{
-    difference(tree, links, objects, &mut ByKeys::new(OwnKey), other)
+    match part {
+        Kept::Common => intersection(tree, links, objects, &mut ByKeys::new(OwnKey), other),
+        Kept::Rest => difference(tree, links, objects, &mut ByKeys::new(OwnKey), other),
+    }
 }
 
 // Moves to `tree` the members of `other` whose keys `tree` does not have, and returns a tree of the members of `other` whose keys both have.
@@ -155,26 +154,15 @@ fn write_united<L: RBTreeOps>(notes: &mut Text, links: &mut L, objects: &Objects
     write_members(notes, &doubles, &*links, objects);
 }
 
-// Notes the members that the first tree keeps in an intersection, and the members that it does not keep.
-fn write_common<L: RBTreeOps>(notes: &mut Text, links: &mut L, objects: &Objects<u64>)
+// Notes the members that the first tree keeps, and the members that it does not keep.
+fn write_parted<L: RBTreeOps>(notes: &mut Text, links: &mut L, objects: &Objects<u64>, part: Kept)
     requires covers { (L.table links.old).extent.places ≡ 8 }
     requires placed { (q : Place) → index_of q < 8 → is_placed objects.now q ≡ true }
 {
     let (mut tree, other) = two_trees(links, objects);
-    let rest = kept_common(&mut tree, links, objects, &other);
+    let rest = parted(&mut tree, links, objects, &other, part);
     write_members(notes, &tree, &*links, objects);
     write_members(notes, &rest, &*links, objects);
-}
-
-// Notes the members that the first tree keeps in a difference, and the members that both had.
-fn write_rest<L: RBTreeOps>(notes: &mut Text, links: &mut L, objects: &Objects<u64>)
-    requires covers { (L.table links.old).extent.places ≡ 8 }
-    requires placed { (q : Place) → index_of q < 8 → is_placed objects.now q ≡ true }
-{
-    let (mut tree, other) = two_trees(links, objects);
-    let common = kept_rest(&mut tree, links, objects, &other);
-    write_members(notes, &tree, &*links, objects);
-    write_members(notes, &common, &*links, objects);
 }
 
 const NUMBERS: [u64; 8] = [10, 20, 30, 40, 20, 30, 50, 60];
@@ -197,9 +185,11 @@ fn two_trees_in_one(rt: HostRuntime) {
 fn a_tree_parted_by_another(rt: HostRuntime) {
     let alloc = rt.alloc();
     let mut notes = Text::new(alloc);
-    let (objects, mut links): (_, LinkOps) = eight_objects(alloc, NUMBERS).expect(&rt, "memory");
-    write_common(&mut notes, &mut links, &objects);
-    let (objects, mut links): (_, LinkOps) = eight_objects(alloc, NUMBERS).expect(&rt, "memory");
-    write_rest(&mut notes, &mut links, &objects);
+    for part in [Kept::Common, Kept::Rest] {
+        let (objects, mut links): (_, LinkOps) = eight_objects(alloc, NUMBERS).expect(
+            &rt, "memory",
+        );
+        write_parted(&mut notes, &mut links, &objects, part);
+    }
     assert_true(&rt, notes.has_words("20 30  10 40  10 40  20 30"));
 }

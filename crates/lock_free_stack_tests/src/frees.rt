@@ -4,7 +4,7 @@ ghost use Rattle.std.specs.Prelude.{◌≡◌, ◌<◌, ◌≤◌, ◌+◌, All,
 ghost use Rattle.ic_unsafe_ref.specs.declared.place.Place.{Place};
 ghost use Rattle.ic_lock_free_stack.specs.Holders.{stacks_of, spent_by, IsOf, IsNew, HasChain};
 
-use crate::places::take;
+use crate::places::{Order, take};
 use ic_lock_free_stack::{Chain, Holder, Stacks};
 use ic_unsafe_ref::Place;
 use stack_uses::remote_frees::{Owner, free, free_all};
@@ -145,7 +145,7 @@ pub(crate) fn come_back<R: Abort + Threads + Sync>(
     }
     let mut rest = Vec::new(alloc);
     for stack in 0..workers + 1 {
-        take(&stacks, &mut last, stack, &mut rest).expect(rt, "room");
+        take(&stacks, &mut last, stack, Order::LastFirst, &mut rest).expect(rt, "room");
     }
     found.wrapping_add(rest.len()) == places
 }

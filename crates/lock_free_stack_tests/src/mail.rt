@@ -21,7 +21,7 @@ const TURNS: usize = 100_000;
 
 // A holder that works in a thread. The holder is the receiver if `receives` is true, or else the sender with this number.
 #[derive(Drop)]
-struct Party<'c> {
+struct Correspondent<'c> {
     stacks: &'c Stacks,
     holder: Holder,
     number: usize,
@@ -69,15 +69,15 @@ fn receive_some(
     Ok(indexes)
 }
 
-// Lets the party work, and returns the indices of the places that it received. A sender receives none.
-fn work(party: Party) -> Vec<usize> {
-    let Party {
+// Lets the correspondent work, and returns the indices of the places that it received. A sender receives none.
+fn work(correspondent: Correspondent) -> Vec<usize> {
+    let Correspondent {
         stacks,
         holder,
         number,
         receives,
         alloc,
-    } = party;
+    } = correspondent;
     if receives {
         return receive_some(alloc, stacks, holder, TURNS).unwrap_or(Vec::new(alloc));
     }
@@ -85,19 +85,19 @@ fn work(party: Party) -> Vec<usize> {
     Vec::new(alloc)
 }
 
-// Returns a party for each holder. The first holder is the receiver, and all others are senders.
-fn parties<'c>(
+// Returns a correspondent for each holder. The first holder is the receiver, and all others are senders.
+fn correspondents<'c>(
     alloc: Global,
     stacks: &'c Stacks,
     mut holders: Vec<Holder>,
-) -> Result<Vec<Party<'c>>, AllocError>
+) -> Result<Vec<Correspondent<'c>>, AllocError>
     requires some { 0 < stacks_of stacks.now }
     requires made { All (λ h. IsOf stacks.now h × IsNew h) holders.items }
 {
-    let mut parties = Vec::new(alloc);
+    let mut correspondents = Vec::new(alloc);
     while let Some(holder) = holders.pop() {
         let number = holders.len();
-        parties.push(Party {
+        correspondents.push(Correspondent {
             stacks,
             holder,
             number: number.wrapping_sub(1),
@@ -105,7 +105,7 @@ fn parties<'c>(
             alloc,
         })?;
     }
-    Ok(parties)
+    Ok(correspondents)
 }
 
 // Returns whether all places of each sender came, in the order in which the sender sent them.
@@ -134,8 +134,8 @@ pub(crate) fn deliver<R: Abort + Threads + Sync>(rt: &R, alloc: Global, senders:
     let places = senders.wrapping_mul(SENT);
     let (stacks, mut holders) = Stacks::new(alloc, places, 1, senders + 2).expect(rt, "stacks");
     let last = holders.pop().expect(rt, "a holder");
-    let parties = parties(alloc, &stacks, holders).expect(rt, "room");
-    let done = thread::map_vec(rt, parties, &work).expect(rt, "room");
+    let correspondents = correspondents(alloc, &stacks, holders).expect(rt, "room");
+    let done = thread::map_vec(rt, correspondents, &work).expect(rt, "room");
     let mut all = Vec::new(alloc);
     for got in &done {
         for index in got {

@@ -66,39 +66,35 @@ pub fn put_pair(
     both
 }
 
-/// Takes all members of a stack, gives up each place, and appends their indexes to `indexes`. The index of the place that was pushed first comes first.
-pub fn take_in_order(
-    stacks: &Stacks,
-    holder: &mut Holder,
-    stack: usize,
-    indexes: &mut Vec<usize>,
-) -> Result<(), AllocError>
-    requires stack { stack < stacks_of stacks.now }
-    requires made { IsOf stacks.now holder.old }
-    requires room { spent_by holder.old < 1000000000 }
-    ensures made { IsOf stacks.now holder.new }
-    ensures spent { spent_by holder.new ≤ spent_by holder.old + 1 }
-{
-    let taken = stacks.take_all(holder, stack);
-    let turned = stacks.reversed(holder, taken);
-    give_up(stacks, holder, turned, indexes)
+/// The order in which the members of a stack are taken.
+#[derive(Clone, Copy)]
+pub enum Order {
+    /// The place that was pushed last comes first.
+    LastFirst,
+    /// The place that was pushed first comes first.
+    FirstFirst,
 }
 
-/// Takes all members of a stack, gives up each place, and appends their indexes to `indexes`. The index of the place that was pushed last comes first.
+/// Takes all members of a stack, gives up each place, and appends their indexes to `indexes`, in this order.
 pub fn take(
     stacks: &Stacks,
     holder: &mut Holder,
     stack: usize,
+    order: Order,
     indexes: &mut Vec<usize>,
 ) -> Result<(), AllocError>
-    requires stack { stack < stacks_of stacks.now }
     requires made { IsOf stacks.now holder.old }
+    requires stack { stack < stacks_of stacks.now }
     requires room { spent_by holder.old < 1000000000 }
     ensures made { IsOf stacks.now holder.new }
     ensures spent { spent_by holder.new ≤ spent_by holder.old + 1 }
 {
     let taken = stacks.take_all(holder, stack);
-    give_up(stacks, holder, taken, indexes)
+    if matches!(order, Order::LastFirst) {
+        return give_up(stacks, holder, taken, indexes);
+    }
+    let turned = stacks.reversed(holder, taken);
+    give_up(stacks, holder, turned, indexes)
 }
 
 /// Takes all members that a stack still has, between two audits of all holders. By the laws of stacks, each place that was pushed to the stack has then

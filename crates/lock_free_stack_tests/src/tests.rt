@@ -1,6 +1,6 @@
 use crate::frees::come_back;
 use crate::mail::deliver;
-use crate::places::{empty_out, put, put_pair, take, take_in_order};
+use crate::places::{Order, empty_out, put, put_pair, take};
 use crate::threads::share;
 use ic_lock_free_stack::Stacks;
 use ic_unsafe_ref::Place;
@@ -20,14 +20,14 @@ fn last_pushed_first(rt: HostRuntime) -> Result<(), Fail> {
     assert!(rt; put(&stacks, &mut sender, 1, 0));
     assert!(rt; put(&stacks, &mut sender, 1, 4));
     assert!(rt; !put(&stacks, &mut receiver, 0, 3));
-    take(&stacks, &mut receiver, 0, &mut got)?;
+    take(&stacks, &mut receiver, 0, Order::LastFirst, &mut got)?;
     assert!(rt; got.len() == 0);
-    take(&stacks, &mut receiver, 1, &mut got)?;
+    take(&stacks, &mut receiver, 1, Order::LastFirst, &mut got)?;
     assert!(rt; got.as_slice() == [4, 0, 3].as_slice());
     assert!(rt; put(&stacks, &mut receiver, 0, 3));
     assert!(rt; put(&stacks, &mut sender, 0, 1));
     got.clear();
-    take_in_order(&stacks, &mut sender, 0, &mut got)?;
+    take(&stacks, &mut sender, 0, Order::FirstFirst, &mut got)?;
     assert!(rt; got.as_slice() == [3, 1].as_slice());
     assert!(rt; stacks.is_empty(&mut sender, 0));
     Ok(())
@@ -47,7 +47,7 @@ fn a_chain_is_pushed_at_once(rt: HostRuntime) -> Result<(), Fail> {
     assert!(rt; put(&stacks, &mut holder, 0, 1));
     assert!(rt; put_pair(&stacks, &mut holder, 0, front, back));
     assert!(rt; !put_pair(&stacks, &mut holder, 0, front, back));
-    take(&stacks, &mut holder, 0, &mut got)?;
+    take(&stacks, &mut holder, 0, Order::LastFirst, &mut got)?;
     assert!(rt; got.as_slice() == [2, 4, 1].as_slice());
     assert!(rt; put(&stacks, &mut holder, 0, 3));
     holders.push(holder)?;

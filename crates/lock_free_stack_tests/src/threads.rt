@@ -3,7 +3,7 @@
 ghost use Rattle.std.specs.Prelude.{◌≡◌, ◌<◌, ◌+◌, All};
 ghost use Rattle.ic_lock_free_stack.specs.Holders.{stacks_of, spent_by, IsOf, IsNew};
 
-use crate::places::{put, take};
+use crate::places::{Order, put, take};
 use ic_lock_free_stack::{Holder, Stacks};
 use std::alloc::{AllocError, Global};
 use std::process::Abort;
@@ -51,7 +51,7 @@ fn take_some(alloc: Global, stacks: &Stacks, mut holder: Holder) -> Result<usize
     let mut batch = Vec::new(alloc);
     for _ in 0..TURNS {
         batch.clear();
-        take(stacks, &mut holder, 0, &mut batch)?;
+        take(stacks, &mut holder, 0, Order::LastFirst, &mut batch)?;
         taken = taken.wrapping_add(batch.len());
     }
     Ok(taken)
@@ -119,6 +119,6 @@ pub(crate) fn share<R: Abort + Threads + Sync>(
     }
     let mut rest = Vec::new(alloc);
     let mut receiver = last;
-    take(&stacks, &mut receiver, 0, &mut rest).expect(rt, "room");
+    take(&stacks, &mut receiver, 0, Order::LastFirst, &mut rest).expect(rt, "room");
     pushed == taken.wrapping_add(rest.len())
 }

@@ -3,19 +3,22 @@
 ghost use Rattle.std.specs.Prelude.{[]};
 ghost use Rattle.ic_link_ops.specs.DoublyEntries.{DoublyLink, RepresentsList, PlainRepresentsSome, neighbors_of};
 ghost use Rattle.ic_link_ops.specs.LinkedList.{RepresentsSome};
+ghost use Rattle.ic_link_ops.specs.PlainTables.{table};
+ghost use Rattle.ic_link_ops.specs.Readings as readings;
 ghost use Rattle.ic_link_ops.specs.Tables.{Table, IsCovered, IsUnlinked};
 ghost use Rattle.ic_plain.specs.SinglyEntries as singly;
 ghost use Rattle.ic_plain.specs.XorEntries as xor;
 
 use crate::fixtures::{check, covering, index, index_of, unlinked};
-use ic_link_ops::AcceptsUnlinked;
 use ic_link_ops::linked_list::NarrowLinkOps;
+use ic_link_ops::{AcceptsUnlinked, PlainTable, PrevPlace};
 use ic_linked_list::{LinkOps, LinkedList, LinkedListOps};
 use ic_plain::example::{add, requeue, reuse, slide};
 use ic_plain::{linked_list, singly_linked_list, xor_linked_list};
 use ic_singly_linked_list::SinglyLinkedList;
 use ic_unsafe_ref::UnsafeRef;
 use ic_xor_linked_list::XorLinkedList;
+use std::process::Abort;
 
 // Returns a new list. Its contract is stated for the plain table of links with 8-byte words.
 fn new_doubly() -> LinkedList<u64>
@@ -39,26 +42,21 @@ fn new_xor() -> XorLinkedList<u64>
     xor_linked_list::new()
 }
 
-// Inserts the object after all members, and then moves it before all others.
-fn push_to_front<L: LinkedListOps + AcceptsUnlinked>(
-    list: &mut LinkedList<u64>,
-    links: &mut L,
-    object: UnsafeRef<u64>,
-)
-    requires covered { IsCovered (L.table links.old) object }
-    requires unlinked { IsUnlinked L.linked (L.table links.old) object }
-    requires shown { RepresentsSome L.neighbors (L.table links.old) list.old }
-    ensures shown { RepresentsSome L.neighbors (L.table links.new) list.new }
-{
-    linked_list::push_back(list, links, UnsafeRef::new(object.place()));
-    linked_list::move_to_front(list, links, &object);
+// What a test does with an object that it has inserted at the back of a list.
+#[derive(Clone, Copy)]
+enum Then {
+    MoveToFront,
+    // The object is already at the back.
+    MoveToBack,
+    Remove,
 }
 
-// Inserts the object after all members, and then moves it to the back, where it already is.
-fn push_to_back<L: LinkedListOps + AcceptsUnlinked>(
+// Inserts the object after all members, and then moves or removes it.
+fn push_and<L: LinkedListOps + AcceptsUnlinked>(
     list: &mut LinkedList<u64>,
     links: &mut L,
     object: UnsafeRef<u64>,
+    then: Then,
 )
     requires covered { IsCovered (L.table links.old) object }
     requires unlinked { IsUnlinked L.linked (L.table links.old) object }
@@ -66,22 +64,27 @@ fn push_to_back<L: LinkedListOps + AcceptsUnlinked>(
     ensures shown { RepresentsSome L.neighbors (L.table links.new) list.new }
 {
     linked_list::push_back(list, links, UnsafeRef::new(object.place()));
-    linked_list::move_to_back(list, links, &object);
+    match then {
+        Then::MoveToFront => linked_list::move_to_front(list, links, &object),
+        Then::MoveToBack => linked_list::move_to_back(list, links, &object),
+        Then::Remove => linked_list::remove(list, links, &object),
+    }
 }
 
-// Inserts the object at the back of the list, and then removes it.
-fn push_and_remove<L: LinkedListOps + AcceptsUnlinked>(
+// Inserts the objects at the places with these indices, one after the other, and moves or removes each of them before it inserts the next one.
+fn push_each<W: PrevPlace>(
+    rt: &impl Abort,
     list: &mut LinkedList<u64>,
-    links: &mut L,
-    object: UnsafeRef<u64>,
+    links: &mut PlainTable<W>,
+    steps: &[(usize, Then)],
 )
-    requires covered { IsCovered (L.table links.old) object }
-    requires unlinked { IsUnlinked L.linked (L.table links.old) object }
-    requires shown { RepresentsSome L.neighbors (L.table links.old) list.old }
-    ensures shown { RepresentsSome L.neighbors (L.table links.new) list.new }
+    requires shown { RepresentsSome (readings.neighbors_of W.next_word W.is_linked W.prev) (table W.width W.unlinked links.old) list.old }
+    ensures shown { RepresentsSome (readings.neighbors_of W.next_word W.is_linked W.prev) (table W.width W.unlinked links.new) list.new }
 {
-    linked_list::push_back(list, links, UnsafeRef::new(object.place()));
-    linked_list::remove(list, links, &object);
+    for (index, then) in steps {
+        let object = unlinked(rt, &*links, *index);
+        push_and(list, links, object, *then);
+    }
 }
 
 // Reuses the last member of the list, which moves it to the front.
@@ -113,12 +116,12 @@ fn doubly_linked(rt: HostRuntime) {
     linked_list::push_back(&mut list, &mut links, object);
     let object = unlinked(&rt, &links, 0);
     add(&mut list, &mut links, object);
-    let object = unlinked(&rt, &links, 3);
-    push_and_remove(&mut list, &mut links, object);
-    let object = unlinked(&rt, &links, 2);
-    push_to_back(&mut list, &mut links, object);
-    let object = unlinked(&rt, &links, 3);
-    push_to_front(&mut list, &mut links, object);
+    let steps = [
+        (3, Then::Remove),
+        (2, Then::MoveToBack),
+        (3, Then::MoveToFront),
+    ];
+    push_each(&rt, &mut list, &mut links, &steps);
     // the order of the members is 3, 0, 1, 2
     use_last(&mut list, &mut links);
     requeue_first(&mut list, &mut links);
@@ -180,12 +183,12 @@ fn doubly_linked_over_narrow_links(rt: HostRuntime) {
     let mut list: LinkedList<u64> = linked_list::new();
     let object = unlinked(&rt, &links, 1);
     linked_list::push_front(&mut list, &mut links, object);
-    let object = unlinked(&rt, &links, 0);
-    push_and_remove(&mut list, &mut links, object);
-    let object = unlinked(&rt, &links, 2);
-    push_to_back(&mut list, &mut links, object);
-    let object = unlinked(&rt, &links, 3);
-    push_to_front(&mut list, &mut links, object);
+    let steps = [
+        (0, Then::Remove),
+        (2, Then::MoveToBack),
+        (3, Then::MoveToFront),
+    ];
+    push_each(&rt, &mut list, &mut links, &steps);
     // the order of the members is 3, 1, 2
     let object = unlinked(&rt, &links, 0);
     let first = index_of(slide(&mut list, &mut links, object));

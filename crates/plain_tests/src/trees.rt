@@ -69,20 +69,19 @@ fn schedule_at(
     schedule(tree, links, objects, timer);
 }
 
-// Moves the member at the place with this index after the other members with the same deadline, by the example function `reschedule`.
+// Moves the member at this place after the other members with the same deadline, by the example function `reschedule`.
 fn reschedule_at(
     rt: &impl Abort,
     tree: &mut RBTree<ByDeadline>,
     links: &mut LinkOps,
     objects: &Objects<Timer>,
-    index: usize,
+    place: Place,
 )
     requires shown { PlainRepresentsSome links.old (root_of tree.old) }
     requires sorted { IsInOrder nat_cmp ⟦<ByDeadline as KeyAdapter>⟧.key_of node_of (plain_table links.old) tree.old objects.now }
     ensures sorted { IsInOrder nat_cmp ⟦<ByDeadline as KeyAdapter>⟧.key_of node_of (plain_table links.new) tree.new objects.now }
     ensures shown { PlainRepresentsSome links.new (root_of tree.new) }
 {
-    let place = Place::new(index).expect(rt, "the index of a place");
     assert!(rt; place.index() < links.covers());
     assert!(rt; tree.contains(&*links, place));
     assert!(rt; objects.is_placed(place));
@@ -111,8 +110,9 @@ fn tree_in_order(rt: HostRuntime) {
     add(&rt, &mut tree, &mut links, &objects, 3);
     add(&rt, &mut tree, &mut links, &objects, 2);
     schedule_at(&rt, &mut tree, &mut links, &objects, 1);
+    let third = Place::new(3).expect(&rt, "the index of a place");
     // the order of the members is 3, 1, 2, 0 before this call, and 1, 3, 2, 0 after it
-    reschedule_at(&rt, &mut tree, &mut links, &objects, 3);
+    reschedule_at(&rt, &mut tree, &mut links, &objects, third);
     let ends = [
         index(rbtree::first(&tree, &links)),
         index(rbtree::last(&tree, &links)),
@@ -123,7 +123,6 @@ fn tree_in_order(rt: HostRuntime) {
         index(rbtree::lower_bound(&tree, &links, &objects, &15)),
         index(rbtree::lower_bound(&tree, &links, &objects, &31)),
     ];
-    let third = Place::new(3).expect(&rt, "the index of a place");
     assert!(rt; third.index() < links.covers());
     let sides = beside(&rt, &tree, &links, third);
     let left = [

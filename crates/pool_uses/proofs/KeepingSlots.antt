@@ -22,10 +22,10 @@ use Rattle.ic_link_ops.proofs.Walks.{few_places}
 use Rattle.ic_pool.specs.Pooled.{Grows}
 use Rattle.ic_pool.proofs.Pooling.{pooled_first, pooled_grown, pooled_placed, pooled_linked, pooled_unlinked, pooled_changed}
 use Rattle.ic_container.specs.Edited.{HasJoined}
-use Rattle.ic_container.specs.Rows.{alone, owner_of, owner_or}
+use Rattle.ic_container.specs.NumberedLists.{alone, owner_of, owner_or}
 use Rattle.ic_container.proofs.EditLemmas.{left_front}
 use Rattle.ic_container.proofs.HoldsLemmas.{Reading, holds_changed, holds_grown, holds_joined, holds_left, holds_none}
-use Rattle.ic_container.proofs.RowLemmas.{alone_none, alone_others, housed_joined, housed_left}
+use Rattle.ic_container.proofs.NumberedListLemmas.{alone_none, alone_others, owned_joined, owned_left}
 use Rattle.pool_uses.specs.declared.slots.Handle.{Handle}
 use Rattle.pool_uses.specs.declared.slots.Slot.{Slot}
 use Rattle.pool_uses.specs.KeptSlots.{is_linked, successor, plain_table, members_of, value_in, vacant_owner, owner_with, taken_owner, taken_with, IsTaken, naming_of, IsCounted, IsKept}
@@ -125,24 +125,24 @@ module _ {T : Type 0} {objects : Objects (Slot T)} {len : ℕ} (k : IsCounted ob
         let out = absent_off (owner_of taken_owner objects) p none in record {
           below = below_put (λ is. (is, below));
           taken = p ∷ k.taken;
-          once = (out 0 k.taken (k.housed.own 0), k.once);
-          housed = housed_joined k.housed {front = []} {back = k.taken} owners (record { was = refl; is = refl; others = alone_others [] k.taken (p ∷ k.taken) }) (ap (owner_or taken_owner) (put_there puts) ∙ ap taken_with has) (λ i. out i (alone [] k.taken i) (k.housed.own i));
+          once = (out 0 k.taken (k.owned.own 0), k.once);
+          owned = owned_joined k.owned {front = []} {back = k.taken} owners (record { was = refl; is = refl; others = alone_others [] k.taken (p ∷ k.taken) }) (ap (owner_or taken_owner) (put_there puts) ∙ ap taken_with has) (λ i. out i (alone [] k.taken i) (k.owned.own i));
           count = omega (arith, k.count);
         }
 
     -- if the changed slot loses its value, then one slot fewer has a value
     counted_less : slot.value ≡ None → owner_of taken_owner objects p ≡ Some 0 → IsCounted new (len - 1)
     counted_less none here =
-        let m = member_split p k.taken (k.housed.all p 0 here) in record {
+        let m = member_split p k.taken (k.owned.all p 0 here) in record {
           below = below_put (λ is. absurd (true≢false (sym (sym (ap is_some none) ∙ is))));
           taken = m.0 ++ m.1;
           once = distinct_remove m.0 m.1 p (subst IsDistinct m.2 k.once);
-          housed = housed_left k.housed {front = m.0} {back = m.1} owners (record { was = m.2; is = refl; others = alone_others [] k.taken (m.0 ++ m.1) }) (ap (owner_or taken_owner) (put_there puts) ∙ ap taken_with none) k.once;
+          owned = owned_left k.owned {front = m.0} {back = m.1} owners (record { was = m.2; is = refl; others = alone_others [] k.taken (m.0 ++ m.1) }) (ap (owner_or taken_owner) (put_there puts) ∙ ap taken_with none) k.once;
           count = omega (arith, k.count, ap length m.2, length-append m.0 (p ∷ m.1), length-append m.0 m.1);
         }
 
   some_value : (p : Place) → owner_of taken_owner objects p ≡ Some 0 → 1 ≤ len
-  some_value p here = let m = member_split p k.taken (k.housed.all p 0 here) in omega (arith, k.count, ap length m.2, length-append m.0 (p ∷ m.1))
+  some_value p here = let m = member_split p k.taken (k.owned.all p 0 here) in omega (arith, k.count, ap length m.2, length-append m.0 (p ∷ m.1))
 
 -- NEW SLOTS, which have no object and an empty table, maintain `IsKept`
 pub kept_none : {T K A : Type 0} (objects : Objects (Slot T)) (links : PlainTable (OneWord K) A ⊤) → ((p : Place) → object_at objects p ≡ None) → (plain_table links).extent.places ≡ 0
@@ -156,7 +156,7 @@ kept_none {T} objects links vacant no_links =
         below = λ p is. absurd (true≢false (sym (sym (ap (λ o. is_some (value_in o)) (vacant p)) ∙ is)));
         taken = [];
         once = tt;
-        housed = record {
+        owned = record {
           own = λ i. subst (AllByRecursion (λ p. owner_of taken_owner objects p ≡ Some i)) (sym (alone_none {X = List Place} [] [] refl i)) tt;
           all = λ p i at. absurd (none_not i (sym (ap (owner_or taken_owner) (vacant p)) ∙ at));
         };
@@ -173,7 +173,7 @@ module _ {T K A : Type 0} {objects : Objects (Slot T)} {links : PlainTable (OneW
 
   -- IF SOME SLOT IS VACANT, then the list of vacant slots has a first member
   pub first_of_vacant : HasVacant (naming_of objects len) → IsSome (first (members_of links vacant))
-  first_of_vacant can = by members (k.holds.housed.all can.0 0 (usable_owner (object_at objects can.0) can.1)) where
+  first_of_vacant can = by members (k.holds.owned.all can.0 0 (usable_owner (object_at objects can.0) can.1)) where
     by : (s : List Place) → IsMember can.0 s → IsSome (first s)
     by [] member = absurd (member tt)
     by (p ∷ s) member = refl
@@ -198,7 +198,7 @@ module _ {T K A : Type 0} {objects : Objects (Slot T)} {links : PlainTable (OneW
       (fills : (s : Slot T) → object_at objects p ≡ Some s → (g ≡ s.generation) × (new ≡ with_object objects p (record s { value = Some value }))) where
     -- the slot at the place `p` of the list's first member, before it gets the value
     first_vacant : (was : Slot T) × (object_at objects p ≡ Some was) × IsUsable (Some was)
-    first_vacant = owner_usable (object_at objects p) (subst (AllByRecursion (λ q. owner_or vacant_owner (object_at objects q) ≡ Some 0)) (first_is members (answer members shown)) (k.holds.housed.own 0)).0
+    first_vacant = owner_usable (object_at objects p) (subst (AllByRecursion (λ q. owner_or vacant_owner (object_at objects q) ≡ Some 0)) (first_is members (answer members shown)) (k.holds.owned.own 0)).0
 
     filled_puts : Puts objects new p (record first_vacant.0 { value = Some value })
     filled_puts = exchanged_puts (fills first_vacant.0 first_vacant.1).1

@@ -11,7 +11,7 @@ use Rattle.ic_link_ops.specs.Readings.{successor_of}
 use Rattle.ic_link_ops.specs.SinglyLinkedList.{Front, Successor, Represents, list_from, members}
 use Rattle.ic_pool.specs.Pooled.{IsPooled}
 use Rattle.ic_container.specs.Holds.{Holds}
-use Rattle.ic_container.specs.Rows.{EachInItsList, alone, owner_of}
+use Rattle.ic_container.specs.NumberedLists.{EachInItsList, alone, owner_of}
 use Rattle.pool_uses.specs.declared.slots.Slot.{Slot}
 use Rattle.pool_uses.specs.Slots.{Naming}
 
@@ -65,7 +65,7 @@ pub record IsCounted {T : Type 0} (objects : Objects (Slot T)) (len : ℕ) : Typ
   pub below : (p : Place) → IsSome (value_in (object_at objects p)) → IsTaken (object_at objects p)
   pub taken : List Place
   pub once : IsDistinct taken
-  pub housed : EachInItsList (owner_of taken_owner objects) (alone [] taken)
+  pub owned : EachInItsList (owner_of taken_owner objects) (alone [] taken)
   pub count : len ≡ length taken
 
 -- WHAT SLOTS MAINTAIN: The list has exactly the slots without a value whose generation is not the last one. The table covers the place of each slot.

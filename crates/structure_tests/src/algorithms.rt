@@ -7,7 +7,7 @@ ghost use Rattle.ic_list_algorithms.specs.Runs.{WithinComparisonBound};
 ghost use Rattle.structure_tests.specs.OfEight.{HoldsOfEight};
 
 use crate::asserts::{assert_same, assert_true};
-use ic_chain::{DoubleEnded, ForwardLinks, LinkList, ListKind, SingleEnded};
+use ic_chain::{ForwardLinks, LinkList, ListKind};
 use ic_link_ops::linked_list::{LinkOpsWith, TwoWords};
 use ic_link_ops::singly_linked_list::Singly;
 use ic_link_ops::{LinkOps, LinkValues, OneWord, PlainTable};
@@ -21,8 +21,8 @@ use std::process::Abort;
 
 // Inserts the objects at the first `members` places into a new list, in the order of their places.
 fn filled<K: ForwardLinks<L>, L: LinkOps>(links: &mut L, members: usize) -> LinkList<K, u64>
-    requires covered { (L.table links.old).extent.places ≡ 8 }
     requires few { members ≤ 8 }
+    requires covered { (L.table links.old).extent.places ≡ 8 }
     ensures covers { (L.table links.new).extent.places ≡ 8 }
     ensures shown { RepresentsSomeChain K.Between K.kept (L.table links.new) result }
 {
@@ -32,19 +32,6 @@ fn filled<K: ForwardLinks<L>, L: LinkOps>(links: &mut L, members: usize) -> Link
         let _ = list.push_front(links, UnsafeRef::new(place));
     }
     list
-}
-
-// Sorts a list of numbers, the largest first.
-fn sort_down<K: Following<L>, L: LinkOps>(
-    list: &mut LinkList<K, u64>,
-    links: &mut L,
-    objects: &Objects<u64>,
-)
-    requires held { HoldsOfEight K.Between K.kept (L.table links.old) list.old objects.now }
-    ensures held { HoldsOfEight K.Between K.kept (L.table links.new) list.new objects.now }
-{
-    let mut largest_first = By::new(|a: &u64, b: &u64| b.cmp(a));
-    algorithms::sort_by(list, links, objects, &mut largest_first);
 }
 
 // Sorts a list of numbers, and returns how often two numbers were compared.
@@ -62,32 +49,22 @@ fn sort_and_count<K: Following<L>, L: LinkOps>(
     order.looks()
 }
 
-// Sorts a list by the numbers beside its links, the largest first, and returns the first member of the sorted list.
-fn sorted_down_keyed<K: Following<L>, L: LinkValues<u64>>(
+// Sorts a list by the numbers beside its links, the largest first. Then it sorts the list by these numbers, the smallest first, and merges an empty
+// list into it. Returns the first member after each of the two sorts.
+fn sorted_keyed<K: Following<L>, L: LinkValues<u64>>(
     list: &mut LinkList<K, u64>,
     links: &mut L,
-) -> Option<usize>
+) -> (Option<usize>, Option<usize>)
     requires shown { RepresentsSomeChain K.Between K.kept (L.table links.old) list.old }
     ensures shown { RepresentsSomeChain K.Between K.kept (L.table links.new) list.new }
     ensures values { L.values links.new ≡ L.values links.old }
 {
     let mut largest_first = By::new(|a: &u64, b: &u64| b.cmp(a));
     algorithms::sort_keyed(list, links, &mut largest_first);
-    index_of_first(list)
-}
-
-// Sorts a list by the numbers beside its links, the smallest first, merges an empty list into the list, and returns the first member of the list.
-fn merged_keyed<K: Following<L>, L: LinkValues<u64>>(
-    list: &mut LinkList<K, u64>,
-    links: &mut L,
-) -> Option<usize>
-    requires shown { RepresentsSomeChain K.Between K.kept (L.table links.old) list.old }
-    ensures shown { RepresentsSomeChain K.Between K.kept (L.table links.new) list.new }
-    ensures values { L.values links.new ≡ L.values links.old }
-{
+    let largest = index_of_first(list);
     algorithms::sort_keyed(list, links, &mut Natural);
     algorithms::merge_keyed(list, links, &mut Natural, LinkList::new());
-    index_of_first(list)
+    (largest, index_of_first(list))
 }
 
 // Returns whether the list is in order, its length, its fourth member, and the position and the place of its first member above 40.
@@ -115,18 +92,21 @@ fn index(object: Option<UnsafeRef<u64>>) -> Option<usize> {
     }
 }
 
-// Merges an empty list into a list, appends an empty list, and rotates the list by its first two members. The call returns the first member of the
-// rotated list.
-fn merged<K: Following<L>, L: LinkOps>(
+// Merges an empty list into a list, and rotates the list by its first two members. Then it sorts the list of numbers, the largest first. Returns the
+// first member of the rotated list, and the first member of the sorted list.
+fn merged_and_sorted<K: Following<L>, L: LinkOps>(
     list: &mut LinkList<K, u64>,
     links: &mut L,
     objects: &Objects<u64>,
-) -> Option<usize>
+) -> (Option<usize>, Option<usize>)
     requires held { HoldsOfEight K.Between K.kept (L.table links.old) list.old objects.now }
     ensures held { HoldsOfEight K.Between K.kept (L.table links.new) list.new objects.now }
 {
     algorithms::merge_by(list, links, objects, &mut Natural, LinkList::new());
-    turned(list, links)
+    let rotated = turned(list, links);
+    let mut largest_first = By::new(|a: &u64, b: &u64| b.cmp(a));
+    algorithms::sort_by(list, links, objects, &mut largest_first);
+    (rotated, index_of_first(list))
 }
 
 // Rotates a list by its first two members, and returns the first member of the rotated list.
@@ -173,30 +153,6 @@ fn deduped<K: ForwardLinks<L>, L: LinkOps>(
     algorithms::len(list, links)
 }
 
-// Appends an empty list to the list, and returns whether the appended list is empty afterwards.
-fn appended<K: DoubleEnded + ForwardLinks<L>, L: LinkOps>(
-    list: &mut LinkList<K, u64>,
-    links: &mut L,
-) -> bool
-    requires shown { RepresentsSomeChain K.Between K.kept (L.table links.old) list.old }
-{
-    let mut other = LinkList::new();
-    algorithms::append(list, links, &mut other);
-    other.is_empty()
-}
-
-// Appends an empty list to the list by a walk to its last member, and returns whether the appended list is empty afterwards.
-fn appended_walking<K: SingleEnded + ForwardLinks<L>, L: LinkOps>(
-    list: &mut LinkList<K, u64>,
-    links: &mut L,
-) -> bool
-    requires shown { RepresentsSomeChain K.Between K.kept (L.table links.old) list.old }
-{
-    let mut other = LinkList::new();
-    algorithms::append_walking(list, links, &mut other);
-    other.is_empty()
-}
-
 // Returns the index of the first member's place, or `None` if the list is empty.
 fn index_of_first<K: ListKind>(list: &LinkList<K, u64>) -> Option<usize> {
     match list.first() {
@@ -219,9 +175,8 @@ fn play<K: Following<L>, L: LinkOps>(
     let found = walked(&list, &*links, objects);
     assert_same(rt, found, (true, 8, Some(3), Some(4), Some(4)));
     assert_same(rt, sort_and_count(&mut list, links, objects), 12);
-    assert_same(rt, merged(&mut list, links, objects), Some(2));
-    sort_down(&mut list, links, objects);
-    assert_same(rt, index_of_first(&list), Some(7));
+    let firsts = merged_and_sorted(&mut list, links, objects);
+    assert_same(rt, firsts, (Some(2), Some(7)));
     assert_same(rt, turned(&mut list, links), Some(5));
     let _ = sort_and_count(&mut list, links, objects);
     assert_same(rt, sifted(&mut list, links, objects), Some(3));
@@ -229,32 +184,6 @@ fn play<K: Following<L>, L: LinkOps>(
     let mut list: LinkList<K, u64> = filled(links, 8);
     assert_same(rt, deduped(&mut list, links, objects), 1);
     list
-}
-
-// Calls the algorithms of a list that keeps its last member.
-fn play_double_ended<K: DoubleEnded + Following<L>, L: LinkOps>(
-    rt: &impl Abort,
-    links: &mut L,
-    objects: &Objects<u64>,
-)
-    requires covered { (L.table links.old).extent.places ≡ 8 }
-    requires placed { (q : Place) → index_of q < 8 → is_placed objects.now q ≡ true }
-{
-    let mut list: LinkList<K, u64> = play(rt, links, objects);
-    assert_true(rt, appended(&mut list, links));
-}
-
-// Calls the algorithms of a list that keeps only its first member.
-fn play_single_ended<K: SingleEnded + Following<L>, L: LinkOps>(
-    rt: &impl Abort,
-    links: &mut L,
-    objects: &Objects<u64>,
-)
-    requires covered { (L.table links.old).extent.places ≡ 8 }
-    requires placed { (q : Place) → index_of q < 8 → is_placed objects.now q ≡ true }
-{
-    let mut list: LinkList<K, u64> = play(rt, links, objects);
-    assert_true(rt, appended_walking(&mut list, links));
 }
 
 // Calls the algorithms that sort by the numbers beside the links, on a list with the numbers 30, 10 and 20.
@@ -265,21 +194,29 @@ fn play_keyed<K: Following<L>, L: LinkValues<u64>>(rt: &impl Abort, links: &mut 
     links.set_value(place_at(1), 10);
     links.set_value(place_at(2), 20);
     let mut list: LinkList<K, u64> = filled(links, 3);
-    assert_same(rt, sorted_down_keyed(&mut list, links), Some(0));
-    assert_same(rt, merged_keyed(&mut list, links), Some(1));
+    let firsts = sorted_keyed(&mut list, links);
+    assert_same(rt, firsts, (Some(0), Some(1)));
     assert_same(rt, turned(&mut list, links), Some(0));
 }
 
+// Calls the algorithms on a list that keeps its last member. The empty list that is appended must be empty afterwards.
 #[test]
 fn algorithms_over_doubly_lists(rt: HostRuntime) {
     let (objects, mut links) = eight_objects(rt.alloc(), TENS).expect(&rt, "memory");
-    play_double_ended::<DoublyLinked, PlainTable<TwoWords>>(&rt, &mut links, &objects);
+    let mut list = play::<DoublyLinked, PlainTable<TwoWords>>(&rt, &mut links, &objects);
+    let mut other = LinkList::new();
+    algorithms::append(&mut list, &mut links, &mut other);
+    assert_true(&rt, other.is_empty());
 }
 
+// Calls the algorithms on a list that keeps only its first member. The empty list is appended by a walk to the last member.
 #[test]
 fn algorithms_over_singly_lists(rt: HostRuntime) {
     let (objects, mut links) = eight_objects(rt.alloc(), TENS).expect(&rt, "memory");
-    play_single_ended::<SinglyLinked, PlainTable<OneWord<Singly>>>(&rt, &mut links, &objects);
+    let mut list = play::<SinglyLinked, PlainTable<OneWord<Singly>>>(&rt, &mut links, &objects);
+    let mut other = LinkList::new();
+    algorithms::append_walking(&mut list, &mut links, &mut other);
+    assert_true(&rt, other.is_empty());
 }
 
 #[test]

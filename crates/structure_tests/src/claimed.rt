@@ -19,10 +19,10 @@ fn claimed_links<'c>(
     rt: &impl Abort,
     alloc: Global,
     claims: &'c Claims,
-    holders: &mut Vec<Holder>,
+    mut holders: Vec<Holder>,
 ) -> AtomicLinkOps<'c>
     requires places { places_of claims.now ≡ 8 }
-    requires fresh { All (λ h. IsOf claims.now h × (record_of h ≡ [])) holders.old.items }
+    requires fresh { All (λ h. IsOf claims.now h × (record_of h ≡ [])) holders.items }
     ensures covers { (plain_table (links_of result)).extent.places ≡ 8 }
 {
     let holder = holders.pop().expect(rt, "a holder");
@@ -35,7 +35,7 @@ fn claimed_links<'c>(
 fn two_rings_over_claims(rt: HostRuntime) {
     let alloc = rt.alloc();
     let (objects, _): (_, LinkOps) = eight_objects(alloc, TENS).expect(&rt, "memory");
-    let (claims, mut holders) = Claims::new(alloc, 8, 1).expect(&rt, "claims");
-    let mut links = claimed_links(&rt, alloc, &claims, &mut holders);
-    ring::play(&rt, alloc, &mut links, &objects, ring::ROWS);
+    let (claims, holders) = Claims::new(alloc, 8, 1).expect(&rt, "claims");
+    let mut links = claimed_links(&rt, alloc, &claims, holders);
+    ring::play(&rt, alloc, &mut links, &objects);
 }

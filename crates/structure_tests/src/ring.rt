@@ -13,7 +13,7 @@ mod rows;
 use crate::asserts::assert_true;
 use crate::ring::calls::{call_both, call_by_cursor, call_ring, exchange_heads};
 use crate::ring::connections::write_served;
-use crate::ring::rows::{LAST, Row};
+use crate::ring::rows::{BOTH_RINGS, BY_CURSOR, LAST, MOVED_BY_CURSOR, ONE_RING, Row, TWO_IN_EACH};
 use ic_link_ops::LinkOps as _;
 use ic_link_ops::linked_list::{LinkOps, LinkedListOps};
 use ic_ring::{Ring, bypass, next, prev, turn_to};
@@ -21,7 +21,6 @@ use ic_test_support::answers::{object, value, write_places};
 use ic_test_support::notes::{Answer, Text};
 use ic_test_support::objects::{TENS, eight_objects, place_at};
 use ic_unsafe_ref::Objects;
-pub(crate) use rows::ROWS;
 use std::alloc::Global;
 use std::process::Abort;
 
@@ -123,10 +122,10 @@ fn write_second<L: LinkedListOps>(
 // Notes the text that the ring prints.
 fn write_printed<L: LinkedListOps>(
     notes: &mut Text,
-    alloc: Global,
     links: &L,
     objects: &Objects<u64>,
     ring: &Ring<u64>,
+    alloc: Global,
 )
     requires covers { (L.table links.now).extent.places ≡ 8 }
     requires placed { (q : Place) → index_of q < 8 → is_placed objects.now q ≡ true }
@@ -138,46 +137,69 @@ fn write_printed<L: LinkedListOps>(
     }
 }
 
-/// Makes the calls of the rows on two new rings, and fails the test unless each call has the result in its row. Then the successors of the two heads
-/// are exchanged. The first ring is used as the queue of a server's connections, it is printed, and its first member is bypassed.
+// Makes the calls of the rows on two rings, and fails the test unless each call has the result in its row.
+fn play_rows<L: LinkedListOps>(
+    rt: &impl Abort,
+    alloc: Global,
+    links: &mut L,
+    objects: &Objects<u64>,
+    ring: &Ring<u64>,
+    other: &Ring<u64>,
+    rows: &[(Row, &str)],
+)
+    requires placed { (q : Place) → index_of q < 8 → is_placed objects.now q ≡ true }
+    requires two { TwoRings L.neighbors (L.table links.old) ring.now other.now }
+    ensures two { TwoRings L.neighbors (L.table links.new) ring.now other.now }
+{
+    for (row, expected) in rows {
+        let mut notes = Text::new(alloc);
+        let back = match *row {
+            Row::Ring(call, index) => call_ring(links, ring, call, index),
+            Row::Cursor(call, index) => call_by_cursor(links, ring, other, call, index),
+            Row::Both(call, index) => call_both(links, ring, other, call, index),
+            Row::Ends => {
+                write_ends(&mut notes, &*links, ring);
+                None
+            }
+            Row::Second => {
+                write_second(&mut notes, &*links, objects, ring);
+                None
+            }
+        };
+        notes.add(object(back), " ");
+        write_rings(&mut notes, &*links, objects, ring, other);
+        assert_true(rt, notes.has_words(expected));
+    }
+}
+
+/// Makes the calls of all rows on two new rings. Then the successors of the two heads are exchanged. The first ring is used as the queue of a server's
+/// connections, it is printed, and its first member is bypassed.
 pub(crate) fn play<L: LinkedListOps>(
     rt: &impl Abort,
     alloc: Global,
     links: &mut L,
     objects: &Objects<u64>,
-    rows: &[(Row, &str)],
 )
     requires covers { (L.table links.old).extent.places ≡ 8 }
     requires placed { (q : Place) → index_of q < 8 → is_placed objects.now q ≡ true }
 {
     let ring = opened(rt, links, 6);
     let other = opened(rt, links, 7);
-    for (row, expected) in rows {
-        let mut notes = Text::new(alloc);
-        let back = match *row {
-            Row::Ring(call, index) => call_ring(links, &ring, call, place_at(index % 6)),
-            Row::Cursor(call, index) => {
-                call_by_cursor(links, &ring, &other, call, place_at(index % 6))
-            }
-            Row::Both(call, index) => call_both(links, &ring, &other, call, place_at(index % 6)),
-            Row::Ends => {
-                write_ends(&mut notes, &*links, &ring);
-                None
-            }
-            Row::Second => {
-                write_second(&mut notes, &*links, objects, &ring);
-                None
-            }
-        };
-        notes.add(object(back), " ");
-        write_rings(&mut notes, &*links, objects, &ring, &other);
-        assert_true(rt, notes.has_words(expected));
+    for rows in [
+        ONE_RING,
+        BY_CURSOR,
+        TWO_IN_EACH,
+        MOVED_BY_CURSOR,
+        TWO_IN_EACH,
+        BOTH_RINGS,
+    ] {
+        play_rows(rt, alloc, links, objects, &ring, &other, rows);
     }
     let mut notes = Text::new(alloc);
     exchange_heads(links, &ring, &other);
     write_members(&mut notes, &*links, objects, &ring);
     write_served(&mut notes, links, objects, &ring);
-    write_printed(&mut notes, alloc, &*links, objects, &ring);
+    write_printed(&mut notes, &*links, objects, &ring, alloc);
     write_bypassed(&mut notes, links, &ring);
     assert_true(rt, notes.has_words(LAST));
 }
@@ -186,5 +208,5 @@ pub(crate) fn play<L: LinkedListOps>(
 fn two_rings_by_rows(rt: HostRuntime) {
     let alloc = rt.alloc();
     let (objects, mut links): (_, LinkOps) = eight_objects(alloc, TENS).expect(&rt, "memory");
-    play(&rt, alloc, &mut links, &objects, ROWS);
+    play(&rt, alloc, &mut links, &objects);
 }

@@ -1,11 +1,12 @@
-//! What lists and trees of all kinds have in common.
+//! This module has what all lists and trees have in common.
 //!
-//! A kind says how a cursor moves and edits. Views, iterators and cursors are written once, over that, and so is [`retain`].
+//! The trait [`Collection`] says how a cursor moves and edits. Views, iterators, cursors and [`retain`] are written once, for every type with
+//! this trait.
 
 use crate::link::Link;
 use crate::Error;
 
-/// Where a cursor is: on a member, or on none, which is the position between the last member and the first.
+/// The position of a cursor: on a member, or on no member, which is the position between the last member and the first.
 pub trait Position: Copy {
     /// The position on no member.
     const NULL: Self;
@@ -23,19 +24,19 @@ impl Position for Option<u32> {
     }
 }
 
-/// A kind of list or tree.
+/// The trait of the lists and trees.
 ///
-/// Moves read no link outside the table. A word that names a place out of the table counts as none.
+/// No call reads a link outside the table. If a word names a place outside the table, a call reads the word as `None`.
 pub trait Collection: Sized {
-    /// What the table has for each place.
+    /// The type of the table's links.
     type Link: Link;
-    /// Where a cursor is.
+    /// The position of a cursor.
     type Position: Position;
 
-    /// The position after a position.
+    /// Returns the position after `at`.
     fn next(&self, table: &[Self::Link], at: Self::Position) -> Self::Position;
 
-    /// The position at which a walk in order ends, if the kind knows it beforehand.
+    /// Returns the position of the last member, or of no member for a [`Stack`](crate::Stack), which doesn't have it.
     fn end(&self, table: &[Self::Link]) -> Self::Position;
 
     /// Inserts a place after a position.
@@ -45,9 +46,9 @@ pub trait Collection: Sized {
     fn remove_next(&mut self, table: &mut [Self::Link], at: Self::Position) -> Result<Option<u32>, Error>;
 }
 
-/// A kind whose cursors move both ways. Each edit returns where the cursor is then.
+/// The trait of the lists and trees whose cursors move in both directions. Each edit returns the position of the cursor after the edit.
 pub trait Bidirectional: Collection {
-    /// The position before a position.
+    /// Returns the position before `at`.
     fn prev(&self, table: &[Self::Link], at: Self::Position) -> Self::Position;
 
     /// Inserts a place before a position. The cursor stays on its member.
@@ -61,20 +62,20 @@ pub trait Bidirectional: Collection {
     /// Removes the member at a position. The cursor moves to the next member.
     fn remove(&mut self, table: &mut [Self::Link], at: Self::Position) -> Result<Self::Position, Error>;
 
-    /// Removes the member at a position, and inserts a place where it was. The cursor is on the place.
+    /// Removes the member at a position, and inserts a place where it was. The cursor moves to this place.
     fn replace(&mut self, table: &mut [Self::Link], at: Self::Position, place: u32) -> Result<Self::Position, Error>;
 }
 
-/// A kind of list, which can be cut and joined.
+/// The trait of the lists, which have calls that move all members, or the members after a position.
 pub trait Splice: Collection {
     /// Moves all members of a list after a position.
     fn splice_after(&mut self, table: &mut [Self::Link], at: Self::Position, given: &mut Self) -> Result<(), Error>;
 
-    /// Moves the members after a position to a new list, and returns it.
+    /// Moves the members after a position to a new list, and returns the new list.
     fn split_after(&mut self, table: &mut [Self::Link], at: Self::Position) -> Result<Self, Error>;
 }
 
-/// A kind of list whose cursors move both ways. Each edit returns where the cursor is then, which stays on its member.
+/// The trait of the lists whose cursors move in both directions. Each edit returns the position of the cursor, which stays on its member.
 pub trait BidirectionalSplice: Bidirectional + Splice {
     /// Moves all members of a list before a position.
     fn splice_before(
@@ -84,11 +85,11 @@ pub trait BidirectionalSplice: Bidirectional + Splice {
         given: &mut Self,
     ) -> Result<Self::Position, Error>;
 
-    /// Moves the members before a position to a new list, and returns it.
+    /// Moves the members before a position to a new list, and returns the new list and the position of the cursor.
     fn split_before(&mut self, table: &mut [Self::Link], at: Self::Position) -> Result<(Self, Self::Position), Error>;
 }
 
-/// Removes each member that `keep` does not want. A walk over more members than the table has places is one over broken words.
+/// Removes each member for which `keep` returns `false`. If the walk leads to more members than the table has places, the words are wrong.
 pub(crate) fn retain<C: Collection>(
     collection: &mut C,
     table: &mut [C::Link],
@@ -107,41 +108,41 @@ pub(crate) fn retain<C: Collection>(
     collection.next(table, at).place().map_or(Ok(()), |_| Err(Error::Broken))
 }
 
-/// The calls that are alike for all kinds.
+/// Defines the calls that are the same for all lists and trees.
 macro_rules! collection {
     ($Collection:ident, $Link:ident) => {
         impl $Collection {
-            /// Borrows the members together with their table, to print them and to iterate over them, in O(1).
+            /// Borrows the list or tree together with its table, to print the members or to iterate over them, in O(1).
             #[inline]
             #[must_use]
             pub fn view<'a>(&'a self, table: &'a [$Link]) -> View<'a, $Collection> {
                 View::new(self, table)
             }
 
-            /// Iterates over the members, in order, which takes O(n) for all, and O(1) for each of a list.
+            /// Iterates over the members, in order. This takes O(n) for all members, and in a list O(1) for each member.
             ///
-            /// Whatever the words say, it ends after as many members as the table has places.
+            /// Whatever the words are, the iterator ends after as many members as the table has places.
             #[inline]
             pub fn iter<'a>(&'a self, table: &'a [$Link]) -> Iter<'a, $Collection> {
                 self.view(table).iter()
             }
 
-            /// Moves all members to a new list or tree, and returns it, in O(1).
+            /// Moves all members to a new list or tree, and returns the new list or tree, in O(1).
             #[inline]
             #[must_use = "the members stay linked"]
             pub fn take(&mut self) -> $Collection {
                 core::mem::take(self)
             }
 
-            /// Removes each member for which `keep` returns `false`. It asks `keep` once for each member, in order.
+            /// Removes each member for which `keep` returns `false`. The call passes each member to `keep` once, in order.
             ///
-            /// O(n), and O(log n) more for each member of a tree that it removes.
+            /// The call takes O(n), and in a tree O(log n) more for each removed member.
             ///
             /// # Errors
             ///
-            /// [`Error::Broken`] if the words lead to more members than the table has places. If the call that removes a member is refused, its
-            /// error. Either tells that the table and its list or tree do not belong together. Unlike other calls, this one has made its
-            /// edits up to there.
+            /// [`Error::Broken`] if the words lead to more members than the table has places. If the removal of a member is refused, the call
+            /// returns the error of this removal. In both cases the words of the table and of the list or tree contradict each other, and the
+            /// call may already have removed members.
             #[inline]
             pub fn retain(&mut self, table: &mut [$Link], keep: impl FnMut(u32) -> bool) -> Result<(), Error> {
                 crate::collection::retain(self, table, keep)
@@ -154,14 +155,14 @@ macro_rules! collection {
                 Cursor::new(self, table, Position::NULL)
             }
 
-            /// Returns a cursor on no member, which edits, in O(1).
+            /// Returns a cursor that can edit, on no member, in O(1).
             #[inline]
             #[must_use]
             pub fn cursor_mut<'a>(&'a mut self, table: &'a mut [$Link]) -> CursorMut<'a, $Collection> {
                 CursorMut::new(self, table, Position::NULL)
             }
 
-            /// Returns a cursor on the first member, or on none if there are no members. It takes O(1) in a list and O(log n) in a tree.
+            /// Returns a cursor on the first member, or on none if there are no members, in O(1) in a list and O(log n) in a tree.
             #[inline]
             #[must_use]
             pub fn front<'a>(&'a self, table: &'a [$Link]) -> Cursor<'a, $Collection> {
@@ -170,8 +171,8 @@ macro_rules! collection {
                 cursor
             }
 
-            /// Returns a cursor on the first member, which edits, or on none if there are no members. It takes O(1) in a list and O(log n)
-            /// in a tree.
+            /// Returns a cursor that can edit, on the first member, or on none if there are no members, in O(1) in a list and O(log n) in a
+            /// tree.
             #[inline]
             #[must_use]
             pub fn front_mut<'a>(&'a mut self, table: &'a mut [$Link]) -> CursorMut<'a, $Collection> {
@@ -183,11 +184,11 @@ macro_rules! collection {
     };
 }
 
-/// The calls that are alike for the kinds whose cursors move both ways.
+/// Defines the calls that are the same for the lists and trees whose cursors move in both directions.
 macro_rules! bidirectional {
     ($Collection:ident, $Link:ident) => {
         impl $Collection {
-            /// Returns a cursor on the last member, or on none if there are no members. It takes O(1) in a list and O(log n) in a tree.
+            /// Returns a cursor on the last member, or on none if there are no members, in O(1) in a list and O(log n) in a tree.
             #[inline]
             #[must_use]
             pub fn back<'a>(&'a self, table: &'a [$Link]) -> Cursor<'a, $Collection> {
@@ -196,8 +197,8 @@ macro_rules! bidirectional {
                 cursor
             }
 
-            /// Returns a cursor on the last member, which edits, or on none if there are no members. It takes O(1) in a list and O(log n)
-            /// in a tree.
+            /// Returns a cursor that can edit, on the last member, or on none if there are no members, in O(1) in a list and O(log n) in a
+            /// tree.
             #[inline]
             #[must_use]
             pub fn back_mut<'a>(&'a mut self, table: &'a mut [$Link]) -> CursorMut<'a, $Collection> {
@@ -209,12 +210,11 @@ macro_rules! bidirectional {
     };
 }
 
-/// The calls that are alike for the kinds whose cursors are told by a member alone.
+/// Defines the calls that are the same for the lists and trees in which a cursor needs only its member.
 macro_rules! from_place {
     ($Collection:ident, $Link:ident) => {
         impl $Collection {
-            /// Returns a cursor on the member `place`, in O(1). The call cannot tell the members of this list or tree from those of another
-            /// one.
+            /// Returns a cursor on the member `place`, in O(1). The call cannot detect whether `place` is a member of another list or tree.
             ///
             /// # Errors
             ///
@@ -229,8 +229,8 @@ macro_rules! from_place {
                 Ok(Cursor::new(self, table, Some(place)))
             }
 
-            /// Returns a cursor on the member `place`, which edits, in O(1). The call cannot tell the members of this list or tree from
-            /// those of another one.
+            /// Returns a cursor that can edit, on the member `place`, in O(1). The call cannot detect whether `place` is a member of another
+            /// list or tree.
             ///
             /// # Errors
             ///

@@ -1,14 +1,14 @@
-//! Cursors, which read or edit. Their names are those of the crate `intrusive-collections`.
+//! This module has cursors that read or edit. Their calls have the names that the crate `intrusive-collections` gives them.
 
 use crate::collection::{Bidirectional, BidirectionalSplice, Collection, Position, Splice};
 use crate::view::View;
 use crate::{Error, Stack};
 use core::fmt;
 
-/// A cursor on a member of a list or tree, or on none, which reads.
+/// A cursor that reads, on a member of a list or tree, or on no member.
 ///
-/// The list or tree is of the type `C`. None is the position between the last member and the first: from there,
-/// [`move_next`](Self::move_next) goes to the first member.
+/// The list or tree is of the type `C`. A cursor on no member is between the last member and the first, and [`move_next`](Self::move_next)
+/// moves it to the first member.
 ///
 /// ```
 /// use ic::{Link2, List};
@@ -53,20 +53,20 @@ impl<'a, C: Collection> Cursor<'a, C> {
         self.position.place()
     }
 
-    /// Borrows all members together with their table, to print them and to iterate over them, in O(1).
+    /// Borrows the list or tree together with its table, to print all members or to iterate over them, in O(1).
     #[inline]
     #[must_use]
     pub fn view(&self) -> View<'a, C> {
         self.view
     }
 
-    /// Moves to the next member, from none to the first, and from the last to none. It takes O(1) in a list and O(log n) in a tree.
+    /// Moves to the next member, from no member to the first, and from the last to no member, in O(1) in a list and O(log n) in a tree.
     #[inline]
     pub fn move_next(&mut self) {
         self.position = self.view.next(self.position);
     }
 
-    /// Returns a cursor where [`move_next`](Self::move_next) would go. It takes O(1) in a list and O(log n) in a tree.
+    /// Returns a cursor at the position to which [`move_next`](Self::move_next) would go, in O(1) in a list and O(log n) in a tree.
     #[inline]
     #[must_use]
     pub fn peek_next(&self) -> Self {
@@ -76,15 +76,15 @@ impl<'a, C: Collection> Cursor<'a, C> {
     }
 }
 
-/// What cursors of all but a [`Stack`] have besides.
+/// These are calls of the cursors of all lists and trees except a [`Stack`].
 impl<C: Bidirectional> Cursor<'_, C> {
-    /// Moves to the previous member, from none to the last, and from the first to none. It takes O(1) in a list and O(log n) in a tree.
+    /// Moves to the previous member, from no member to the last, and from the first to no member, in O(1) in a list and O(log n) in a tree.
     #[inline]
     pub fn move_prev(&mut self) {
         self.position = self.view.prev(self.position);
     }
 
-    /// Returns a cursor where [`move_prev`](Self::move_prev) would go. It takes O(1) in a list and O(log n) in a tree.
+    /// Returns a cursor at the position to which [`move_prev`](Self::move_prev) would go, in O(1) in a list and O(log n) in a tree.
     #[inline]
     #[must_use]
     pub fn peek_prev(&self) -> Self {
@@ -109,10 +109,10 @@ impl<C: Collection> fmt::Debug for Cursor<'_, C> {
     }
 }
 
-/// A cursor on a member of a list or tree, or on none, which edits there.
+/// A cursor that edits, on a member of a list or tree, or on no member.
 ///
-/// It borrows the list or tree, whose type is `C`, together with its table. So its calls take neither, and nothing else edits them meanwhile.
-/// An edit that returns an [`Error`] has changed nothing, and the cursor is where it was.
+/// The cursor borrows the list or tree, whose type is `C`, together with its table. So you pass neither to the cursor's calls, and only the
+/// cursor can edit them. An edit that returns an [`Error`] has changed nothing, and has not moved the cursor.
 ///
 /// ```
 /// use ic::{Link2, List};
@@ -159,83 +159,83 @@ impl<'a, C: Collection> CursorMut<'a, C> {
         self.position.place()
     }
 
-    /// Borrows all members together with their table, to print them and to iterate over them, in O(1).
+    /// Borrows the list or tree together with its table, to print all members or to iterate over them, in O(1).
     #[inline]
     #[must_use]
     pub fn view(&self) -> View<'_, C> {
         View::new(self.collection, self.table)
     }
 
-    /// Returns a cursor at the same position, which reads, in O(1).
+    /// Returns a cursor that reads, at the same position, in O(1).
     #[inline]
     #[must_use]
     pub fn as_cursor(&self) -> Cursor<'_, C> {
         Cursor { view: self.view(), position: self.position }
     }
 
-    /// Moves to the next member, from none to the first, and from the last to none. It takes O(1) in a list and O(log n) in a tree.
+    /// Moves to the next member, from no member to the first, and from the last to no member, in O(1) in a list and O(log n) in a tree.
     #[inline]
     pub fn move_next(&mut self) {
         self.position = self.peek_next().position;
     }
 
-    /// Returns a cursor where [`move_next`](Self::move_next) would go, which reads. It takes O(1) in a list and O(log n) in a tree.
+    /// Returns a cursor that reads, at the position to which [`move_next`](Self::move_next) would go, in O(1) in a list and O(log n) in a tree.
     #[inline]
     #[must_use]
     pub fn peek_next(&self) -> Cursor<'_, C> {
         self.as_cursor().peek_next()
     }
 
-    /// Inserts `place` after the cursor's member, or at the front if the cursor is on none. It takes O(1) in a list and O(log n) in a tree.
+    /// Inserts `place` after the cursor's member, or at the front if the cursor is on none, in O(1) in a list and O(log n) in a tree.
     ///
-    /// The cursor stays. In a tree the call compares nothing, so hand in a place that belongs there.
+    /// The cursor does not move. In a tree the call compares no keys, so pass a place that comes there in the order of the members.
     ///
     /// # Errors
     ///
     /// [`Error::OutOfRange`] if `place` is not below the table's length. [`Error::Linked`] if `place` is linked already. [`Error::Broken`] or
-    /// [`Error::NotLinked`] if the table and its list or tree do not belong together.
+    /// [`Error::NotLinked`] if the words of the table and of the list or tree contradict each other.
     #[inline]
     pub fn insert_after(&mut self, place: u32) -> Result<(), Error> {
         self.collection.insert_after(self.table, self.position, place)
     }
 }
 
-/// What cursors of all but a [`Stack`] have besides.
+/// These are calls of the cursors of all lists and trees except a [`Stack`].
 impl<C: Bidirectional> CursorMut<'_, C> {
-    /// Moves to the previous member, from none to the last, and from the first to none. It takes O(1) in a list and O(log n) in a tree.
+    /// Moves to the previous member, from no member to the last, and from the first to no member, in O(1) in a list and O(log n) in a tree.
     #[inline]
     pub fn move_prev(&mut self) {
         self.position = self.peek_prev().position;
     }
 
-    /// Returns a cursor where [`move_prev`](Self::move_prev) would go, which reads. It takes O(1) in a list and O(log n) in a tree.
+    /// Returns a cursor that reads, at the position to which [`move_prev`](Self::move_prev) would go, in O(1) in a list and O(log n) in a tree.
     #[inline]
     #[must_use]
     pub fn peek_prev(&self) -> Cursor<'_, C> {
         self.as_cursor().peek_prev()
     }
 
-    /// Inserts `place` before the cursor's member, or at the back if the cursor is on none. It takes O(1) in a list and O(log n) in a tree.
+    /// Inserts `place` before the cursor's member, or at the back if the cursor is on none, in O(1) in a list and O(log n) in a tree.
     ///
-    /// The cursor stays. In a tree the call compares nothing, so hand in a place that belongs there.
+    /// The cursor does not move. In a tree the call compares no keys, so pass a place that comes there in the order of the members.
     ///
     /// # Errors
     ///
     /// [`Error::OutOfRange`] if `place` is not below the table's length. [`Error::Linked`] if `place` is linked already. [`Error::Broken`] or
-    /// [`Error::NotLinked`] if the table and its list or tree do not belong together.
+    /// [`Error::NotLinked`] if the words of the table and of the list or tree contradict each other.
     #[inline]
     pub fn insert_before(&mut self, place: u32) -> Result<(), Error> {
         self.position = self.collection.insert_before(self.table, self.position, place)?;
         Ok(())
     }
 
-    /// Removes the cursor's member and returns it, or `None` if the cursor is on none. It takes O(1) in a list and O(log n) in a tree.
+    /// Removes the cursor's member and returns it, or `None` if the cursor is on no member, in O(1) in a list and O(log n) in a tree.
     ///
     /// The cursor moves to the next member.
     ///
     /// # Errors
     ///
-    /// [`Error::Broken`] or [`Error::NotLinked`] if the table and its list or tree do not belong together.
+    /// [`Error::Broken`] or [`Error::NotLinked`] if the words of the table and of the list or tree contradict each other.
     #[inline]
     #[doc(alias = "remove_current")]
     pub fn remove(&mut self) -> Result<Option<u32>, Error> {
@@ -248,12 +248,12 @@ impl<C: Bidirectional> CursorMut<'_, C> {
 
     /// Removes the cursor's member, inserts `place` where it was, and returns the removed member, in O(1).
     ///
-    /// The cursor is on the place then. In a tree the call compares nothing, so hand in a place that belongs there.
+    /// The cursor moves to `place`. In a tree the call compares no keys, so pass a place that comes there in the order of the members.
     ///
     /// # Errors
     ///
     /// [`Error::Null`] if the cursor is on none. [`Error::OutOfRange`] if `place` is not below the table's length. [`Error::Linked`] if `place`
-    /// is linked already. [`Error::Broken`] or [`Error::NotLinked`] if the table and its list or tree do not belong together.
+    /// is linked already. [`Error::Broken`] or [`Error::NotLinked`] if the words of the table and of the list or tree contradict each other.
     #[inline]
     #[doc(alias = "replace_current")]
     pub fn replace_with(&mut self, place: u32) -> Result<u32, Error> {
@@ -263,55 +263,55 @@ impl<C: Bidirectional> CursorMut<'_, C> {
     }
 }
 
-/// What cursors of lists have besides.
+/// These are calls of the cursors of lists.
 impl<C: Splice> CursorMut<'_, C> {
     /// Moves all members of a list of the same table after the cursor's member, or to the front if the cursor is on none.
     ///
-    /// O(1), and O(members of `given`) for a [`Stack`]. Then `given` is empty. The cursor stays.
+    /// The call takes O(1), or O(members of `given`) in a [`Stack`]. Afterwards `given` is empty. The cursor does not move.
     ///
     /// # Errors
     ///
-    /// [`Error::Broken`] if `given` is no list of this table. [`Error::Broken`] or [`Error::NotLinked`] if the table and the cursor's list do
-    /// not belong together.
+    /// [`Error::Broken`] if `given` is no list of this table. [`Error::Broken`] or [`Error::NotLinked`] if the words of the table and of the
+    /// cursor's list contradict each other.
     #[inline]
     pub fn splice_after(&mut self, given: &mut C) -> Result<(), Error> {
         self.collection.splice_after(self.table, self.position, given)
     }
 
-    /// Moves the members after the cursor's member, or all if the cursor is on none, to a new list, which it returns, in O(1). The cursor
-    /// stays.
+    /// Moves the members after the cursor's member, or all members if the cursor is on none, to a new list, which the call returns, in O(1).
+    /// The cursor does not move.
     ///
     /// # Errors
     ///
-    /// [`Error::Broken`] or [`Error::NotLinked`] if the table and the list do not belong together.
+    /// [`Error::Broken`] or [`Error::NotLinked`] if the words of the table and of the list contradict each other.
     #[inline]
     pub fn split_after(&mut self) -> Result<C, Error> {
         self.collection.split_after(self.table, self.position)
     }
 }
 
-/// What cursors of a [`List`](crate::List) and an [`XorList`](crate::XorList) have besides.
+/// These are calls of the cursors of a [`List`](crate::List) and an [`XorList`](crate::XorList).
 impl<C: BidirectionalSplice> CursorMut<'_, C> {
     /// Moves all members of a list of the same table before the cursor's member, or to the back if the cursor is on none, in O(1).
     ///
-    /// Then `given` is empty. The cursor stays.
+    /// Afterwards `given` is empty. The cursor does not move.
     ///
     /// # Errors
     ///
-    /// [`Error::Broken`] if `given` is no list of this table. [`Error::Broken`] or [`Error::NotLinked`] if the table and the cursor's list do
-    /// not belong together.
+    /// [`Error::Broken`] if `given` is no list of this table. [`Error::Broken`] or [`Error::NotLinked`] if the words of the table and of the
+    /// cursor's list contradict each other.
     #[inline]
     pub fn splice_before(&mut self, given: &mut C) -> Result<(), Error> {
         self.position = self.collection.splice_before(self.table, self.position, given)?;
         Ok(())
     }
 
-    /// Moves the members before the cursor's member, or all if the cursor is on none, to a new list, which it returns, in O(1). The cursor
-    /// stays.
+    /// Moves the members before the cursor's member, or all members if the cursor is on none, to a new list, which the call returns, in O(1).
+    /// The cursor does not move.
     ///
     /// # Errors
     ///
-    /// [`Error::Broken`] or [`Error::NotLinked`] if the table and the list do not belong together.
+    /// [`Error::Broken`] or [`Error::NotLinked`] if the words of the table and of the list contradict each other.
     #[inline]
     pub fn split_before(&mut self) -> Result<C, Error> {
         let (front, position) = self.collection.split_before(self.table, self.position)?;
@@ -320,7 +320,7 @@ impl<C: BidirectionalSplice> CursorMut<'_, C> {
     }
 }
 
-/// What cursors of a [`Stack`] have besides.
+/// These are calls of the cursors of a [`Stack`].
 ///
 /// ```
 /// use ic::{Link1, Stack};
@@ -339,23 +339,23 @@ impl<C: BidirectionalSplice> CursorMut<'_, C> {
 /// # Ok::<(), ic::Error>(())
 /// ```
 impl CursorMut<'_, Stack> {
-    /// Removes the member after the cursor and returns it, or `None` if there is none, in O(1). The cursor stays.
+    /// Removes the member after the cursor and returns it, or `None` if there is none, in O(1). The cursor does not move.
     ///
     /// # Errors
     ///
-    /// [`Error::Broken`] or [`Error::NotLinked`] if the table and the list do not belong together.
+    /// [`Error::Broken`] or [`Error::NotLinked`] if the words of the table and of the list contradict each other.
     #[inline]
     pub fn remove_next(&mut self) -> Result<Option<u32>, Error> {
         self.collection.remove_after(self.table, self.position)
     }
 
-    /// Removes the member after the cursor, inserts `place` where it was, and returns the removed member, in O(1). The cursor stays.
+    /// Removes the member after the cursor, inserts `place` where it was, and returns the removed member, in O(1). The cursor does not move.
     ///
     /// # Errors
     ///
     /// [`Error::Null`] if there is no member after the cursor. [`Error::OutOfRange`] if `place` is not below the table's length.
-    /// [`Error::Linked`] if `place` is linked already. [`Error::Broken`] or [`Error::NotLinked`] if the table and the list do not belong
-    /// together.
+    /// [`Error::Linked`] if `place` is linked already. [`Error::Broken`] or [`Error::NotLinked`] if the words of the table and of the list
+    /// contradict each other.
     #[inline]
     pub fn replace_next_with(&mut self, place: u32) -> Result<u32, Error> {
         self.collection.replace_after(self.table, self.position, place)

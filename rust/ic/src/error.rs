@@ -1,9 +1,9 @@
-//! Why a call is refused.
+//! This module has the errors, which say why a call is refused.
 
 use core::fmt;
 use ic_sys::*;
 
-/// Why a call has changed nothing.
+/// The reason for which a call was refused and has changed nothing.
 ///
 /// ```
 /// use ic::{Error, Link2, List};
@@ -23,11 +23,11 @@ pub enum Error {
     OutOfRange,
     /// The place to insert is in a list or tree of this table.
     Linked,
-    /// The member that is named is in no list or tree of this table.
+    /// A place that you name as a member is in no list or tree of this table.
     NotLinked,
-    /// The call needs a member, and there is none.
+    /// The call needs a member, and you passed none or there is no such member.
     Null,
-    /// The table, the list or tree, and the members do not belong together.
+    /// The words of the table, the list or the tree contradict each other, or do not allow the edit.
     Broken,
 }
 
@@ -47,7 +47,7 @@ impl fmt::Display for Error {
 
 impl core::error::Error for Error {}
 
-/// What a call returned.
+/// Returns the result that a status of C stands for.
 #[inline]
 pub(crate) fn done(status: u32) -> Result<(), Error> {
     match status {
@@ -60,7 +60,7 @@ pub(crate) fn done(status: u32) -> Result<(), Error> {
     }
 }
 
-/// Makes a call that sets a member's number, and returns the member, or `None` if there is none.
+/// Makes a call of C that sets a member, and returns this member, or `None` if the status is `IC_NULL`.
 #[inline]
 pub(crate) fn handed_out(call: impl FnOnce(&mut u32) -> u32) -> Result<Option<u32>, Error> {
     let mut member = IC_NONE;
@@ -71,7 +71,7 @@ pub(crate) fn handed_out(call: impl FnOnce(&mut u32) -> u32) -> Result<Option<u3
     }
 }
 
-/// How many members a check has counted.
+/// Makes a call of C that counts members, and returns how many there are.
 #[inline]
 pub(crate) fn try_counted(call: impl FnOnce(&mut u64) -> u32) -> Result<u64, Error> {
     let mut members = 0;
@@ -79,7 +79,7 @@ pub(crate) fn try_counted(call: impl FnOnce(&mut u64) -> u32) -> Result<u64, Err
     Ok(members)
 }
 
-/// The same, or `None` if the words show no list or tree, for which alone such a check is refused.
+/// Makes a call of C that counts members, and returns how many there are, or `None` if the words form no list or tree.
 #[inline]
 pub(crate) fn counted(call: impl FnOnce(&mut u64) -> u32) -> Option<u64> {
     try_counted(call).ok()

@@ -1,7 +1,8 @@
-//! Hash tables: an array of buckets, each a [`Stack`] of the members whose hash leads there, its chain.
+//! Hash tables: a hash table is a slice of buckets, and each bucket is a [`Stack`], which is called a chain.
 //!
-//! They are good for finding objects by a key, in no order. The hash is a number of yours, which you hand to each call for one object. A member
-//! is in the bucket whose index is `hash % buckets.len()`. With about as many buckets as members, chains are short.
+//! Hash tables are good for finding objects by a key, if you need no order. Your hash function computes a number, the hash, from each key, and
+//! you pass the same hash to each call for one object. A member is in the bucket whose index is `hash % buckets.len()`, which is the chain of
+//! its hash. If there are about as many buckets as members, chains are short.
 //!
 //! ```
 //! use ic::{hash, Error, Link1, Stack};
@@ -32,8 +33,8 @@
 //! # Ok::<(), Error>(())
 //! ```
 //!
-//! Words that come from a file may be any, and [`check`] says whether they are a hash table by the hash of each place. So each member is in the
-//! bucket where a search looks for it:
+//! Words that come from a file may have any values. [`check`] returns an error unless each member is in the chain of its hash, where a search
+//! looks for the member:
 //!
 //! ```
 //! use ic::{hash, Error, Link1, Stack};
@@ -53,7 +54,7 @@
 //! # Ok::<(), Error>(())
 //! ```
 //!
-//! A hash table grows or shrinks when you make another array of buckets, and call [`move_chain`] for each bucket of the old one, at once or over
+//! To grow or shrink a hash table, make another array of buckets, and call [`move_chain`] for each bucket of the old array, at once or over
 //! time. Members with one key keep their order:
 //!
 //! ```
@@ -73,7 +74,7 @@
 //! # Ok::<(), Error>(())
 //! ```
 //!
-//! Each call of [`Stack`] takes a bucket, too, so [`Stack::clear`] empties one. A place is in one chain or list of a table.
+//! You can pass a bucket to each call of [`Stack`], too: [`Stack::clear`] empties a bucket. A place is in at most one chain or list of a table.
 
 use crate::error::{done, handed_out, try_counted};
 use crate::link::Link;
@@ -88,7 +89,7 @@ pub fn chain(buckets: &[Stack], hash: u64) -> Option<&Stack> {
     buckets.get(at as usize)
 }
 
-/// Iterates over all members, chain by chain, in O(buckets + n). It ends after as many members as the table has places.
+/// Iterates over all members, chain by chain, in O(buckets + n). The iterator ends after as many members as the table has places.
 ///
 /// ```
 /// use ic::{hash, Error, Link1, Stack};
@@ -106,13 +107,13 @@ pub fn iter<'a>(table: &'a [Link1], buckets: &'a [Stack]) -> impl Iterator<Item 
     buckets.iter().flat_map(|chain| chain.iter(table)).take(table.len())
 }
 
-// tools/c-calls --write writes from here: hash hash-growth
+// Made by tools/c-calls --write: hash hash-growth
 /// Inserts `place` at the front of the chain of `hash`, in O(1).
 ///
 /// # Errors
 ///
 /// [`Error::OutOfRange`] if there is no bucket, or `place` is not below the table's length. [`Error::Linked`] if `place` is linked already.
-/// [`Error::Broken`] if the first member of the chain does not belong to this table.
+/// [`Error::Broken`] if the first member of the chain is not linked in this table.
 #[inline]
 pub fn insert(table: &mut [Link1], buckets: &mut [Stack], hash: u64, place: u32) -> Result<(), Error> {
     let (links, places) = Link1::parts(table);
@@ -120,13 +121,13 @@ pub fn insert(table: &mut [Link1], buckets: &mut [Stack], hash: u64, place: u32)
     done(unsafe { ic_hash_insert(links, places, buckets.as_mut_ptr().cast(), buckets.len(), hash, place) })
 }
 
-/// Removes `place` from the chain of `hash`, wherever it is in that chain, in O(members of the chain).
+/// Removes `place` from any position in the chain of `hash`, in O(members of the chain).
 ///
 /// # Errors
 ///
 /// [`Error::Null`] if `place` is `u32::MAX`. [`Error::OutOfRange`] if there is no bucket, or `place` is not below the table's length.
-/// [`Error::NotLinked`] if `place` is not linked. [`Error::Broken`] if `place` is no member of this chain, but perhaps of the chain of
-/// another hash, or the chain does not belong to this table.
+/// [`Error::NotLinked`] if `place` is not linked. [`Error::Broken`] if `place` is linked, for example in the chain of another hash, but the
+/// links of this chain do not lead to `place`.
 #[inline]
 pub fn remove(table: &mut [Link1], buckets: &mut [Stack], hash: u64, place: u32) -> Result<(), Error> {
     let (links, places) = Link1::parts(table);
@@ -134,13 +135,13 @@ pub fn remove(table: &mut [Link1], buckets: &mut [Stack], hash: u64, place: u32)
     done(unsafe { ic_hash_remove(links, places, buckets.as_mut_ptr().cast(), buckets.len(), hash, place) })
 }
 
-/// Finds the first member of the chain of `hash` whose key is `key`, and returns it, in O(members of the chain). Of several such members,
-/// the first is the one that was inserted last. It returns `None` if there is no such member.
+/// Finds the first member of the chain of `hash` whose key is `key`, and returns it, in O(members of the chain). If several members have
+/// this key, the first of them is the one that was inserted last. The call returns `None` if no member of the chain has this key.
 ///
 /// # Errors
 ///
-/// [`Error::OutOfRange`] if there are fewer keys than places, or there is no bucket. [`Error::Broken`] if the chain does not belong to this
-/// table.
+/// [`Error::OutOfRange`] if there are fewer keys than places, or there is no bucket. [`Error::Broken`] if the links of the chain run in a
+/// circle, or lead to a place that is not linked in this table.
 #[inline]
 pub fn find(table: &[Link1], keys: &[u64], buckets: &[Stack], hash: u64, key: u64) -> Result<Option<u32>, Error> {
     let (links, places) = Link1::read_parts(table);
@@ -150,13 +151,14 @@ pub fn find(table: &[Link1], keys: &[u64], buckets: &[Stack], hash: u64, key: u6
     })
 }
 
-/// Finds the next member after the member `at`, in its chain, that has the same key as `at`, and returns it, in O(members of the chain). It
-/// returns `None` if the place `at` is `u32::MAX`, or there is no such member.
+/// Finds the first member after the member `at` in the same chain that has the same key as `at`, and returns it, in O(members of the
+/// chain). The call returns `None` if the place `at` is `u32::MAX`, or no later member of the chain has this key.
 ///
 /// # Errors
 ///
 /// [`Error::OutOfRange`] if there are fewer keys than places, or the place `at` is not below the table's length. [`Error::NotLinked`] if
-/// the place `at` is not linked. [`Error::Broken`] if the chain does not belong to this table.
+/// the place `at` is not linked. [`Error::Broken`] if the links of the chain run in a circle, or lead to a place that is not linked in this
+/// table.
 #[inline]
 pub fn next_equal(table: &[Link1], keys: &[u64], at: u32) -> Result<Option<u32>, Error> {
     let (links, places) = Link1::read_parts(table);
@@ -164,14 +166,14 @@ pub fn next_equal(table: &[Link1], keys: &[u64], at: u32) -> Result<Option<u32>,
     handed_out(|it| unsafe { ic_hash_next_equal(links, places, keys.as_ptr(), keys.len(), at, it) })
 }
 
-/// Counts the members of all chains, and returns how many there are, in O(buckets + n). Call it if the words come from a file, or from
-/// memory that others write. `hashes` has the hash of each place. If it returns a number, each member is in the chain of its hash and in no
-/// other chain, and every other call on this hash table does what the comment of that call says.
+/// Counts the members of all chains, and returns how many there are, in O(buckets + n). `hashes` has the hash of each place. Make this call
+/// if the words come from a file, or from memory that others write. If the call returns a number, each member is in the chain of its hash
+/// and in no other chain, and every other call on this hash table does what its own comment says.
 ///
 /// # Errors
 ///
-/// [`Error::OutOfRange`] if there are fewer hashes than places, or there is no bucket. [`Error::Broken`] if the links lead from a bucket to
-/// no end within the table, or to a member that belongs in another bucket by its hash.
+/// [`Error::OutOfRange`] if there are fewer hashes than places, or there is no bucket. [`Error::Broken`] if the links of a chain run in a
+/// circle, or lead to a place that is not linked in this table, or to a member whose hash chooses another bucket.
 #[inline]
 pub fn check(table: &[Link1], hashes: &[u64], buckets: &[Stack]) -> Result<u64, Error> {
     let (links, places) = Link1::read_parts(table);
@@ -181,17 +183,17 @@ pub fn check(table: &[Link1], hashes: &[u64], buckets: &[Stack]) -> Result<u64, 
     })
 }
 
-/// Moves all members of `chain`, a bucket of another array, each to the front of the chain of its hash, and leaves `chain` empty, in
-/// O(members of the chain). `hashes` has the hash of each place. Members that move to the same bucket keep their order, and come before the
-/// members that the bucket had. So of moved members with one key a search still finds the one that was inserted last. Each place stays
-/// linked during the call. To grow or to shrink a hash table, make another array of buckets, and make this call for each bucket of the old
+/// Moves each member of `chain`, a bucket of another array, to the chain of its hash, and leaves `chain` empty, in O(members of the chain).
+/// `hashes` has the hash of each place. Members that move to the same bucket keep their order, and come before the members that were in
+/// this bucket. So if several of the moved members have one key, a search still finds the one that was inserted last. Each place stays
+/// linked during the call. To grow or shrink a hash table, make another array of buckets, and make this call for each bucket of the old
 /// array.
 ///
 /// # Errors
 ///
-/// [`Error::OutOfRange`] if there are fewer hashes than places, or there is no bucket. [`Error::Broken`] if the links lead from the first
-/// member of `chain` to no end within the table, or a bucket to which a member moves begins with a place that does not belong to this
-/// table.
+/// [`Error::OutOfRange`] if there are fewer hashes than places, or there is no bucket. [`Error::Broken`] if the links of `chain` run in a
+/// circle, or lead to a place that is not linked in this table, or the first member of a bucket to which a member moves is not linked in
+/// this table.
 #[inline]
 pub fn move_chain(table: &mut [Link1], hashes: &[u64], chain: &mut Stack, buckets: &mut [Stack]) -> Result<(), Error> {
     let (links, places) = Link1::parts(table);

@@ -1,4 +1,5 @@
-//! Trees by keys and by comparisons: insertions by a comparison of yours, ranges of keys, and entries.
+//! This module has more calls of trees by keys and by comparisons: insertions and searches by a comparison of yours, ranges of keys, and
+//! entries.
 
 use crate::cursor::CursorMut;
 use crate::link::member;
@@ -8,7 +9,7 @@ use core::cmp::Ordering;
 use core::fmt;
 use core::ops::{Bound, RangeBounds};
 
-/// What there is in a tree for a key: a member, or a gap where a place with this key belongs. [`Tree::entry`] returns it.
+/// What [`Tree::entry`] finds for a key: the first member with this key, or the gap into which a place with this key can be inserted.
 ///
 /// ```
 /// use ic::{Entry, Error, Link3, Tree};
@@ -30,28 +31,28 @@ use core::ops::{Bound, RangeBounds};
 pub enum Entry<'a> {
     /// A cursor on the first member with the key.
     Occupied(CursorMut<'a, Tree>),
-    /// The gap where a place with the key belongs, because no member has it.
+    /// The gap into which a place with the key can be inserted, because no member has this key.
     Vacant(VacantEntry<'a>),
 }
 
 impl<'a> Entry<'a> {
-    /// Returns a cursor on the member with the key. If there is none, the call first inserts `place`, whose key has to be this one, in
-    /// O(log n).
+    /// Returns a cursor on the first member with the key, in O(log n). If there is none, the call first inserts `place`, which must have this
+    /// key.
     ///
     /// # Errors
     ///
-    /// It returns the errors of [`VacantEntry::insert`].
+    /// The call returns the errors of [`VacantEntry::insert`].
     #[inline]
     pub fn or_insert(self, place: u32) -> Result<CursorMut<'a, Tree>, Error> {
         self.or_insert_with(|| place)
     }
 
-    /// Returns a cursor on the member with the key. If there is none, the call first inserts the place that `make` returns, whose key has
-    /// to be this one, in O(log n).
+    /// Returns a cursor on the first member with the key, in O(log n). If there is none, the call first inserts the place that `make` returns,
+    /// which must have this key.
     ///
     /// # Errors
     ///
-    /// It returns the errors of [`VacantEntry::insert`].
+    /// The call returns the errors of [`VacantEntry::insert`].
     #[inline]
     pub fn or_insert_with(self, make: impl FnOnce() -> u32) -> Result<CursorMut<'a, Tree>, Error> {
         match self {
@@ -61,7 +62,7 @@ impl<'a> Entry<'a> {
     }
 }
 
-/// The gap of a tree where a place with a key belongs. It borrows the tree together with its table.
+/// The gap of a tree into which a place with a key can be inserted. The entry borrows the tree together with its table.
 pub struct VacantEntry<'a> {
     tree: &'a mut Tree,
     table: &'a mut [Link3],
@@ -69,13 +70,13 @@ pub struct VacantEntry<'a> {
 }
 
 impl<'a> VacantEntry<'a> {
-    /// Inserts `place` in the gap, and returns a cursor on it, in O(log n). The call compares nothing, so hand in a place with the entry's
+    /// Inserts `place` into the gap, and returns a cursor on `place`, in O(log n). The call compares no keys, so pass a place with the entry's
     /// key.
     ///
     /// # Errors
     ///
-    /// [`Error::OutOfRange`] if `place` is not below the table's length. [`Error::Linked`] if `place` is linked already. [`Error::Broken`] if the
-    /// table and the tree do not belong together.
+    /// [`Error::OutOfRange`] if `place` is not below the table's length. [`Error::Linked`] if `place` is linked already. [`Error::Broken`] if
+    /// the words of the table and of the tree contradict each other.
     pub fn insert(self, place: u32) -> Result<CursorMut<'a, Tree>, Error> {
         self.gap.insert(self.tree, self.table, place)?;
         Ok(CursorMut::new(self.tree, self.table, Some(place)))
@@ -88,7 +89,7 @@ impl fmt::Debug for VacantEntry<'_> {
     }
 }
 
-/// Where a way down from the root ends: under a member, on one of its sides, or at the root of an empty tree.
+/// Where a descent from the root ends: at the left or the right child that the member `under` lacks, or at the root of an empty tree.
 #[derive(Clone, Copy)]
 struct Gap {
     under: Option<u32>,
@@ -96,7 +97,8 @@ struct Gap {
 }
 
 impl Gap {
-    /// Goes down to the left of each member for which `goes_left` returns true, and to the right of the others.
+    /// Descends from the root, to the left child of each member for which `goes_left` returns true, and to the right child of each other
+    /// member.
     fn find(tree: &Tree, table: &[Link3], mut goes_left: impl FnMut(u32) -> bool) -> Gap {
         let mut gap = Gap { under: None, is_left: true };
         let mut at = member(table, tree.root());
@@ -118,10 +120,10 @@ impl Gap {
     }
 }
 
-/// Ranges, entries and comparisons.
+/// These calls find ranges and entries, and insert and find by a comparison.
 impl Tree {
-    /// Inserts `place` by a comparison of yours, after all members that are not greater, in O(log n). The call hands `place` to `compare`
-    /// first, and then a member.
+    /// Inserts `place` by a comparison of yours, after all members that are not greater, in O(log n). `compare` takes `place` as its first
+    /// argument, and a member as its second.
     ///
     /// ```
     /// # use ic::{Error, Link3, Tree};
@@ -136,8 +138,8 @@ impl Tree {
     ///
     /// # Errors
     ///
-    /// [`Error::OutOfRange`] if `place` is not below the table's length: then the call compares nothing. [`Error::Linked`] if `place` is linked
-    /// already. [`Error::Broken`] if the root does not belong to this table, or the way down from it does not end.
+    /// [`Error::OutOfRange`] if `place` is not below the table's length, in which case the call does not call `compare`. [`Error::Linked`] if
+    /// `place` is linked already. [`Error::Broken`] if the root is not linked in this table, or the links below the root form no tree.
     pub fn insert_by(
         &mut self,
         table: &mut [Link3],
@@ -151,8 +153,8 @@ impl Tree {
         gap.insert(self, table, place)
     }
 
-    /// Finds the first member of which `compare` returns [`Ordering::Equal`], in O(log n). It returns whether the member comes before what you
-    /// look for ([`Ordering::Less`]), or after it, as that of [`slice::binary_search_by`] does.
+    /// Finds the first member for which `compare` returns [`Ordering::Equal`], in O(log n). `compare` returns [`Ordering::Less`] if the member
+    /// comes before what you look for, and [`Ordering::Greater`] if the member comes after, as in [`slice::binary_search_by`].
     ///
     /// ```
     /// # use ic::{Error, Link3, Tree};
@@ -177,8 +179,8 @@ impl Tree {
         found
     }
 
-    /// Iterates over the members whose keys are in a range, in order, in O(log n), and in O(n) for a walk over all. There are none if the
-    /// range ends before it starts.
+    /// Iterates over the members whose keys are in a range, in order. The call takes O(log n), and a walk over all members O(n). If the range
+    /// ends before it starts, there are no members.
     ///
     /// ```
     /// # use ic::{Error, Link3, Tree};
@@ -194,7 +196,7 @@ impl Tree {
     ///
     /// # Errors
     ///
-    /// [`Error::OutOfRange`] if there are fewer keys than places. [`Error::Broken`] if the root does not belong to this table.
+    /// [`Error::OutOfRange`] if there are fewer keys than places. [`Error::Broken`] if the root is not linked in this table.
     pub fn range<'a>(
         &'a self,
         table: &'a [Link3],
@@ -218,11 +220,11 @@ impl Tree {
         Ok(if has_any { self.view(table).between(front, back) } else { self.view(table).between(None, None) })
     }
 
-    /// Finds the first member with a key, or the gap where a place with this key belongs, in O(log n). See [`Entry`].
+    /// Finds the first member with a key, or the gap into which a place with this key can be inserted, in O(log n). See [`Entry`].
     ///
     /// # Errors
     ///
-    /// [`Error::OutOfRange`] if there are fewer keys than places. [`Error::Broken`] if the root does not belong to this table.
+    /// [`Error::OutOfRange`] if there are fewer keys than places. [`Error::Broken`] if the root is not linked in this table.
     pub fn entry<'a>(&'a mut self, table: &'a mut [Link3], keys: &[u64], key: u64) -> Result<Entry<'a>, Error> {
         if let Some(member) = self.find(table, keys, key)? {
             return Ok(Entry::Occupied(CursorMut::new(self, table, Some(member))));

@@ -1,8 +1,9 @@
 //! This crate has lists, rings, hash tables and a red-black tree over tables of links, which allocate nothing.
 //!
-//! An object is a place, which is an index of your own collections. A table is a slice of links, one for each place, and a list or a tree
-//! leads from place to place through one table. A place is in at most one list or tree of a table. An object that has to be in several at
-//! once has a link in several tables.
+//! You name an object by its place, which is its index in your own collections. A table is a slice of links, one for each place. A link
+//! consists of words, which are integers. A place that is in a list or tree is linked, and is a member of the list or tree, and the words of
+//! its link lead to other members. A place is in at most one list or tree of a table. To have an object in several lists or trees at once, use
+//! a table for each.
 //!
 //! ```
 //! use ic::{Error, Link2, List};
@@ -31,11 +32,14 @@
 //!
 //! # A list and its table
 //!
-//! A list is one or two words, and does not hold its table. You hand the table to each call. Three types borrow both at once:
+//! A list is one or two words, and does not contain its table. You pass the table to each call. Three types borrow a list and its table at
+//! once:
 //!
-//! - A [`View`] reads. You can print `list.view(&links)` with `{:?}`, and go over it with `for`. Its iterator is `list.iter(&links)`.
-//! - A [`Cursor`] moves from member to member, and reads. `list.front(&links)` is one on the first member.
-//! - A [`CursorMut`] also edits: it inserts, removes and replaces members, and cuts and joins lists. `list.front_mut(&mut links)` is one.
+//! - A [`View`] reads. You can print the view `list.view(&links)` with `{:?}`, and use it in a `for` loop. `list.iter(&links)` returns its
+//!   iterator.
+//! - A [`Cursor`] moves from member to member, and reads. `list.front(&links)` returns a cursor on the first member.
+//! - A [`CursorMut`] also edits: it inserts, removes and replaces members, and splits and splices lists. `list.front_mut(&mut links)` returns
+//!   such a cursor on the first member.
 //!
 //! ```
 //! use ic::{Link2, List};
@@ -62,25 +66,27 @@
 //! # Ok::<(), ic::Error>(())
 //! ```
 //!
-//! Their calls have the names of the crate `intrusive-collections`. `retain` asks which members stay, as that of `Vec` does.
+//! The calls of cursors have the names that the crate `intrusive-collections` gives them. `retain` keeps the members for which a closure
+//! returns `true`, as `Vec::retain` does.
 //!
 //! # What goes wrong, and what does not
 //!
-//! No call panics, and no call needs unsafe code of you. You may hand any table, list, tree and place to each. A call that returns an
-//! [`Error`] has changed nothing, except `retain`, which has made its edits up to the member at which it stopped. An edit of a list takes a
-//! constant number of steps, except [`Stack::splice_after`], [`hash::remove`], `fill`, `clear`, `retain`, `sort` and `merge`, and an edit or
-//! a search of a tree takes O(log n), except `append`, `join`, `split`, `clear` and `retain`, and [`Tree::sums_renew`] for all places. A `check`
-//! takes O(n).
+//! No call panics, and you write no unsafe code. You may pass any table, list, tree and place to each call. A call that returns an [`Error`]
+//! has changed nothing, except `retain`, which has made its edits up to the member at which it stopped. An edit of a list takes a constant
+//! number of steps, except [`Stack::splice_after`], [`hash::remove`], `fill`, `clear`, `retain`, `sort` and `merge`, and an edit or a search of
+//! a tree takes O(log n), except `append`, `join`, `split`, `clear` and `retain`, and [`Tree::sums_renew`] for all places. A `check` takes
+//! O(n).
 //!
-//! The types don't say which table a list or tree belongs to. Use each with its own table. With another one every call is memory safe, but
-//! it may mix up the members of both, if no word tells it to return [`Error::Broken`]. An iterator ends after as many members as the table
-//! has places, and at a place that is not linked. No cursor leaves the table: it reads a word that names a place out of the table as none.
+//! The compiler doesn't check that you pass a list or tree together with its own table. With another table every call is memory safe, but the
+//! call may damage lists or trees of that table, if no word shows that it must return [`Error::Broken`]. An iterator ends after as many members
+//! as the table has places, and at a place that is not linked. A cursor never leaves the table: if a word names a place outside the table, the
+//! cursor reads the word as `None`.
 //!
-//! Links and lists hold numbers and no addresses. You can write their [words](Link2::words) to a file, and read them again. Words may be any, and
-//! [`List::check`] says whether they are a list, and [`ring::check`] whether they are a ring.
+//! Links and lists contain numbers and no addresses. You can write their [words](Link2::words) to a file, and read them again. Words may have
+//! any values: [`List::check`] returns whether they form a list, and [`ring::check`] whether they form a ring.
 //!
 //! The edits, the searches and the steps through a tree are calls of the crate `ic-sys`, which are proved. This crate is tested, and not
-//! proved. Its `unsafe` blocks are these calls alone.
+//! proved. Each of its `unsafe` blocks contains one of these calls and nothing else.
 
 #![no_std]
 #![warn(missing_docs, clippy::missing_errors_doc, clippy::undocumented_unsafe_blocks)]

@@ -1,82 +1,82 @@
-//! Links, and the words that they consist of.
+//! This module has links, and the words of which they consist.
 //!
-//! The bits 3 to 35 of a word are a place's number, which is one more than the place, and 0 for none. The lowest bit is a mark of the link,
-//! and the others count for nothing. Every pattern of bits is a word, and the library reads each as this module does.
+//! Bits 3 to 35 of a word are a number, which is the place that the word names plus 1, or 0 if the word names no place. Bit 0 is a mark of the
+//! link, and the library ignores all other bits. Every bit pattern is a valid word.
 
 use crate::Error;
 use ic_sys::*;
 
-/// The bits of a word that are a place's number.
+/// The bits of a word that are the number of a place.
 const NUMBER: u64 = (1 << 36) - (1 << 3);
 
-/// Whether a word names no place at all, not even one that no table reaches.
+/// Returns whether the number in a word is 0, so that the word names no place.
 #[inline]
 pub(crate) fn is_none(word: u64) -> bool {
     word & NUMBER == 0
 }
 
-/// The place that a word names, if it is one that a `u32` can name.
+/// Returns the place that a word names, or `None` if the word names none or the place is no `u32`.
 #[inline]
 pub(crate) fn place(word: u64) -> Option<u32> {
     let place = ic_place(word);
     (place != IC_NONE).then_some(place)
 }
 
-/// A place as the calls take it.
+/// Returns the number that a call of C takes for a place or for `None`.
 #[inline]
 pub(crate) fn number(place: Option<u32>) -> u32 {
     place.unwrap_or(IC_NONE)
 }
 
-/// What a read finds in the link of a place: a place of the table, or none if the place is not linked or not in the table.
+/// Returns the place that `word` reads from the link of `at`, or `None` if `at` or this place is not in the table.
 #[inline]
 pub(crate) fn read<L: Link>(table: &[L], at: u32, word: impl FnOnce(&L) -> Option<u32>) -> Option<u32> {
     within(table, link_of(table, at).and_then(word))
 }
 
-/// The link of a place, if the table has the place.
+/// Returns the link of a place, if the table has the place.
 #[inline]
 fn link_of<L: Link>(table: &[L], at: u32) -> Option<&L> {
     table.get(at as usize).filter(|_| (at as usize) < L::PLACES)
 }
 
-/// A place, if the table has it.
+/// Returns the place, or `None` if the table does not have it.
 #[inline]
 pub(crate) fn within<L: Link>(table: &[L], place: Option<u32>) -> Option<u32> {
     place.filter(|&place| (place as usize) < table.len().min(L::PLACES))
 }
 
-/// A place, if it is a linked one of the table. Iterators end at others.
+/// Returns the place, or `None` if it is not linked in the table. An iterator ends at such a place.
 #[inline]
 pub(crate) fn member<L: Link>(table: &[L], place: Option<u32>) -> Option<u32> {
     place.filter(|&place| link_of(table, place).is_some_and(L::is_linked))
 }
 
-/// A link of any kind.
+/// The trait of all types of links.
 pub trait Link: Sized {
-    /// What the calls have for it. The link is a transparent wrapper of this.
+    /// The type that C has for this link. The link is a transparent wrapper of `Raw`.
     type Raw;
 
-    /// How many places a table of such links has at most.
+    /// The greatest number of places that a table of such links can have.
     const PLACES: usize = usize::MAX;
 
-    /// Whether the place is linked.
+    /// Returns whether the place of this link is linked.
     fn is_linked(&self) -> bool;
 
-    /// A table as the calls take it that edit.
+    /// Returns the pointer and the length that a call of C takes for a table that it edits.
     #[inline]
     fn parts(table: &mut [Self]) -> (*mut Self::Raw, usize) {
         (table.as_mut_ptr().cast(), table.len())
     }
 
-    /// A table as the calls take it that read.
+    /// Returns the pointer and the length that a call of C takes for a table that it reads.
     #[inline]
     fn read_parts(table: &[Self]) -> (*const Self::Raw, usize) {
         (table.as_ptr().cast(), table.len())
     }
 }
 
-/// Refuses a place that is not linked in the table.
+/// Returns an error if a place is not linked in the table.
 #[inline]
 pub(crate) fn linked<L: Link>(table: &[L], place: u32) -> Result<(), Error> {
     match table.get(place as usize) {
@@ -86,7 +86,7 @@ pub(crate) fn linked<L: Link>(table: &[L], place: u32) -> Result<(), Error> {
     }
 }
 
-/// What links of all kinds have. The first word has the mark that says whether a place is linked.
+/// Defines the calls that all types of links have. Bit 0 of the first word says whether the place of the link is linked.
 macro_rules! link {
     ($Link:ident, $words:literal, $Raw:ident { $first:ident $(, $word:ident)* }) => {
         link!($Link, $words, u64, usize::MAX, $Raw { $first $(, $word)* });
@@ -106,15 +106,15 @@ macro_rules! link {
             /// The link of a place that is in no list and no tree.
             pub const UNLINKED: $Link = $Link($Raw { $first: 0 $(, $word: 0)* });
 
-            /// Returns the link that has these words, which may be any. They may come from a file: the `check` of a list or tree says
-            /// whether a table holds it.
+            /// Returns the link with these words, which may have any values, for example from a file. The call `check` of a list or tree says
+            /// whether the words of a table form it.
             #[inline]
             #[must_use]
             pub const fn from_words([$first $(, $word)*]: [$Word; $words]) -> $Link {
                 $Link($Raw { $first $(, $word)* })
             }
 
-            /// Returns the words of the link, to be written to a file. They hold no addresses.
+            /// Returns the words of the link, for example to write them to a file. They contain no addresses.
             #[inline]
             #[must_use]
             pub const fn words(&self) -> [$Word; $words] {
@@ -128,7 +128,7 @@ macro_rules! link {
                 Link::is_linked(self)
             }
 
-            // The place that a word of the link names, which is none if the place of the link is not linked.
+            // Returns the place that a word of the link names, or `None` if the place of the link is not linked.
             #[inline]
             fn named(&self, word: $Word) -> Option<u32> {
                 place(word.into()).filter(|_| self.is_linked())
@@ -142,7 +142,7 @@ link!(Link2, 2, ic_link2 { next, prev });
 link!(Link3, 3, ic_link3 { left, right, parent });
 link!(Link2x32, 2, u32, 536_870_911, ic_link2_32 { next, prev });
 
-/// What a table of a [`List`](crate::List) has for each place.
+/// The link that a table of a [`List`](crate::List) or of rings has for each place.
 ///
 /// ```
 /// use ic::{Link2, List};
@@ -160,14 +160,14 @@ link!(Link2x32, 2, u32, 536_870_911, ic_link2_32 { next, prev });
 pub struct Link2(pub(crate) ic_link2);
 
 impl Link2 {
-    /// Returns the member after this one, and `None` of a place that is not linked, in O(1).
+    /// Returns the member after this one, or `None` if there is none or the place of this link is not linked, in O(1).
     #[inline]
     #[must_use]
     pub fn next(&self) -> Option<u32> {
         self.named(self.0.next)
     }
 
-    /// Returns the member before this one, and `None` of a place that is not linked, in O(1).
+    /// Returns the member before this one, or `None` if there is none or the place of this link is not linked, in O(1).
     #[inline]
     #[must_use]
     pub fn prev(&self) -> Option<u32> {
@@ -175,8 +175,8 @@ impl Link2 {
     }
 }
 
-/// What a table of a [`List32`](crate::List32) or of rings has for each place, in words of 4 bytes: half of what [`Link2`] takes, for the places
-/// below 536,870,911.
+/// The link that a table of a [`List32`](crate::List32) or of rings has for each place, with words of 4 bytes. It takes half the memory of a
+/// [`Link2`], and can name only places below 536,870,911.
 ///
 /// ```
 /// use ic::{ring32, Link2x32};
@@ -193,14 +193,14 @@ impl Link2 {
 pub struct Link2x32(pub(crate) ic_link2_32);
 
 impl Link2x32 {
-    /// Returns the place after this one, and `None` of a place that is not linked, in O(1).
+    /// Returns the place after this one, or `None` if there is none or the place of this link is not linked, in O(1).
     #[inline]
     #[must_use]
     pub fn next(&self) -> Option<u32> {
         self.named(self.0.next)
     }
 
-    /// Returns the place before this one, and `None` of a place that is not linked, in O(1).
+    /// Returns the place before this one, or `None` if there is none or the place of this link is not linked, in O(1).
     #[inline]
     #[must_use]
     pub fn prev(&self) -> Option<u32> {
@@ -208,7 +208,7 @@ impl Link2x32 {
     }
 }
 
-/// What a table of a [`Stack`](crate::Stack) or an [`XorList`](crate::XorList) has for each place.
+/// The link that a table of a [`Stack`](crate::Stack), a hash table or an [`XorList`](crate::XorList) has for each place.
 ///
 /// ```
 /// use ic::{Link1, Stack, XorList};
@@ -230,15 +230,16 @@ impl Link2x32 {
 pub struct Link1(pub(crate) ic_link1);
 
 impl Link1 {
-    /// Returns the member after this one in a [`Stack`](crate::Stack), and `None` of a place that is not linked, in O(1).
+    /// Returns the member after this one in a [`Stack`](crate::Stack), or `None` if there is none or the place of this link is not linked, in
+    /// O(1).
     #[inline]
     #[must_use]
     pub fn next(&self) -> Option<u32> {
         self.named(self.0.next)
     }
 
-    /// Returns the neighbor on the other side than `from` in an [`XorList`](crate::XorList), and `None` of a place that is not linked.
-    /// `from` is `None` at an end, in O(1).
+    /// Returns the neighbor of this member in an [`XorList`](crate::XorList) that is not its neighbor `from`, in O(1). It returns `None` if
+    /// there is no such neighbor, or if the place of this link is not linked. At an end of the list `from` is `None`.
     #[inline]
     #[must_use]
     pub fn step(&self, from: Option<u32>) -> Option<u32> {
@@ -246,7 +247,7 @@ impl Link1 {
     }
 }
 
-/// What a table of a [`Tree`](crate::Tree) has for each place.
+/// The link that a table of a [`Tree`](crate::Tree) has for each place.
 ///
 /// ```
 /// use ic::{Link3, Tree};
@@ -264,21 +265,23 @@ impl Link1 {
 pub struct Link3(pub(crate) ic_link3);
 
 impl Link3 {
-    /// Returns the left child, and `None` of a place that is not linked. The members under it come before this one, in O(1).
+    /// Returns the left child, in O(1), or `None` if there is none or the place of this link is not linked. The left child and the members
+    /// below it come before this member.
     #[inline]
     #[must_use]
     pub fn left(&self) -> Option<u32> {
         self.named(self.0.left)
     }
 
-    /// Returns the right child, and `None` of a place that is not linked. The members under it come after this one, in O(1).
+    /// Returns the right child, in O(1), or `None` if there is none or the place of this link is not linked. The right child and the members
+    /// below it come after this member.
     #[inline]
     #[must_use]
     pub fn right(&self) -> Option<u32> {
         self.named(self.0.right)
     }
 
-    /// Returns the parent, and `None` of a place that is not linked, in O(1).
+    /// Returns the parent, or `None` if there is none or the place of this link is not linked, in O(1).
     #[inline]
     #[must_use]
     pub fn parent(&self) -> Option<u32> {

@@ -11,7 +11,8 @@ use ic_sys::*;
 
 /// A doubly linked list over a table of [`Link2`].
 ///
-/// It is good for queues, and for caches, from whose middle objects leave. Here the place that was used last comes first:
+/// A list is good for queues, and for caches, where you also remove objects from the middle. In this sample the place that was used last comes
+/// first:
 ///
 /// ```
 /// use ic::{Error, Link2, List};
@@ -37,7 +38,7 @@ use ic_sys::*;
 /// # Ok::<(), Error>(())
 /// ```
 ///
-/// One member goes from list to list by a transfer, as a task does that waits no longer:
+/// A transfer moves one member from one list to another, as a scheduler does with a task that no longer waits:
 ///
 /// ```
 /// # use ic::{Error, Link2, List};
@@ -50,7 +51,7 @@ use ic_sys::*;
 /// # Ok::<(), Error>(())
 /// ```
 ///
-/// A slice of yours may have a key for each place, by which you sort the members:
+/// If a slice of yours has a key for each place, you can sort the members by their keys:
 ///
 /// ```
 /// # use ic::{Error, Link2, List};
@@ -61,7 +62,7 @@ use ic_sys::*;
 /// # Ok::<(), Error>(())
 /// ```
 ///
-/// Words that come from a file may be any, and a check says whether they are a list:
+/// Words that come from a file may have any values, and a check says whether they form a list:
 ///
 /// ```
 /// # use ic::{Error, Link2, List};
@@ -77,19 +78,19 @@ use ic_sys::*;
 /// # Ok::<(), Error>(())
 /// ```
 ///
-/// If you drop the list, its members stay linked. A clone of it belongs to a clone of the table.
+/// If you drop the list, its members stay linked. Use a clone of the list only with a clone of the table.
 #[repr(transparent)]
 #[derive(Clone, Default, PartialEq, Eq)]
 pub struct List(pub(crate) ic_list);
 
 impl List {
-    // tools/c-calls --write writes from here: list list-fill list-keys list-transfer
+    // Made by tools/c-calls --write: list list-fill list-keys list-transfer
     /// Inserts `place` at the front, in O(1).
     ///
     /// # Errors
     ///
     /// [`Error::OutOfRange`] if `place` is not below the table's length. [`Error::Linked`] if `place` is linked already. [`Error::Broken`]
-    /// if the first member does not belong to this table.
+    /// if the first member is not linked in this table, or its link names a member before it.
     #[inline]
     pub fn push_front(&mut self, table: &mut [Link2], place: u32) -> Result<(), Error> {
         let (links, places) = Link2::parts(table);
@@ -102,7 +103,7 @@ impl List {
     /// # Errors
     ///
     /// [`Error::OutOfRange`] if `place` is not below the table's length. [`Error::Linked`] if `place` is linked already. [`Error::Broken`]
-    /// if the last member does not belong to this table.
+    /// if the last member is not linked in this table, or its link names a member after it.
     #[inline]
     pub fn push_back(&mut self, table: &mut [Link2], place: u32) -> Result<(), Error> {
         let (links, places) = Link2::parts(table);
@@ -110,11 +111,12 @@ impl List {
         done(unsafe { ic_list_push_back(links, places, &mut self.0, place) })
     }
 
-    /// Removes the first member, and returns it, in O(1). It returns `None` if the list is empty.
+    /// Removes the first member, and returns it, in O(1). The call returns `None` if the list is empty.
     ///
     /// # Errors
     ///
-    /// [`Error::Broken`] if the first member does not belong to this table.
+    /// [`Error::Broken`] if the first member is not linked in this table, or its link names a member before it, or the second member's link
+    /// does not name the first.
     #[inline]
     pub fn pop_front(&mut self, table: &mut [Link2]) -> Result<Option<u32>, Error> {
         let (links, places) = Link2::parts(table);
@@ -122,11 +124,12 @@ impl List {
         handed_out(|it| unsafe { ic_list_pop_front(links, places, &mut self.0, it) })
     }
 
-    /// Removes the last member, and returns it, in O(1). It returns `None` if the list is empty.
+    /// Removes the last member, and returns it, in O(1). The call returns `None` if the list is empty.
     ///
     /// # Errors
     ///
-    /// [`Error::Broken`] if the last member does not belong to this table.
+    /// [`Error::Broken`] if the last member is not linked in this table, or its link names a member after it, or the link of the last
+    /// member but one does not name the last.
     #[inline]
     pub fn pop_back(&mut self, table: &mut [Link2]) -> Result<Option<u32>, Error> {
         let (links, places) = Link2::parts(table);
@@ -178,8 +181,8 @@ impl List {
     /// # Errors
     ///
     /// [`Error::Null`] if the place `at` is `u32::MAX`. [`Error::OutOfRange`] if `at` or `place` is not below the table's length.
-    /// [`Error::Linked`] if `place` is linked already, also if `at` and `place` are the same. [`Error::NotLinked`] if the place `at` is not
-    /// linked. [`Error::Broken`] if `at` is no member of the list.
+    /// [`Error::Linked`] if `place` is linked already, or is `at` itself. [`Error::NotLinked`] if the place `at` is not linked.
+    /// [`Error::Broken`] if `at` is no member of the list.
     #[inline]
     pub fn replace(&mut self, table: &mut [Link2], at: u32, place: u32) -> Result<(), Error> {
         let (links, places) = Link2::parts(table);
@@ -187,8 +190,8 @@ impl List {
         done(unsafe { ic_list_replace(links, places, &mut self.0, at, place) })
     }
 
-    /// Moves the member `place` after the member `at`, or to the front if `at` is `None`, in O(1). The place stays linked, and nothing
-    /// changes if it is there already, or if `at` and `place` are the same.
+    /// Moves the member `place` after the member `at`, or to the front if `at` is `None`, in O(1). `place` stays linked during the call.
+    /// Nothing changes if `place` is there already, or if `at` and `place` are the same.
     ///
     /// # Errors
     ///
@@ -201,8 +204,8 @@ impl List {
         done(unsafe { ic_list_move_after(links, places, &mut self.0, number(at), place) })
     }
 
-    /// Moves the member `place` before the member `at`, or to the back if `at` is `None`, in O(1). The place stays linked, and nothing
-    /// changes if it is there already, or if `at` and `place` are the same.
+    /// Moves the member `place` before the member `at`, or to the back if `at` is `None`, in O(1). `place` stays linked during the call.
+    /// Nothing changes if `place` is there already, or if `at` and `place` are the same.
     ///
     /// # Errors
     ///
@@ -215,13 +218,14 @@ impl List {
         done(unsafe { ic_list_move_before(links, places, &mut self.0, number(at), place) })
     }
 
-    /// Moves the member `place` to the front, as a cache does with the object that it used last, in O(1). The place stays linked during the
+    /// Moves the member `place` to the front, as a cache does with the object that it used last, in O(1). `place` stays linked during the
     /// call.
     ///
     /// # Errors
     ///
     /// [`Error::Null`] if `place` is `u32::MAX`. [`Error::OutOfRange`] if `place` is not below the table's length. [`Error::NotLinked`] if
-    /// `place` is not linked. [`Error::Broken`] if `place` is no member of the list, or the first member does not belong to this table.
+    /// `place` is not linked. [`Error::Broken`] if `place` is no member of the list, or the first member is not linked in this table, or
+    /// its link names a member before it.
     #[inline]
     pub fn move_to_front(&mut self, table: &mut [Link2], place: u32) -> Result<(), Error> {
         let (links, places) = Link2::parts(table);
@@ -229,12 +233,13 @@ impl List {
         done(unsafe { ic_list_move_to_front(links, places, &mut self.0, place) })
     }
 
-    /// Moves the member `place` to the back, in O(1). The place stays linked during the call.
+    /// Moves the member `place` to the back, in O(1). `place` stays linked during the call.
     ///
     /// # Errors
     ///
     /// [`Error::Null`] if `place` is `u32::MAX`. [`Error::OutOfRange`] if `place` is not below the table's length. [`Error::NotLinked`] if
-    /// `place` is not linked. [`Error::Broken`] if `place` is no member of the list, or the last member does not belong to this table.
+    /// `place` is not linked. [`Error::Broken`] if `place` is no member of the list, or the last member is not linked in this table, or its
+    /// link names a member after it.
     #[inline]
     pub fn move_to_back(&mut self, table: &mut [Link2], place: u32) -> Result<(), Error> {
         let (links, places) = Link2::parts(table);
@@ -276,8 +281,8 @@ impl List {
     ///
     /// # Errors
     ///
-    /// [`Error::Broken`] if the last member does not belong to this table, or `given` is no list of this table, or both lists begin with
-    /// the same member, as a list and its copy do.
+    /// [`Error::Broken`] if the last member is not linked in this table, or its link names a member after it, or `given` is no list of this
+    /// table, or both lists begin with the same member, as a list and its copy do.
     #[inline]
     pub fn append(&mut self, table: &mut [Link2], given: &mut List) -> Result<(), Error> {
         let (links, places) = Link2::parts(table);
@@ -285,13 +290,13 @@ impl List {
         done(unsafe { ic_list_append(links, places, &mut self.0, &mut given.0) })
     }
 
-    /// Inserts the `count` places `first`, `first` + 1 and so on at the back, in rising order, in O(count). The call changes nothing if
-    /// `count` is 0.
+    /// Inserts the `count` places `first`, `first` + 1 and so on at the back, in rising order, in O(count). If `count` is 0, the call
+    /// changes nothing.
     ///
     /// # Errors
     ///
-    /// [`Error::OutOfRange`] if the first of these places that the call refuses is not below the table's length. [`Error::Linked`] if the
-    /// first of these places that the call refuses is linked already. [`Error::Broken`] if the last member does not belong to this table.
+    /// [`Error::OutOfRange`] if none of these places is linked, but one is not below the table's length. [`Error::Linked`] if one of these
+    /// places is linked already. [`Error::Broken`] if the last member is not linked in this table, or its link names a member after it.
     #[inline]
     pub fn fill(&mut self, table: &mut [Link2], first: u32, count: u32) -> Result<(), Error> {
         let (links, places) = Link2::parts(table);
@@ -311,7 +316,7 @@ impl List {
         done(unsafe { ic_list_clear(links, places, &mut self.0) })
     }
 
-    /// Moves the members after the member `at`, or all members if `at` is `None`, to a new list, which it returns, in O(1).
+    /// Moves the members after the member `at`, or all members if `at` is `None`, to a new list, which the call returns, in O(1).
     ///
     /// # Errors
     ///
@@ -325,7 +330,7 @@ impl List {
         Ok(rest)
     }
 
-    /// Moves the members before the member `at`, or all members if `at` is `None`, to a new list, which it returns, in O(1).
+    /// Moves the members before the member `at`, or all members if `at` is `None`, to a new list, which the call returns, in O(1).
     ///
     /// # Errors
     ///
@@ -339,9 +344,9 @@ impl List {
         Ok(rest)
     }
 
-    /// Counts the members, and returns how many there are, in O(n). Call it if the words come from a file, or from memory that others
-    /// write. If it returns a number, every other call on this list does what the comment of that call says. It returns `None` if the links
-    /// do not lead from the first member to the last, or the links of two neighbors do not name each other.
+    /// Counts the members, and returns how many there are, in O(n). Make this call if the words come from a file, or from memory that
+    /// others write. If the call returns a number, every other call on this list does what its own comment says. The call returns `None` if
+    /// the links do not lead from the first member to the last, or the links of two neighbors do not name each other.
     #[inline]
     #[must_use]
     pub fn check(&self, table: &[Link2]) -> Option<u64> {
@@ -363,8 +368,8 @@ impl List {
         done(unsafe { ic_list_sort(links, places, keys.as_ptr(), keys.len(), &mut self.0) })
     }
 
-    /// Moves all members of `given` to where their keys belong, if both lists are in the order of their keys, in O(n). Of members with
-    /// equal keys, those of this list come first. The call leaves `given` empty.
+    /// Moves all members of `given` into this list, which the call leaves sorted by keys if both lists were sorted by keys, in O(n). Of
+    /// members with equal keys, those of this list come first. Afterwards `given` is empty.
     ///
     /// # Errors
     ///
@@ -378,7 +383,7 @@ impl List {
         done(unsafe { ic_list_merge(links, places, keys.as_ptr(), keys.len(), &mut self.0, &mut given.0) })
     }
 
-    /// Moves the member `place` of `given` after the member `at`, or to the front if `at` is `None`, in O(1). The place stays linked during
+    /// Moves the member `place` of `given` after the member `at`, or to the front if `at` is `None`, in O(1). `place` stays linked during
     /// the call.
     ///
     /// # Errors
@@ -399,7 +404,7 @@ impl List {
         done(unsafe { ic_list_transfer_after(links, places, &mut self.0, number(at), &mut given.0, place) })
     }
 
-    /// Moves the member `place` of `given` before the member `at`, or to the back if `at` is `None`, in O(1). The place stays linked during
+    /// Moves the member `place` of `given` before the member `at`, or to the back if `at` is `None`, in O(1). `place` stays linked during
     /// the call.
     ///
     /// # Errors
@@ -430,15 +435,15 @@ impl List {
         List(ic_list { head: 0, tail: 0 })
     }
 
-    /// Returns the list that has these words, which may be any. They may come from a file: [`check`](Self::check) says whether a table
-    /// holds it.
+    /// Returns the list with these words, which may have any values, for example from a file. [`check`](Self::check) says whether the words of
+    /// the list and of its table form a list.
     #[inline]
     #[must_use]
     pub const fn from_words([head, tail]: [u64; 2]) -> List {
         List(ic_list { head, tail })
     }
 
-    /// Returns the words of the list, to be written to a file. They hold no addresses.
+    /// Returns the words of the list, for example to write them to a file. They contain no addresses.
     #[inline]
     #[must_use]
     pub const fn words(&self) -> [u64; 2] {
@@ -466,16 +471,16 @@ impl List {
         place(self.0.tail)
     }
 
-    /// Returns the member after the member `at`, in O(1). It returns `None` if `at` is the last member, is not linked or is not in the
-    /// table, and if the link there leads out of the table.
+    /// Returns the member after the member `at`, in O(1). It returns `None` if `at` is the last member, is not linked or is not in the table,
+    /// and if the link of `at` leads out of the table.
     #[inline]
     #[must_use]
     pub fn next(&self, table: &[Link2], at: u32) -> Option<u32> {
         read(table, at, Link2::next)
     }
 
-    /// Returns the member before the member `at`, in O(1). It returns `None` if `at` is the first member, is not linked or is not in the
-    /// table, and if the link there leads out of the table.
+    /// Returns the member before the member `at`, in O(1). It returns `None` if `at` is the first member, is not linked or is not in the table,
+    /// and if the link of `at` leads out of the table.
     #[inline]
     #[must_use]
     pub fn prev(&self, table: &[Link2], at: u32) -> Option<u32> {

@@ -11,8 +11,8 @@ use ic_sys::*;
 
 /// A doubly linked list over a table of [`Link2x32`], whose links take half the memory of those of a [`List`](crate::List).
 ///
-/// Each call does what the one of [`List`](crate::List) with the same name does. Fills, sorts and merges are there alone. The words have room for the places below 536,870,911. Other
-/// places are out of range.
+/// Each call does the same as the call of [`List`](crate::List) with the same name. There is no fill, sort or merge. A word of 4 bytes can name
+/// only places below 536,870,911, and calls treat all other places as out of range.
 ///
 /// ```
 /// use ic::{Error, Link2x32, List32};
@@ -33,19 +33,19 @@ use ic_sys::*;
 /// # Ok::<(), Error>(())
 /// ```
 ///
-/// If you drop the list, its members stay linked. A clone of it belongs to a clone of the table.
+/// If you drop the list, its members stay linked. Use a clone of the list only with a clone of the table.
 #[repr(transparent)]
 #[derive(Clone, Default, PartialEq, Eq)]
 pub struct List32(pub(crate) ic_list);
 
 impl List32 {
-    // tools/c-calls --write writes from here: list32
+    // Made by tools/c-calls --write: list32
     /// Inserts `place` at the front, in O(1).
     ///
     /// # Errors
     ///
     /// [`Error::OutOfRange`] if `place` is not below the table's length, or is 536,870,911 or more. [`Error::Linked`] if `place` is linked
-    /// already. [`Error::Broken`] if the first member does not belong to this table.
+    /// already. [`Error::Broken`] if the first member is not linked in this table, or its link names a member before it.
     #[inline]
     pub fn push_front(&mut self, table: &mut [Link2x32], place: u32) -> Result<(), Error> {
         let (links, places) = Link2x32::parts(table);
@@ -58,7 +58,7 @@ impl List32 {
     /// # Errors
     ///
     /// [`Error::OutOfRange`] if `place` is not below the table's length, or is 536,870,911 or more. [`Error::Linked`] if `place` is linked
-    /// already. [`Error::Broken`] if the last member does not belong to this table.
+    /// already. [`Error::Broken`] if the last member is not linked in this table, or its link names a member after it.
     #[inline]
     pub fn push_back(&mut self, table: &mut [Link2x32], place: u32) -> Result<(), Error> {
         let (links, places) = Link2x32::parts(table);
@@ -66,11 +66,12 @@ impl List32 {
         done(unsafe { ic_list32_push_back(links, places, &mut self.0, place) })
     }
 
-    /// Removes the first member, and returns it, in O(1). It returns `None` if the list is empty.
+    /// Removes the first member, and returns it, in O(1). The call returns `None` if the list is empty.
     ///
     /// # Errors
     ///
-    /// [`Error::Broken`] if the first member does not belong to this table.
+    /// [`Error::Broken`] if the first member is not linked in this table, or its link names a member before it, or the second member's link
+    /// does not name the first.
     #[inline]
     pub fn pop_front(&mut self, table: &mut [Link2x32]) -> Result<Option<u32>, Error> {
         let (links, places) = Link2x32::parts(table);
@@ -78,11 +79,12 @@ impl List32 {
         handed_out(|it| unsafe { ic_list32_pop_front(links, places, &mut self.0, it) })
     }
 
-    /// Removes the last member, and returns it, in O(1). It returns `None` if the list is empty.
+    /// Removes the last member, and returns it, in O(1). The call returns `None` if the list is empty.
     ///
     /// # Errors
     ///
-    /// [`Error::Broken`] if the last member does not belong to this table.
+    /// [`Error::Broken`] if the last member is not linked in this table, or its link names a member after it, or the link of the last
+    /// member but one does not name the last.
     #[inline]
     pub fn pop_back(&mut self, table: &mut [Link2x32]) -> Result<Option<u32>, Error> {
         let (links, places) = Link2x32::parts(table);
@@ -134,8 +136,8 @@ impl List32 {
     /// # Errors
     ///
     /// [`Error::Null`] if the place `at` is `u32::MAX`. [`Error::OutOfRange`] if `at` or `place` is not below the table's length, or is
-    /// 536,870,911 or more. [`Error::Linked`] if `place` is linked already, also if `at` and `place` are the same. [`Error::NotLinked`] if
-    /// the place `at` is not linked. [`Error::Broken`] if `at` is no member of the list.
+    /// 536,870,911 or more. [`Error::Linked`] if `place` is linked already, or is `at` itself. [`Error::NotLinked`] if the place `at` is
+    /// not linked. [`Error::Broken`] if `at` is no member of the list.
     #[inline]
     pub fn replace(&mut self, table: &mut [Link2x32], at: u32, place: u32) -> Result<(), Error> {
         let (links, places) = Link2x32::parts(table);
@@ -143,8 +145,8 @@ impl List32 {
         done(unsafe { ic_list32_replace(links, places, &mut self.0, at, place) })
     }
 
-    /// Moves the member `place` after the member `at`, or to the front if `at` is `None`, in O(1). The place stays linked, and nothing
-    /// changes if it is there already, or if `at` and `place` are the same.
+    /// Moves the member `place` after the member `at`, or to the front if `at` is `None`, in O(1). `place` stays linked during the call.
+    /// Nothing changes if `place` is there already, or if `at` and `place` are the same.
     ///
     /// # Errors
     ///
@@ -158,8 +160,8 @@ impl List32 {
         done(unsafe { ic_list32_move_after(links, places, &mut self.0, number(at), place) })
     }
 
-    /// Moves the member `place` before the member `at`, or to the back if `at` is `None`, in O(1). The place stays linked, and nothing
-    /// changes if it is there already, or if `at` and `place` are the same.
+    /// Moves the member `place` before the member `at`, or to the back if `at` is `None`, in O(1). `place` stays linked during the call.
+    /// Nothing changes if `place` is there already, or if `at` and `place` are the same.
     ///
     /// # Errors
     ///
@@ -173,14 +175,14 @@ impl List32 {
         done(unsafe { ic_list32_move_before(links, places, &mut self.0, number(at), place) })
     }
 
-    /// Moves the member `place` to the front, as a cache does with the object that it used last, in O(1). The place stays linked during the
+    /// Moves the member `place` to the front, as a cache does with the object that it used last, in O(1). `place` stays linked during the
     /// call.
     ///
     /// # Errors
     ///
     /// [`Error::Null`] if `place` is `u32::MAX`. [`Error::OutOfRange`] if `place` is not below the table's length, or is 536,870,911 or
-    /// more. [`Error::NotLinked`] if `place` is not linked. [`Error::Broken`] if `place` is no member of the list, or the first member does
-    /// not belong to this table.
+    /// more. [`Error::NotLinked`] if `place` is not linked. [`Error::Broken`] if `place` is no member of the list, or the first member is
+    /// not linked in this table, or its link names a member before it.
     #[inline]
     pub fn move_to_front(&mut self, table: &mut [Link2x32], place: u32) -> Result<(), Error> {
         let (links, places) = Link2x32::parts(table);
@@ -188,13 +190,13 @@ impl List32 {
         done(unsafe { ic_list32_move_to_front(links, places, &mut self.0, place) })
     }
 
-    /// Moves the member `place` to the back, in O(1). The place stays linked during the call.
+    /// Moves the member `place` to the back, in O(1). `place` stays linked during the call.
     ///
     /// # Errors
     ///
     /// [`Error::Null`] if `place` is `u32::MAX`. [`Error::OutOfRange`] if `place` is not below the table's length, or is 536,870,911 or
-    /// more. [`Error::NotLinked`] if `place` is not linked. [`Error::Broken`] if `place` is no member of the list, or the last member does
-    /// not belong to this table.
+    /// more. [`Error::NotLinked`] if `place` is not linked. [`Error::Broken`] if `place` is no member of the list, or the last member is
+    /// not linked in this table, or its link names a member after it.
     #[inline]
     pub fn move_to_back(&mut self, table: &mut [Link2x32], place: u32) -> Result<(), Error> {
         let (links, places) = Link2x32::parts(table);
@@ -236,8 +238,8 @@ impl List32 {
     ///
     /// # Errors
     ///
-    /// [`Error::Broken`] if the last member does not belong to this table, or `given` is no list of this table, or both lists begin with
-    /// the same member, as a list and its copy do.
+    /// [`Error::Broken`] if the last member is not linked in this table, or its link names a member after it, or `given` is no list of this
+    /// table, or both lists begin with the same member, as a list and its copy do.
     #[inline]
     pub fn append(&mut self, table: &mut [Link2x32], given: &mut List32) -> Result<(), Error> {
         let (links, places) = Link2x32::parts(table);
@@ -257,7 +259,7 @@ impl List32 {
         done(unsafe { ic_list32_clear(links, places, &mut self.0) })
     }
 
-    /// Moves the members after the member `at`, or all members if `at` is `None`, to a new list, which it returns, in O(1).
+    /// Moves the members after the member `at`, or all members if `at` is `None`, to a new list, which the call returns, in O(1).
     ///
     /// # Errors
     ///
@@ -271,7 +273,7 @@ impl List32 {
         Ok(rest)
     }
 
-    /// Moves the members before the member `at`, or all members if `at` is `None`, to a new list, which it returns, in O(1).
+    /// Moves the members before the member `at`, or all members if `at` is `None`, to a new list, which the call returns, in O(1).
     ///
     /// # Errors
     ///
@@ -285,9 +287,9 @@ impl List32 {
         Ok(rest)
     }
 
-    /// Counts the members, and returns how many there are, in O(n). Call it if the words come from a file, or from memory that others
-    /// write. If it returns a number, every other call on this list does what the comment of that call says. It returns `None` if the links
-    /// do not lead from the first member to the last, or the links of two neighbors do not name each other.
+    /// Counts the members, and returns how many there are, in O(n). Make this call if the words come from a file, or from memory that
+    /// others write. If the call returns a number, every other call on this list does what its own comment says. The call returns `None` if
+    /// the links do not lead from the first member to the last, or the links of two neighbors do not name each other.
     #[inline]
     #[must_use]
     pub fn check(&self, table: &[Link2x32]) -> Option<u64> {
@@ -296,7 +298,7 @@ impl List32 {
         counted(|members| unsafe { ic_list32_check(links, places, &self.0, members) })
     }
 
-    /// Moves the member `place` of `given` after the member `at`, or to the front if `at` is `None`, in O(1). The place stays linked during
+    /// Moves the member `place` of `given` after the member `at`, or to the front if `at` is `None`, in O(1). `place` stays linked during
     /// the call.
     ///
     /// # Errors
@@ -317,7 +319,7 @@ impl List32 {
         done(unsafe { ic_list32_transfer_after(links, places, &mut self.0, number(at), &mut given.0, place) })
     }
 
-    /// Moves the member `place` of `given` before the member `at`, or to the back if `at` is `None`, in O(1). The place stays linked during
+    /// Moves the member `place` of `given` before the member `at`, or to the back if `at` is `None`, in O(1). `place` stays linked during
     /// the call.
     ///
     /// # Errors
@@ -340,7 +342,7 @@ impl List32 {
     // to here
 }
 
-// tools/c-calls --write writes from here, of list: list32
+// Made by tools/c-calls --write of list: list32
 impl List32 {
     /// Returns a list with no members, in O(1).
     #[inline]
@@ -349,15 +351,15 @@ impl List32 {
         List32(ic_list { head: 0, tail: 0 })
     }
 
-    /// Returns the list that has these words, which may be any. They may come from a file: [`check`](Self::check) says whether a table
-    /// holds it.
+    /// Returns the list with these words, which may have any values, for example from a file. [`check`](Self::check) says whether the words of
+    /// the list and of its table form a list.
     #[inline]
     #[must_use]
     pub const fn from_words([head, tail]: [u64; 2]) -> List32 {
         List32(ic_list { head, tail })
     }
 
-    /// Returns the words of the list, to be written to a file. They hold no addresses.
+    /// Returns the words of the list, for example to write them to a file. They contain no addresses.
     #[inline]
     #[must_use]
     pub const fn words(&self) -> [u64; 2] {
@@ -385,16 +387,16 @@ impl List32 {
         place(self.0.tail)
     }
 
-    /// Returns the member after the member `at`, in O(1). It returns `None` if `at` is the last member, is not linked or is not in the
-    /// table, and if the link there leads out of the table.
+    /// Returns the member after the member `at`, in O(1). It returns `None` if `at` is the last member, is not linked or is not in the table,
+    /// and if the link of `at` leads out of the table.
     #[inline]
     #[must_use]
     pub fn next(&self, table: &[Link2x32], at: u32) -> Option<u32> {
         read(table, at, Link2x32::next)
     }
 
-    /// Returns the member before the member `at`, in O(1). It returns `None` if `at` is the first member, is not linked or is not in the
-    /// table, and if the link there leads out of the table.
+    /// Returns the member before the member `at`, in O(1). It returns `None` if `at` is the first member, is not linked or is not in the table,
+    /// and if the link of `at` leads out of the table.
     #[inline]
     #[must_use]
     pub fn prev(&self, table: &[Link2x32], at: u32) -> Option<u32> {

@@ -1,7 +1,8 @@
-//! Rings: doubly linked lists whose head is a place of the table, as those of Linux are.
+//! Rings: a ring is a doubly linked list whose head is a place of the table, as in Linux (list.h).
 //!
-//! Head and members stand in a circle. A call removes a member, or inserts a place beside one, and needs no ring's name for it. That is good if
-//! the code that removes an object does not know its queue. Rings and lists may be in one table. Take places for heads that are no objects.
+//! The head and the members of a ring form a circle. To remove a member, or to insert a place beside a member, you do not name the ring. So
+//! rings are good if the code that removes an object does not know which queue has the object. Rings and lists may be in one table. Use places
+//! without an object as heads.
 //!
 //! ```
 //! use ic::{ring, Error, Link2};
@@ -24,8 +25,8 @@
 //! # Ok::<(), Error>(())
 //! ```
 //!
-//! A slice of yours may have a key for each place, by which you sort the members of a head. A check counts them, and says whether words that come
-//! from a file form a ring:
+//! If a slice of yours has a key for each place, you can sort the members of a ring by their keys. A check counts the members, and says whether
+//! words that come from a file form a ring:
 //!
 //! ```
 //! # use ic::{ring, Error, Link2};
@@ -42,14 +43,14 @@
 //! # Ok::<(), Error>(())
 //! ```
 //!
-//! No call can tell whether two places are in one ring or in two.
+//! No call can detect whether two places are in one ring or in two.
 
 use crate::error::{done, handed_out, try_counted};
 use crate::link::{member, read, Link};
 use crate::{Error, Link2};
 use ic_sys::*;
 
-// tools/c-calls --write writes from here: ring ring-check ring-keys
+// Made by tools/c-calls --write: ring ring-check ring-keys
 /// Makes `head` the head of a ring with no members, as INIT_LIST_HEAD of Linux does, in O(1).
 ///
 /// # Errors
@@ -67,8 +68,8 @@ pub fn init(table: &mut [Link2], head: u32) -> Result<(), Error> {
 /// # Errors
 ///
 /// [`Error::Null`] if the place `at` is `u32::MAX`. [`Error::OutOfRange`] if `at` or `place` is not below the table's length.
-/// [`Error::Linked`] if `place` is linked already, also if `at` and `place` are the same. [`Error::NotLinked`] if the place `at` is not
-/// linked. [`Error::Broken`] if `at` is in no ring.
+/// [`Error::Linked`] if `place` is linked already, or is `at` itself. [`Error::NotLinked`] if the place `at` is not linked.
+/// [`Error::Broken`] if `at` is in no ring.
 #[inline]
 pub fn insert_after(table: &mut [Link2], at: u32, place: u32) -> Result<(), Error> {
     let (links, places) = Link2::parts(table);
@@ -82,8 +83,8 @@ pub fn insert_after(table: &mut [Link2], at: u32, place: u32) -> Result<(), Erro
 /// # Errors
 ///
 /// [`Error::Null`] if the place `at` is `u32::MAX`. [`Error::OutOfRange`] if `at` or `place` is not below the table's length.
-/// [`Error::Linked`] if `place` is linked already, also if `at` and `place` are the same. [`Error::NotLinked`] if the place `at` is not
-/// linked. [`Error::Broken`] if `at` is in no ring.
+/// [`Error::Linked`] if `place` is linked already, or is `at` itself. [`Error::NotLinked`] if the place `at` is not linked.
+/// [`Error::Broken`] if `at` is in no ring.
 #[inline]
 pub fn insert_before(table: &mut [Link2], at: u32, place: u32) -> Result<(), Error> {
     let (links, places) = Link2::parts(table);
@@ -91,8 +92,8 @@ pub fn insert_before(table: &mut [Link2], at: u32, place: u32) -> Result<(), Err
     done(unsafe { ic_ring_insert_before(links, places, at, place) })
 }
 
-/// Removes `place` from its ring, whichever ring that is, as list_del of Linux does, in O(1). If `place` is a head without members, its
-/// ring no longer exists.
+/// Removes `place` from its ring, which you do not name, as list_del of Linux does, in O(1). If `place` is a head without members, the ring
+/// no longer exists after the call.
 ///
 /// # Errors
 ///
@@ -105,10 +106,10 @@ pub fn remove(table: &mut [Link2], place: u32) -> Result<(), Error> {
     done(unsafe { ic_ring_remove(links, places, place) })
 }
 
-/// Exchanges the place that follows `one` and the place that follows `other`, in O(1). Both `one` and `other` are in rings. If `one` and
-/// `other` are in two rings, the call joins the rings. If they are different places of one ring, it splits that ring into two. If you
-/// repeat the call, you undo it. If `one` is the last member of a ring and `other` the head of another one, all members of the second ring,
-/// and then its head, come after `one`.
+/// Makes the place after `one` follow `other`, and the place after `other` follow `one`, in O(1). `one` and `other` must be in rings. If
+/// `one` and `other` are in two rings, the call joins the rings. If `one` and `other` are different places of one ring, the call splits
+/// this ring into two. A second call with the same places undoes the first call. If `one` is the last member of a ring, and `other` is the
+/// head of another ring, all members of the other ring then follow `one`, and `other` follows these members.
 ///
 /// # Errors
 ///
@@ -121,8 +122,8 @@ pub fn exchange(table: &mut [Link2], one: u32, other: u32) -> Result<(), Error> 
     done(unsafe { ic_ring_exchange(links, places, one, other) })
 }
 
-/// Removes the first member of the ring with the head `head`, and returns it, in O(1). It returns `None` if `head` is `u32::MAX`, or `head`
-/// has no members.
+/// Removes the first member of the ring with the head `head`, and returns it, in O(1). The call returns `None` if `head` is `u32::MAX`, or
+/// the ring has no members.
 ///
 /// # Errors
 ///
@@ -135,8 +136,8 @@ pub fn pop_front(table: &mut [Link2], head: u32) -> Result<Option<u32>, Error> {
     handed_out(|it| unsafe { ic_ring_pop_front(links, places, head, it) })
 }
 
-/// Removes the last member of the ring with the head `head`, and returns it, in O(1). It returns `None` if `head` is `u32::MAX`, or `head`
-/// has no members.
+/// Removes the last member of the ring with the head `head`, and returns it, in O(1). The call returns `None` if `head` is `u32::MAX`, or
+/// the ring has no members.
 ///
 /// # Errors
 ///
@@ -154,8 +155,8 @@ pub fn pop_back(table: &mut [Link2], head: u32) -> Result<Option<u32>, Error> {
 /// # Errors
 ///
 /// [`Error::Null`] if the place `at` is `u32::MAX`. [`Error::OutOfRange`] if `at` or `place` is not below the table's length.
-/// [`Error::Linked`] if `place` is linked already, also if `at` and `place` are the same. [`Error::NotLinked`] if the place `at` is not
-/// linked. [`Error::Broken`] if `at` is in no ring.
+/// [`Error::Linked`] if `place` is linked already, or is `at` itself. [`Error::NotLinked`] if the place `at` is not linked.
+/// [`Error::Broken`] if `at` is in no ring.
 #[inline]
 pub fn replace(table: &mut [Link2], at: u32, place: u32) -> Result<(), Error> {
     let (links, places) = Link2::parts(table);
@@ -163,8 +164,8 @@ pub fn replace(table: &mut [Link2], at: u32, place: u32) -> Result<(), Error> {
     done(unsafe { ic_ring_replace(links, places, at, place) })
 }
 
-/// Moves `place`, from whichever ring it is in, after the place `at` of a ring, as list_move of Linux does, in O(1). If `at` is a head,
-/// `place` becomes the first member. The place stays linked, and nothing changes if `at` and `place` are the same.
+/// Moves `place` after the place `at` of the same ring or of another ring, as list_move of Linux does, in O(1). If `at` is a head, `place`
+/// becomes the first member. `place` stays linked during the call. Nothing changes if `at` and `place` are the same.
 ///
 /// # Errors
 ///
@@ -177,8 +178,8 @@ pub fn move_after(table: &mut [Link2], at: u32, place: u32) -> Result<(), Error>
     done(unsafe { ic_ring_move_after(links, places, at, place) })
 }
 
-/// Moves `place`, from whichever ring it is in, before the place `at` of a ring, as list_move_tail of Linux does, in O(1). If `at` is a
-/// head, `place` becomes the last member. The place stays linked, and nothing changes if `at` and `place` are the same.
+/// Moves `place` before the place `at` of the same ring or of another ring, as list_move_tail of Linux does, in O(1). If `at` is a head,
+/// `place` becomes the last member. `place` stays linked during the call. Nothing changes if `at` and `place` are the same.
 ///
 /// # Errors
 ///
@@ -197,8 +198,8 @@ pub fn move_before(table: &mut [Link2], at: u32, place: u32) -> Result<(), Error
 /// # Errors
 ///
 /// [`Error::Null`] if `at` or `head` is `u32::MAX`. [`Error::OutOfRange`] if `at` or `head` is not below the table's length.
-/// [`Error::NotLinked`] if `at` or `head` is not linked. [`Error::Broken`] if `at` or `head` is in no ring, or `at` is `head` itself or its
-/// last member.
+/// [`Error::NotLinked`] if `at` or `head` is not linked. [`Error::Broken`] if `at` or `head` is in no ring, or `at` is `head` or the last
+/// member of the ring with the head `head`.
 #[inline]
 pub fn splice_after(table: &mut [Link2], at: u32, head: u32) -> Result<(), Error> {
     let (links, places) = Link2::parts(table);
@@ -212,8 +213,8 @@ pub fn splice_after(table: &mut [Link2], at: u32, head: u32) -> Result<(), Error
 /// # Errors
 ///
 /// [`Error::Null`] if `at` or `head` is `u32::MAX`. [`Error::OutOfRange`] if `at` or `head` is not below the table's length.
-/// [`Error::NotLinked`] if `at` or `head` is not linked. [`Error::Broken`] if `at` or `head` is in no ring, or `at` is `head` itself or its
-/// first member.
+/// [`Error::NotLinked`] if `at` or `head` is not linked. [`Error::Broken`] if `at` or `head` is in no ring, or `at` is `head` or the first
+/// member of the ring with the head `head`.
 #[inline]
 pub fn splice_before(table: &mut [Link2], at: u32, head: u32) -> Result<(), Error> {
     let (links, places) = Link2::parts(table);
@@ -221,8 +222,8 @@ pub fn splice_before(table: &mut [Link2], at: u32, head: u32) -> Result<(), Erro
     done(unsafe { ic_ring_splice_before(links, places, at, head) })
 }
 
-/// Counts the members of the ring with the head `head`, and returns how many there are, in O(n). Call it if the words come from a file, or
-/// from memory that others write. If it returns a number, every other call on this ring does what the comment of that call says.
+/// Counts the members of the ring with the head `head`, and returns how many there are, in O(n). Make this call if the words come from a
+/// file, or from memory that others write. If the call returns a number, every other call on this ring does what its own comment says.
 ///
 /// # Errors
 ///
@@ -251,9 +252,9 @@ pub fn sort(table: &mut [Link2], keys: &[u64], head: u32) -> Result<(), Error> {
     done(unsafe { ic_ring_sort(links, places, keys.as_ptr(), keys.len(), head) })
 }
 
-/// Moves all members of the ring with the head `given` to where their keys belong among those of the ring with the head `head`, if both
-/// rings are in the order of their keys, in O(n). Of members with equal keys, those of `head` come first. Afterwards `given` is the head of
-/// a ring with no members.
+/// Moves all members of the ring with the head `given` into the ring with the head `head`, which the call leaves sorted by keys if both
+/// rings were sorted by keys, in O(n). Of members with equal keys, those that were in the ring with the head `head` come first. Afterwards
+/// `given` is the head of a ring with no members.
 ///
 /// # Errors
 ///
@@ -269,50 +270,50 @@ pub fn merge(table: &mut [Link2], keys: &[u64], head: u32, given: u32) -> Result
 }
 // to here
 
-/// Inserts `place` as the first member of a head, in O(1).
+/// Inserts `place` as the first member of the ring with the head `head`, in O(1).
 ///
 /// # Errors
 ///
-/// It returns the errors of [`insert_after`].
+/// The call returns the errors of [`insert_after`].
 #[inline]
 pub fn push_front(table: &mut [Link2], head: u32, place: u32) -> Result<(), Error> {
     insert_after(table, head, place)
 }
 
-/// Inserts `place` as the last member of a head, in O(1).
+/// Inserts `place` as the last member of the ring with the head `head`, in O(1).
 ///
 /// # Errors
 ///
-/// It returns the errors of [`insert_before`].
+/// The call returns the errors of [`insert_before`].
 #[inline]
 pub fn push_back(table: &mut [Link2], head: u32, place: u32) -> Result<(), Error> {
     insert_before(table, head, place)
 }
 
-/// Returns whether a head has no members, in O(1).
+/// Returns whether `head` is the head of a ring with no members, in O(1).
 #[inline]
 #[must_use]
 pub fn is_empty(table: &[Link2], head: u32) -> bool {
     next(table, head) == Some(head)
 }
 
-/// Returns the place after the place `at` of a ring: after a head the first member, after the last member the head, in O(1). It returns
-/// `None` if `at` is not linked or is not in the table, and if the link there leads out of the table.
+/// Returns the place after the place `at` of a ring, in O(1). After a head comes the first member, and after the last member comes the head.
+/// The call returns `None` if `at` is not linked or is not in the table, and if the link of `at` leads out of the table.
 #[inline]
 #[must_use]
 pub fn next(table: &[Link2], at: u32) -> Option<u32> {
     read(table, at, Link2::next)
 }
 
-/// Returns the place before the place `at` of a ring, in O(1). It returns `None` if [`next`] does.
+/// Returns the place before the place `at` of a ring, in O(1). It returns `None` in the cases in which [`next`] returns `None`.
 #[inline]
 #[must_use]
 pub fn prev(table: &[Link2], at: u32) -> Option<u32> {
     read(table, at, Link2::prev)
 }
 
-/// Iterates over the members of a head. Whatever the table contains, it ends after at most as many members as there are places, and each of them
-/// is a linked place of the table.
+/// Iterates over the members of the ring with the head `head`. Whatever the words are, the iterator ends after at most as many members as the
+/// table has places, and returns only linked places of the table.
 pub fn iter(table: &[Link2], head: u32) -> impl Iterator<Item = u32> + '_ {
     let after = move |at| member(table, next(table, at)).filter(|&at| at != head);
     core::iter::successors(after(head), move |&at| after(at)).take(table.len())

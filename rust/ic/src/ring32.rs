@@ -1,7 +1,7 @@
-//! Rings whose links have words of 4 bytes, and so take half the memory of those of [`ring`](crate::ring).
+//! Rings whose links have words of 4 bytes, and so take half the memory of the links of a [`ring`](crate::ring).
 //!
-//! Each function does what the one of [`ring`](crate::ring) with the same name does. The words have room for the places below 536,870,911. Other
-//! places are out of range.
+//! Each function does the same as the function of [`ring`](crate::ring) with the same name. A word of 4 bytes can name only places below
+//! 536,870,911, and calls treat all other places as out of range.
 //!
 //! ```
 //! use ic::{ring32, Error, Link2x32};
@@ -24,7 +24,7 @@ use crate::link::{member, read, Link};
 use crate::{Error, Link2x32};
 use ic_sys::*;
 
-// tools/c-calls --write writes from here: ring32
+// Made by tools/c-calls --write: ring32
 /// Makes `head` the head of a ring with no members, as INIT_LIST_HEAD of Linux does, in O(1).
 ///
 /// # Errors
@@ -43,8 +43,8 @@ pub fn init(table: &mut [Link2x32], head: u32) -> Result<(), Error> {
 /// # Errors
 ///
 /// [`Error::Null`] if the place `at` is `u32::MAX`. [`Error::OutOfRange`] if `at` or `place` is not below the table's length, or is
-/// 536,870,911 or more. [`Error::Linked`] if `place` is linked already, also if `at` and `place` are the same. [`Error::NotLinked`] if the
-/// place `at` is not linked. [`Error::Broken`] if `at` is in no ring.
+/// 536,870,911 or more. [`Error::Linked`] if `place` is linked already, or is `at` itself. [`Error::NotLinked`] if the place `at` is not
+/// linked. [`Error::Broken`] if `at` is in no ring.
 #[inline]
 pub fn insert_after(table: &mut [Link2x32], at: u32, place: u32) -> Result<(), Error> {
     let (links, places) = Link2x32::parts(table);
@@ -58,8 +58,8 @@ pub fn insert_after(table: &mut [Link2x32], at: u32, place: u32) -> Result<(), E
 /// # Errors
 ///
 /// [`Error::Null`] if the place `at` is `u32::MAX`. [`Error::OutOfRange`] if `at` or `place` is not below the table's length, or is
-/// 536,870,911 or more. [`Error::Linked`] if `place` is linked already, also if `at` and `place` are the same. [`Error::NotLinked`] if the
-/// place `at` is not linked. [`Error::Broken`] if `at` is in no ring.
+/// 536,870,911 or more. [`Error::Linked`] if `place` is linked already, or is `at` itself. [`Error::NotLinked`] if the place `at` is not
+/// linked. [`Error::Broken`] if `at` is in no ring.
 #[inline]
 pub fn insert_before(table: &mut [Link2x32], at: u32, place: u32) -> Result<(), Error> {
     let (links, places) = Link2x32::parts(table);
@@ -67,8 +67,8 @@ pub fn insert_before(table: &mut [Link2x32], at: u32, place: u32) -> Result<(), 
     done(unsafe { ic_ring32_insert_before(links, places, at, place) })
 }
 
-/// Removes `place` from its ring, whichever ring that is, as list_del of Linux does, in O(1). If `place` is a head without members, its
-/// ring no longer exists.
+/// Removes `place` from its ring, which you do not name, as list_del of Linux does, in O(1). If `place` is a head without members, the ring
+/// no longer exists after the call.
 ///
 /// # Errors
 ///
@@ -81,10 +81,10 @@ pub fn remove(table: &mut [Link2x32], place: u32) -> Result<(), Error> {
     done(unsafe { ic_ring32_remove(links, places, place) })
 }
 
-/// Exchanges the place that follows `one` and the place that follows `other`, in O(1). Both `one` and `other` are in rings. If `one` and
-/// `other` are in two rings, the call joins the rings. If they are different places of one ring, it splits that ring into two. If you
-/// repeat the call, you undo it. If `one` is the last member of a ring and `other` the head of another one, all members of the second ring,
-/// and then its head, come after `one`.
+/// Makes the place after `one` follow `other`, and the place after `other` follow `one`, in O(1). `one` and `other` must be in rings. If
+/// `one` and `other` are in two rings, the call joins the rings. If `one` and `other` are different places of one ring, the call splits
+/// this ring into two. A second call with the same places undoes the first call. If `one` is the last member of a ring, and `other` is the
+/// head of another ring, all members of the other ring then follow `one`, and `other` follows these members.
 ///
 /// # Errors
 ///
@@ -97,8 +97,8 @@ pub fn exchange(table: &mut [Link2x32], one: u32, other: u32) -> Result<(), Erro
     done(unsafe { ic_ring32_exchange(links, places, one, other) })
 }
 
-/// Removes the first member of the ring with the head `head`, and returns it, in O(1). It returns `None` if `head` is `u32::MAX`, or `head`
-/// has no members.
+/// Removes the first member of the ring with the head `head`, and returns it, in O(1). The call returns `None` if `head` is `u32::MAX`, or
+/// the ring has no members.
 ///
 /// # Errors
 ///
@@ -111,8 +111,8 @@ pub fn pop_front(table: &mut [Link2x32], head: u32) -> Result<Option<u32>, Error
     handed_out(|it| unsafe { ic_ring32_pop_front(links, places, head, it) })
 }
 
-/// Removes the last member of the ring with the head `head`, and returns it, in O(1). It returns `None` if `head` is `u32::MAX`, or `head`
-/// has no members.
+/// Removes the last member of the ring with the head `head`, and returns it, in O(1). The call returns `None` if `head` is `u32::MAX`, or
+/// the ring has no members.
 ///
 /// # Errors
 ///
@@ -130,8 +130,8 @@ pub fn pop_back(table: &mut [Link2x32], head: u32) -> Result<Option<u32>, Error>
 /// # Errors
 ///
 /// [`Error::Null`] if the place `at` is `u32::MAX`. [`Error::OutOfRange`] if `at` or `place` is not below the table's length, or is
-/// 536,870,911 or more. [`Error::Linked`] if `place` is linked already, also if `at` and `place` are the same. [`Error::NotLinked`] if the
-/// place `at` is not linked. [`Error::Broken`] if `at` is in no ring.
+/// 536,870,911 or more. [`Error::Linked`] if `place` is linked already, or is `at` itself. [`Error::NotLinked`] if the place `at` is not
+/// linked. [`Error::Broken`] if `at` is in no ring.
 #[inline]
 pub fn replace(table: &mut [Link2x32], at: u32, place: u32) -> Result<(), Error> {
     let (links, places) = Link2x32::parts(table);
@@ -139,8 +139,8 @@ pub fn replace(table: &mut [Link2x32], at: u32, place: u32) -> Result<(), Error>
     done(unsafe { ic_ring32_replace(links, places, at, place) })
 }
 
-/// Moves `place`, from whichever ring it is in, after the place `at` of a ring, as list_move of Linux does, in O(1). If `at` is a head,
-/// `place` becomes the first member. The place stays linked, and nothing changes if `at` and `place` are the same.
+/// Moves `place` after the place `at` of the same ring or of another ring, as list_move of Linux does, in O(1). If `at` is a head, `place`
+/// becomes the first member. `place` stays linked during the call. Nothing changes if `at` and `place` are the same.
 ///
 /// # Errors
 ///
@@ -153,8 +153,8 @@ pub fn move_after(table: &mut [Link2x32], at: u32, place: u32) -> Result<(), Err
     done(unsafe { ic_ring32_move_after(links, places, at, place) })
 }
 
-/// Moves `place`, from whichever ring it is in, before the place `at` of a ring, as list_move_tail of Linux does, in O(1). If `at` is a
-/// head, `place` becomes the last member. The place stays linked, and nothing changes if `at` and `place` are the same.
+/// Moves `place` before the place `at` of the same ring or of another ring, as list_move_tail of Linux does, in O(1). If `at` is a head,
+/// `place` becomes the last member. `place` stays linked during the call. Nothing changes if `at` and `place` are the same.
 ///
 /// # Errors
 ///
@@ -174,7 +174,7 @@ pub fn move_before(table: &mut [Link2x32], at: u32, place: u32) -> Result<(), Er
 ///
 /// [`Error::Null`] if `at` or `head` is `u32::MAX`. [`Error::OutOfRange`] if `at` or `head` is not below the table's length, or is
 /// 536,870,911 or more. [`Error::NotLinked`] if `at` or `head` is not linked. [`Error::Broken`] if `at` or `head` is in no ring, or `at` is
-/// `head` itself or its last member.
+/// `head` or the last member of the ring with the head `head`.
 #[inline]
 pub fn splice_after(table: &mut [Link2x32], at: u32, head: u32) -> Result<(), Error> {
     let (links, places) = Link2x32::parts(table);
@@ -189,7 +189,7 @@ pub fn splice_after(table: &mut [Link2x32], at: u32, head: u32) -> Result<(), Er
 ///
 /// [`Error::Null`] if `at` or `head` is `u32::MAX`. [`Error::OutOfRange`] if `at` or `head` is not below the table's length, or is
 /// 536,870,911 or more. [`Error::NotLinked`] if `at` or `head` is not linked. [`Error::Broken`] if `at` or `head` is in no ring, or `at` is
-/// `head` itself or its first member.
+/// `head` or the first member of the ring with the head `head`.
 #[inline]
 pub fn splice_before(table: &mut [Link2x32], at: u32, head: u32) -> Result<(), Error> {
     let (links, places) = Link2x32::parts(table);
@@ -198,51 +198,51 @@ pub fn splice_before(table: &mut [Link2x32], at: u32, head: u32) -> Result<(), E
 }
 // to here
 
-// tools/c-calls --write writes from here, of ring: ring32
-/// Inserts `place` as the first member of a head, in O(1).
+// Made by tools/c-calls --write of ring: ring32
+/// Inserts `place` as the first member of the ring with the head `head`, in O(1).
 ///
 /// # Errors
 ///
-/// It returns the errors of [`insert_after`].
+/// The call returns the errors of [`insert_after`].
 #[inline]
 pub fn push_front(table: &mut [Link2x32], head: u32, place: u32) -> Result<(), Error> {
     insert_after(table, head, place)
 }
 
-/// Inserts `place` as the last member of a head, in O(1).
+/// Inserts `place` as the last member of the ring with the head `head`, in O(1).
 ///
 /// # Errors
 ///
-/// It returns the errors of [`insert_before`].
+/// The call returns the errors of [`insert_before`].
 #[inline]
 pub fn push_back(table: &mut [Link2x32], head: u32, place: u32) -> Result<(), Error> {
     insert_before(table, head, place)
 }
 
-/// Returns whether a head has no members, in O(1).
+/// Returns whether `head` is the head of a ring with no members, in O(1).
 #[inline]
 #[must_use]
 pub fn is_empty(table: &[Link2x32], head: u32) -> bool {
     next(table, head) == Some(head)
 }
 
-/// Returns the place after the place `at` of a ring: after a head the first member, after the last member the head, in O(1). It returns
-/// `None` if `at` is not linked or is not in the table, and if the link there leads out of the table.
+/// Returns the place after the place `at` of a ring, in O(1). After a head comes the first member, and after the last member comes the head.
+/// The call returns `None` if `at` is not linked or is not in the table, and if the link of `at` leads out of the table.
 #[inline]
 #[must_use]
 pub fn next(table: &[Link2x32], at: u32) -> Option<u32> {
     read(table, at, Link2x32::next)
 }
 
-/// Returns the place before the place `at` of a ring, in O(1). It returns `None` if [`next`] does.
+/// Returns the place before the place `at` of a ring, in O(1). It returns `None` in the cases in which [`next`] returns `None`.
 #[inline]
 #[must_use]
 pub fn prev(table: &[Link2x32], at: u32) -> Option<u32> {
     read(table, at, Link2x32::prev)
 }
 
-/// Iterates over the members of a head. Whatever the table contains, it ends after at most as many members as there are places, and each of them
-/// is a linked place of the table.
+/// Iterates over the members of the ring with the head `head`. Whatever the words are, the iterator ends after at most as many members as the
+/// table has places, and returns only linked places of the table.
 pub fn iter(table: &[Link2x32], head: u32) -> impl Iterator<Item = u32> + '_ {
     let after = move |at| member(table, next(table, at)).filter(|&at| at != head);
     core::iter::successors(after(head), move |&at| after(at)).take(table.len())

@@ -9,7 +9,7 @@ use ic_sys::*;
 
 /// A singly linked list over a table of [`Link1`].
 ///
-/// It is good for stacks and free lists. Calls edit it after a member, or at the front:
+/// A singly linked list is good for stacks and free lists. Calls edit the list after a member, or at the front:
 ///
 /// ```
 /// use ic::{Error, Link1, Stack};
@@ -31,7 +31,7 @@ use ic_sys::*;
 /// # Ok::<(), Error>(())
 /// ```
 ///
-/// A slice of yours may have a key for each place, by which you sort the members, and merge other ones into them:
+/// If a slice of yours has a key for each place, you can sort the members by their keys, and merge another list into this list:
 ///
 /// ```
 /// # use ic::{Error, Link1, Stack};
@@ -45,7 +45,7 @@ use ic_sys::*;
 /// # Ok::<(), Error>(())
 /// ```
 ///
-/// If you drop the list, its members stay linked. A clone of it belongs to a clone of the table.
+/// If you drop the list, its members stay linked. Use a clone of the list only with a clone of the table.
 #[repr(transparent)]
 #[derive(Clone, Default, PartialEq, Eq)]
 pub struct Stack(pub(crate) ic_stack);
@@ -58,15 +58,15 @@ impl Stack {
         Stack(ic_stack { head: 0 })
     }
 
-    /// Returns the list that has these words, which may be any. They may come from a file: [`check`](Self::check) says whether a table
-    /// holds it.
+    /// Returns the list with these words, which may have any values, for example from a file. [`check`](Self::check) says whether the words of
+    /// the list and of its table form a list.
     #[inline]
     #[must_use]
     pub const fn from_words([head]: [u64; 1]) -> Stack {
         Stack(ic_stack { head })
     }
 
-    /// Returns the words of the list, to be written to a file. They hold no addresses.
+    /// Returns the words of the list, for example to write them to a file. They contain no addresses.
     #[inline]
     #[must_use]
     pub const fn words(&self) -> [u64; 1] {
@@ -87,21 +87,21 @@ impl Stack {
         place(self.0.head)
     }
 
-    /// Returns the member after the member `at`, in O(1). It returns `None` if `at` is the last member, is not linked or is not in the
-    /// table, and if the link there leads out of the table.
+    /// Returns the member after the member `at`, in O(1). It returns `None` if `at` is the last member, is not linked or is not in the table,
+    /// and if the link of `at` leads out of the table.
     #[inline]
     #[must_use]
     pub fn next(&self, table: &[Link1], at: u32) -> Option<u32> {
         read(table, at, Link1::next)
     }
 
-    // tools/c-calls --write writes from here: stack stack-keys
+    // Made by tools/c-calls --write: stack stack-keys
     /// Inserts `place` at the front, in O(1).
     ///
     /// # Errors
     ///
     /// [`Error::OutOfRange`] if `place` is not below the table's length. [`Error::Linked`] if `place` is linked already. [`Error::Broken`]
-    /// if the first member does not belong to this table.
+    /// if the first member is not linked in this table.
     #[inline]
     pub fn push_front(&mut self, table: &mut [Link1], place: u32) -> Result<(), Error> {
         let (links, places) = Link1::parts(table);
@@ -109,11 +109,11 @@ impl Stack {
         done(unsafe { ic_stack_push_front(links, places, &mut self.0, place) })
     }
 
-    /// Removes the first member, and returns it, in O(1). It returns `None` if the list is empty.
+    /// Removes the first member, and returns it, in O(1). The call returns `None` if the list is empty.
     ///
     /// # Errors
     ///
-    /// [`Error::Broken`] if the first member does not belong to this table.
+    /// [`Error::Broken`] if the first member is not linked in this table.
     #[inline]
     pub fn pop_front(&mut self, table: &mut [Link1]) -> Result<Option<u32>, Error> {
         let (links, places) = Link1::parts(table);
@@ -126,7 +126,8 @@ impl Stack {
     /// # Errors
     ///
     /// [`Error::OutOfRange`] if `at` or `place` is not below the table's length. [`Error::Linked`] if `place` is linked already.
-    /// [`Error::NotLinked`] if the place `at` is not linked. [`Error::Broken`] if the next member does not belong to this table.
+    /// [`Error::NotLinked`] if the place `at` is not linked. [`Error::Broken`] if the member that is to follow `place` is not linked in
+    /// this table.
     #[inline]
     pub fn insert_after(&mut self, table: &mut [Link1], at: Option<u32>, place: u32) -> Result<(), Error> {
         let (links, places) = Link1::parts(table);
@@ -134,13 +135,13 @@ impl Stack {
         done(unsafe { ic_stack_insert_after(links, places, &mut self.0, number(at), place) })
     }
 
-    /// Removes the member after the member `at`, or the first member if `at` is `None`, and returns it, in O(1). It returns `None` if there
-    /// is no such member.
+    /// Removes the member after the member `at`, or the first member if `at` is `None`, and returns it, in O(1). The call returns `None` if
+    /// `at` is the last member, or the list is empty.
     ///
     /// # Errors
     ///
     /// [`Error::OutOfRange`] if the place `at` is not below the table's length. [`Error::NotLinked`] if the place `at` is not linked.
-    /// [`Error::Broken`] if the next member does not belong to this table.
+    /// [`Error::Broken`] if the member to remove is not linked in this table.
     #[inline]
     pub fn remove_after(&mut self, table: &mut [Link1], at: Option<u32>) -> Result<Option<u32>, Error> {
         let (links, places) = Link1::parts(table);
@@ -153,9 +154,9 @@ impl Stack {
     ///
     /// # Errors
     ///
-    /// [`Error::Null`] if there is no such member. [`Error::OutOfRange`] if `at` or `place` is not below the table's length.
-    /// [`Error::Linked`] if `place` is linked already. [`Error::NotLinked`] if the place `at` is not linked. [`Error::Broken`] if the next
-    /// member does not belong to this table.
+    /// [`Error::Null`] if `at` is the last member, or the list is empty. [`Error::OutOfRange`] if `at` or `place` is not below the table's
+    /// length. [`Error::Linked`] if `place` is linked already. [`Error::NotLinked`] if the place `at` is not linked. [`Error::Broken`] if
+    /// the member to remove is not linked in this table.
     #[inline]
     pub fn replace_after(&mut self, table: &mut [Link1], at: Option<u32>, place: u32) -> Result<u32, Error> {
         let (links, places) = Link1::parts(table);
@@ -171,8 +172,8 @@ impl Stack {
     /// # Errors
     ///
     /// [`Error::OutOfRange`] if the place `at` is not below the table's length. [`Error::NotLinked`] if the place `at` is not linked.
-    /// [`Error::Broken`] if `given` is no list of this table, or has no end within as many steps as the table has places, or both lists
-    /// begin with the same member, as a list and its copy do.
+    /// [`Error::Broken`] if the links of `given` run in a circle, or lead to a place that is not linked in this table, or both lists begin
+    /// with the same member, as a list and its copy do.
     #[inline]
     pub fn splice_after(&mut self, table: &mut [Link1], at: Option<u32>, given: &mut Stack) -> Result<(), Error> {
         let (links, places) = Link1::parts(table);
@@ -180,12 +181,12 @@ impl Stack {
         done(unsafe { ic_stack_splice_after(links, places, &mut self.0, number(at), &mut given.0) })
     }
 
-    /// Moves the members after the member `at`, or all members if `at` is `None`, to a new list, which it returns, in O(1).
+    /// Moves the members after the member `at`, or all members if `at` is `None`, to a new list, which the call returns, in O(1).
     ///
     /// # Errors
     ///
     /// [`Error::OutOfRange`] if the place `at` is not below the table's length. [`Error::NotLinked`] if the place `at` is not linked.
-    /// [`Error::Broken`] if the next member does not belong to this table.
+    /// [`Error::Broken`] if the first member to move is not linked in this table.
     #[inline]
     pub fn split_after(&mut self, table: &mut [Link1], at: Option<u32>) -> Result<Stack, Error> {
         let ((links, places), mut rest) = (Link1::parts(table), Stack::new());
@@ -195,12 +196,12 @@ impl Stack {
     }
 
     /// Inserts the `count` places `first`, `first` + 1 and so on at the front, in rising order, so that `first` becomes the first member,
-    /// in O(count). The call changes nothing if `count` is 0.
+    /// in O(count). If `count` is 0, the call changes nothing.
     ///
     /// # Errors
     ///
-    /// [`Error::OutOfRange`] if the first of these places that the call refuses is not below the table's length. [`Error::Linked`] if the
-    /// first of these places that the call refuses is linked already. [`Error::Broken`] if the first member is not linked.
+    /// [`Error::OutOfRange`] if none of these places is linked, but one is not below the table's length. [`Error::Linked`] if one of these
+    /// places is linked already. [`Error::Broken`] if the first member is not linked in this table.
     #[inline]
     pub fn fill(&mut self, table: &mut [Link1], first: u32, count: u32) -> Result<(), Error> {
         let (links, places) = Link1::parts(table);
@@ -212,7 +213,7 @@ impl Stack {
     ///
     /// # Errors
     ///
-    /// [`Error::Broken`] if the links lead to no end within as many steps as the table has places.
+    /// [`Error::Broken`] if the links from the first member on run in a circle, or lead to a place that is not linked in this table.
     #[inline]
     pub fn clear(&mut self, table: &mut [Link1]) -> Result<(), Error> {
         let (links, places) = Link1::parts(table);
@@ -220,9 +221,9 @@ impl Stack {
         done(unsafe { ic_stack_clear(links, places, &mut self.0) })
     }
 
-    /// Counts the members, and returns how many there are, in O(n). Call it if the words come from a file, or from memory that others
-    /// write. If it returns a number, every other call on this list does what the comment of that call says. It returns `None` if the links
-    /// lead from the first member to no end within the table.
+    /// Counts the members, and returns how many there are, in O(n). Make this call if the words come from a file, or from memory that
+    /// others write. If the call returns a number, every other call on this list does what its own comment says. The call returns `None` if
+    /// the links from the first member on run in a circle, or lead to a place that is not linked in this table.
     #[inline]
     #[must_use]
     pub fn check(&self, table: &[Link1]) -> Option<u64> {
@@ -235,8 +236,8 @@ impl Stack {
     ///
     /// # Errors
     ///
-    /// [`Error::OutOfRange`] if there are fewer keys than places. [`Error::Broken`] if the links lead from the first member to no end
-    /// within the table.
+    /// [`Error::OutOfRange`] if there are fewer keys than places. [`Error::Broken`] if the links from the first member on run in a circle,
+    /// or lead to a place that is not linked in this table.
     #[inline]
     pub fn sort(&mut self, table: &mut [Link1], keys: &[u64]) -> Result<(), Error> {
         let (links, places) = Link1::parts(table);
@@ -244,13 +245,13 @@ impl Stack {
         done(unsafe { ic_stack_sort(links, places, keys.as_ptr(), keys.len(), &mut self.0) })
     }
 
-    /// Moves all members of `given` to where their keys belong, if both lists are in the order of their keys, in O(n). Of members with
-    /// equal keys, those of this list come first. The call leaves `given` empty.
+    /// Moves all members of `given` into this list, which the call leaves sorted by keys if both lists were sorted by keys, in O(n). Of
+    /// members with equal keys, those of this list come first. Afterwards `given` is empty.
     ///
     /// # Errors
     ///
-    /// [`Error::OutOfRange`] if there are fewer keys than places. [`Error::Broken`] if the links of one of the lists lead from its first
-    /// member to no end within the table, or both lists end with the same member, as lists do that share one.
+    /// [`Error::OutOfRange`] if there are fewer keys than places. [`Error::Broken`] if the links of one of the lists run in a circle, or
+    /// lead to a place that is not linked in this table, or both lists have the same last member, as lists with a common member do.
     #[inline]
     pub fn merge(&mut self, table: &mut [Link1], keys: &[u64], given: &mut Stack) -> Result<(), Error> {
         let (links, places) = Link1::parts(table);
@@ -259,13 +260,14 @@ impl Stack {
     }
     // to here
 
-    /// Removes `place`, wherever it is in the list, in O(n): a list is a hash table with one bucket.
+    /// Removes `place` from any position in the list, in O(n). The function calls [`hash::remove`](crate::hash::remove) with the list as the
+    /// only bucket.
     ///
     /// # Errors
     ///
     /// [`Error::Null`] if `place` is `u32::MAX`. [`Error::OutOfRange`] if `place` is not below the table's length. [`Error::NotLinked`] if
-    /// `place` is not linked. [`Error::Broken`] if `place` is no member of this list, but perhaps of another one, or the list does not belong
-    /// to this table.
+    /// `place` is not linked. [`Error::Broken`] if `place` is linked, for example in another list, but the links of this list do not lead to
+    /// `place`.
     #[inline]
     pub fn remove(&mut self, table: &mut [Link1], place: u32) -> Result<(), Error> {
         crate::hash::remove(table, core::slice::from_mut(self), 0, place)

@@ -5,9 +5,9 @@ use crate::link::{number, Link};
 use crate::{Error, Link3, Tree};
 use ic_sys::*;
 
-/// What a tree with sums has for each place beside its link: a value, which you write, and a sum, which calls write.
+/// A value, which you write, and a sum, which calls write. A tree with sums has a `Sum` for each place.
 ///
-/// A slice of yours has one for each place. The sum at a member combines the values of this member and of all members below it, by the
+/// A slice of yours has a `Sum` for each place. The sum at a member combines the values of this member and of all members below it, by the
 /// [`SumKind`] that you pass to each call. If each value is 1, a search by sums finds the member at a position, and the position of a member:
 ///
 /// ```
@@ -31,7 +31,7 @@ use ic_sys::*;
 /// # Ok::<(), Error>(())
 /// ```
 ///
-/// If the keys are the starts of intervals, and the values their ends, a search finds each interval that overlaps another one:
+/// If the keys are the starts of intervals, and the values are their ends, a search finds each interval that overlaps a given interval:
 ///
 /// ```
 /// use ic::{Error, Link3, Sum, SumKind, Tree};
@@ -66,37 +66,39 @@ impl Sum {
     }
 }
 
-/// How values are combined into a sum.
+/// How a call combines values into a sum.
 #[repr(u32)]
 #[derive(Clone, Copy, Debug, Default, PartialEq, Eq, Hash)]
 pub enum SumKind {
-    /// Their sum, which is at most `u64::MAX`.
+    /// The combined value is the total of the values, but at most `u64::MAX`.
     #[default]
     Sum = IC_SUM,
-    /// The greatest of them.
+    /// The combined value is the greatest of the values.
     Greatest = IC_GREATEST,
 }
 
 /// Trees with sums. There has to be a [`Sum`] for each place.
 ///
-/// The edits below keep right sums right, and those of an empty tree are right. Other edits leave the sums as they are. After those call
-/// [`sums_renew`](Self::sums_renew) with `None`, and after you have changed the value of one member, with that member.
+/// The sums of a tree are right if each is the combined value of its member and all members below. The edits below keep right sums right. Other
+/// edits leave the sums as they are. After other edits call [`sums_renew`](Self::sums_renew) with `None`. After you have changed the value of
+/// one member, call it with this member.
 impl Tree {
-    /// Returns the combined value of all members, in O(1), if the sums are right, and 0 if there are no members.
+    /// Returns the sum at the root, in O(1), which is the combined value of all members if the sums are right. Returns 0 if there are no
+    /// members.
     #[inline]
     #[must_use]
     pub fn sums_total(&self, sums: &[Sum]) -> u64 {
         self.root().and_then(|root| sums.get(root as usize)).map_or(0, |root| root.sum)
     }
 
-    // tools/c-calls --write writes from here: tree-sums
-    /// Inserts `place` by its key as ic_tree_insert does, and updates the sums that this changes, in O(log n). If the sums of the tree were
-    /// right before the call, they are right after it, whatever the sum of `place` was.
+    // Made by tools/c-calls --write: tree-sums
+    /// Inserts `place` by its key as ic_tree_insert does, and updates each sum that the insertion changes, in O(log n). If the sums of the
+    /// tree were right before the call, they are right after the call, too. The sum of `place` may be any number before the call.
     ///
     /// # Errors
     ///
     /// [`Error::OutOfRange`] if there are fewer keys than places, or there are fewer sums than places, or `place` is not below the table's
-    /// length. [`Error::Linked`] if `place` is linked already. [`Error::Broken`] if the root does not belong to this table.
+    /// length. [`Error::Linked`] if `place` is linked already. [`Error::Broken`] if the root is not linked in this table.
     #[inline]
     pub fn sums_insert(
         &mut self,
@@ -123,13 +125,13 @@ impl Tree {
         })
     }
 
-    /// Inserts `place` as ic_tree_insert_left does, and updates the sums that this changes, in O(log n).
+    /// Inserts `place` as ic_tree_insert_left does, and updates each sum that the insertion changes, in O(log n).
     ///
     /// # Errors
     ///
     /// [`Error::OutOfRange`] if there are fewer sums than places, or `at` or `place` is not below the table's length. [`Error::Linked`] if
     /// `place` is linked already. [`Error::NotLinked`] if the place `at` is not linked. [`Error::Broken`] if `at` has a left child, or `at`
-    /// is `None` and the tree has members, or the root does not belong to this table.
+    /// is `None` and the tree has members, or the root is not linked in this table.
     #[inline]
     pub fn sums_insert_left(
         &mut self,
@@ -155,13 +157,13 @@ impl Tree {
         })
     }
 
-    /// Inserts `place` as ic_tree_insert_right does, and updates the sums that this changes, in O(log n).
+    /// Inserts `place` as ic_tree_insert_right does, and updates each sum that the insertion changes, in O(log n).
     ///
     /// # Errors
     ///
     /// [`Error::OutOfRange`] if there are fewer sums than places, or `at` or `place` is not below the table's length. [`Error::Linked`] if
     /// `place` is linked already. [`Error::NotLinked`] if the place `at` is not linked. [`Error::Broken`] if `at` has a right child, or
-    /// `at` is `None` and the tree has members, or the root does not belong to this table.
+    /// `at` is `None` and the tree has members, or the root is not linked in this table.
     #[inline]
     pub fn sums_insert_right(
         &mut self,
@@ -187,14 +189,14 @@ impl Tree {
         })
     }
 
-    /// Removes the member `at`, and updates the sums that this changes, in O(log n). If the sums of the tree were right before the call,
-    /// they are right after it.
+    /// Removes the member `at`, and updates each sum that the removal changes, in O(log n). If the sums of the tree were right before the
+    /// call, they are right after the call, too.
     ///
     /// # Errors
     ///
     /// [`Error::Null`] if the place `at` is `u32::MAX`. [`Error::OutOfRange`] if there are fewer sums than places, or the place `at` is not
-    /// below the table's length. [`Error::NotLinked`] if the place `at` is not linked. [`Error::Broken`] if the root does not belong to
-    /// this table.
+    /// below the table's length. [`Error::NotLinked`] if the place `at` is not linked. [`Error::Broken`] if the root is not linked in this
+    /// table, or `at` is the root of another tree.
     #[inline]
     pub fn sums_remove(&mut self, table: &mut [Link3], sums: &mut [Sum], kind: SumKind, at: u32) -> Result<(), Error> {
         let (links, places) = Link3::parts(table);
@@ -204,9 +206,9 @@ impl Tree {
         })
     }
 
-    /// Updates the sums after the caller has changed the value of `at`: the sum at `at`, and the sums above it as far as they change, in
-    /// O(log n). If `at` is `None`, it computes all sums of the table, for all trees in it, in O(p log p) for p places. The call writes
-    /// nothing else.
+    /// Computes the sum at the member `at` again, and then the sums at the members above `at`, until a sum does not change, in O(log n).
+    /// Make this call after you have changed the value of `at`. If `at` is `None`, the call computes all sums of the table, for every tree
+    /// in the table, in O(p log p) for p places. The call writes only sums.
     ///
     /// # Errors
     ///
@@ -221,14 +223,14 @@ impl Tree {
         })
     }
 
-    /// Combines the values of the members after the member `at`, or of all members if `at` is `None`, one after the other, finds the first
-    /// member at which the combined value exceeds `bound`, and returns it, in O(log n). The call writes nothing else. It returns `None` if
-    /// the combined value of all members after `at` does not exceed `bound`.
+    /// Combines the values of the members after the member `at`, or of all members if `at` is `None`, in their order, finds the first
+    /// member at which the combined value is greater than `bound`, and returns it, in O(log n). The call writes nothing else. The call
+    /// returns `None` if the combined value of all these members is not greater than `bound`.
     ///
     /// # Errors
     ///
     /// [`Error::OutOfRange`] if there are fewer sums than places, or the place `at` is not below the table's length. [`Error::NotLinked`]
-    /// if the place `at` is not linked. [`Error::Broken`] if the sums of the tree are not right, or the root does not belong to this table.
+    /// if the place `at` is not linked. [`Error::Broken`] if the sums of the tree are wrong, or the root is not linked in this table.
     #[inline]
     pub fn sums_find(
         &self,
@@ -260,8 +262,8 @@ impl Tree {
     /// # Errors
     ///
     /// [`Error::Null`] if the place `at` is `u32::MAX`. [`Error::OutOfRange`] if there are fewer sums than places, or the place `at` is not
-    /// below the table's length. [`Error::NotLinked`] if the place `at` is not linked. [`Error::Broken`] if the links lead from `at` to no
-    /// root.
+    /// below the table's length. [`Error::NotLinked`] if the place `at` is not linked. [`Error::Broken`] if the links from `at` upwards
+    /// lead to no root.
     #[inline]
     pub fn sums_before(table: &[Link3], sums: &[Sum], kind: SumKind, at: u32) -> Result<u64, Error> {
         let (links, places) = Link3::read_parts(table);
@@ -273,14 +275,14 @@ impl Tree {
 
     /// Finds the first member after the member `at`, or the first of all members if `at` is `None`, whose interval overlaps the interval
     /// that begins at `from` and ends before `to`, and returns it, in O(log n). The interval of a member begins at its key and ends before
-    /// its value. The sums must be those of [`SumKind::Greatest`], and the keys must not decrease from one member to the next. The call
-    /// writes nothing else. It returns `None` if no member after `at` has such an interval.
+    /// its value. The sums must have been made with [`SumKind::Greatest`], and the members must be sorted by keys. The call writes nothing
+    /// else. The call returns `None` if none of these members has such an interval.
     ///
     /// # Errors
     ///
     /// [`Error::OutOfRange`] if there are fewer keys than places, or there are fewer sums than places, or the place `at` is not below the
-    /// table's length. [`Error::NotLinked`] if the place `at` is not linked. [`Error::Broken`] if the sums of the tree are not right, or
-    /// the root does not belong to this table.
+    /// table's length. [`Error::NotLinked`] if the place `at` is not linked. [`Error::Broken`] if the sums of the tree are wrong, or the
+    /// root is not linked in this table.
     #[inline]
     pub fn sums_overlap(
         &self,

@@ -9,8 +9,9 @@ use ic_sys::*;
 
 /// A red-black tree over a table of [`Link3`].
 ///
-/// It is good for timers, priorities and indices: objects in order, which you insert and remove anywhere, and search for. You order the
-/// members in one of two ways. By a number each, in a slice of your own, where `keys[place]` is a place's key:
+/// A tree is good for timers, priorities and indices: for objects in an order, which you insert and remove anywhere, and search for. You order
+/// the members in one of two ways. You can give each place a number as its key, in a slice of your own, where `keys[place]` is the key of
+/// `place`:
 ///
 /// ```
 /// use ic::{Error, Link3, Tree};
@@ -27,8 +28,8 @@ use ic_sys::*;
 /// # Ok::<(), Error>(())
 /// ```
 ///
-/// Or by any comparison of yours, which you hand to [`insert_by`](Self::insert_by). You can also go down from the root to where the place belongs, and
-/// insert it there:
+/// Or you can pass a comparison of your own to [`insert_by`](Self::insert_by). You can also descend from the root yourself to the member under
+/// which you insert the place:
 ///
 /// ```
 /// use ic::{Error, Link3, Tree};
@@ -72,7 +73,8 @@ use ic_sys::*;
 /// # Ok::<(), Error>(())
 /// ```
 ///
-/// n is how many members there are. If you drop the tree, its members stay linked. A clone of the tree belongs to a clone of the table.
+/// In the costs, n is the number of members. If you drop the tree, its members stay linked. Use a clone of the tree only with a clone of the
+/// table.
 #[repr(transparent)]
 #[derive(Clone, Default, PartialEq, Eq)]
 pub struct Tree(pub(crate) ic_tree);
@@ -85,15 +87,15 @@ impl Tree {
         Tree(ic_tree { root: 0 })
     }
 
-    /// Returns the tree that has these words, which may be any. They may come from a file: [`check`](Self::check) says whether a table
-    /// holds it.
+    /// Returns the tree with these words, which may have any values, for example from a file. [`check`](Self::check) says whether the words of
+    /// the tree and of its table form a tree.
     #[inline]
     #[must_use]
     pub const fn from_words([root]: [u64; 1]) -> Tree {
         Tree(ic_tree { root })
     }
 
-    /// Returns the words of the tree, to be written to a file. They hold no addresses.
+    /// Returns the words of the tree, for example to write them to a file. They contain no addresses.
     #[inline]
     #[must_use]
     pub const fn words(&self) -> [u64; 1] {
@@ -114,29 +116,29 @@ impl Tree {
         place(self.0.root)
     }
 
-    /// Returns the left child of the member `at`, in O(1). It returns `None` if there is none, if `at` is not linked or is not in the
-    /// table, and if the link there leads out of the table. So do [`right`](Self::right) and [`parent`](Self::parent).
+    /// Returns the left child of the member `at`, in O(1). It returns `None` if there is none, if `at` is not linked or is not in the table,
+    /// and if the link of `at` leads out of the table.
     #[inline]
     #[must_use]
     pub fn left(&self, table: &[Link3], at: u32) -> Option<u32> {
         read(table, at, Link3::left)
     }
 
-    /// Returns the right child of the member `at`, in O(1).
+    /// Returns the right child of the member `at`, in O(1), or `None` as [`left`](Self::left) does.
     #[inline]
     #[must_use]
     pub fn right(&self, table: &[Link3], at: u32) -> Option<u32> {
         read(table, at, Link3::right)
     }
 
-    /// Returns the parent of the member `at`, in O(1).
+    /// Returns the parent of the member `at`, in O(1), or `None` as [`left`](Self::left) does.
     #[inline]
     #[must_use]
     pub fn parent(&self, table: &[Link3], at: u32) -> Option<u32> {
         read(table, at, Link3::parent)
     }
 
-    // tools/c-calls --write writes from here: tree
+    // Made by tools/c-calls --write: tree
     /// Inserts `place` as the left child of the member `at`, which must have no left child, and balances the tree, in O(log n). So `place`
     /// comes directly before `at` in the order of the members. If `at` is `None`, the tree has to be empty, and `place` becomes its root.
     ///
@@ -144,7 +146,7 @@ impl Tree {
     ///
     /// [`Error::OutOfRange`] if `at` or `place` is not below the table's length. [`Error::Linked`] if `place` is linked already.
     /// [`Error::NotLinked`] if the place `at` is not linked. [`Error::Broken`] if `at` has a left child, or `at` is `None` and the tree has
-    /// members, or the root does not belong to this table.
+    /// members, or the root is not linked in this table.
     #[inline]
     pub fn insert_left(&mut self, table: &mut [Link3], at: Option<u32>, place: u32) -> Result<(), Error> {
         let (links, places) = Link3::parts(table);
@@ -160,7 +162,7 @@ impl Tree {
     ///
     /// [`Error::OutOfRange`] if `at` or `place` is not below the table's length. [`Error::Linked`] if `place` is linked already.
     /// [`Error::NotLinked`] if the place `at` is not linked. [`Error::Broken`] if `at` has a right child, or `at` is `None` and the tree
-    /// has members, or the root does not belong to this table.
+    /// has members, or the root is not linked in this table.
     #[inline]
     pub fn insert_right(&mut self, table: &mut [Link3], at: Option<u32>, place: u32) -> Result<(), Error> {
         let (links, places) = Link3::parts(table);
@@ -173,7 +175,8 @@ impl Tree {
     /// # Errors
     ///
     /// [`Error::Null`] if the place `at` is `u32::MAX`. [`Error::OutOfRange`] if the place `at` is not below the table's length.
-    /// [`Error::NotLinked`] if the place `at` is not linked. [`Error::Broken`] if the root does not belong to this table.
+    /// [`Error::NotLinked`] if the place `at` is not linked. [`Error::Broken`] if the root is not linked in this table, or `at` is the root
+    /// of another tree.
     #[inline]
     pub fn remove(&mut self, table: &mut [Link3], at: u32) -> Result<(), Error> {
         let (links, places) = Link3::parts(table);
@@ -181,14 +184,14 @@ impl Tree {
         done(unsafe { ic_tree_remove(links, places, &mut self.0, at) })
     }
 
-    /// Removes the member `at`, and inserts `place` where it was, in O(1). The call compares no keys, so pass a place that belongs at this
-    /// position.
+    /// Removes the member `at`, and inserts `place` where it was, in O(1). The call compares no keys, so pass a place that comes between
+    /// the neighbors of `at` in the order of the keys.
     ///
     /// # Errors
     ///
     /// [`Error::Null`] if the place `at` is `u32::MAX`. [`Error::OutOfRange`] if `at` or `place` is not below the table's length.
-    /// [`Error::Linked`] if `place` is linked already, also if `at` and `place` are the same. [`Error::NotLinked`] if the place `at` is not
-    /// linked. [`Error::Broken`] if the root does not belong to this table.
+    /// [`Error::Linked`] if `place` is linked already, or is `at` itself. [`Error::NotLinked`] if the place `at` is not linked.
+    /// [`Error::Broken`] if the root is not linked in this table, or `at` is the root of another tree.
     #[inline]
     pub fn replace(&mut self, table: &mut [Link3], at: u32, place: u32) -> Result<(), Error> {
         let (links, places) = Link3::parts(table);
@@ -196,13 +199,13 @@ impl Tree {
         done(unsafe { ic_tree_replace(links, places, &mut self.0, at, place) })
     }
 
-    /// Moves all members of `given`, in their order, after those of this tree, and leaves `given` empty, in O(n). The call compares no
-    /// keys, so pass as `given` a tree whose keys all come after the keys of this tree. It checks both trees first. In Rattle, where types
-    /// vouch for the links, this takes O(log n).
+    /// Moves all members of `given`, in their order, after the members of this tree, and leaves `given` empty, in O(n). The call compares
+    /// no keys, so pass as `given` a tree whose keys all come after the keys of this tree. The call takes O(n) because it checks both trees
+    /// first. In Rattle, the language of this library, types guarantee that the links form a tree, and the same call takes O(log n).
     ///
     /// # Errors
     ///
-    /// [`Error::Broken`] if the links form no red-black tree from one of the two roots on, or both trees have the same root.
+    /// [`Error::Broken`] if the links below one of the two roots form no red-black tree, or both trees have the same root.
     #[inline]
     pub fn append(&mut self, table: &mut [Link3], given: &mut Tree) -> Result<(), Error> {
         let (links, places) = Link3::parts(table);
@@ -210,14 +213,14 @@ impl Tree {
         done(unsafe { ic_tree_append(links, places, &mut self.0, &mut given.0) })
     }
 
-    /// Inserts `place` after all members of this tree, moves all members of `given`, in their order, after the place, and leaves `given`
-    /// empty, in O(n). The call compares no keys, and checks both trees first. In Rattle, where types vouch for the links, this takes O(log
-    /// n).
+    /// Inserts `place` after all members of this tree, moves all members of `given`, in their order, after `place`, and leaves `given`
+    /// empty, in O(n). The call compares no keys. The call takes O(n) because it checks both trees first. In Rattle, the language of this
+    /// library, types guarantee that the links form a tree, and the same call takes O(log n).
     ///
     /// # Errors
     ///
     /// [`Error::OutOfRange`] if `place` is not below the table's length. [`Error::Linked`] if `place` is linked already. [`Error::Broken`]
-    /// if the links form no red-black tree from one of the two roots on, or both trees have the same root.
+    /// if the links below one of the two roots form no red-black tree, or both trees have the same root.
     #[inline]
     pub fn join(&mut self, table: &mut [Link3], place: u32, given: &mut Tree) -> Result<(), Error> {
         let (links, places) = Link3::parts(table);
@@ -229,8 +232,8 @@ impl Tree {
     ///
     /// # Errors
     ///
-    /// [`Error::Broken`] if the root does not belong to this table, or a walk from the first member on comes to a place that is not linked,
-    /// or to no end within as many steps as the table has places.
+    /// [`Error::Broken`] if the root is not linked in this table, or a walk from the first member on goes in a circle, or comes to a place
+    /// that is not linked in this table.
     #[inline]
     pub fn clear(&mut self, table: &mut [Link3]) -> Result<(), Error> {
         let (links, places) = Link3::parts(table);
@@ -238,14 +241,15 @@ impl Tree {
         done(unsafe { ic_tree_clear(links, places, &mut self.0) })
     }
 
-    /// Moves the member `at` and all members after it to a new tree, which it returns, in O(n). The call checks the tree first. In Rattle,
-    /// where types vouch for the links, this takes O(log n).
+    /// Moves the member `at` and all members after it to a new tree, which the call returns, in O(n). The call takes O(n) because it checks
+    /// the tree first. In Rattle, the language of this library, types guarantee that the links form a tree, and the same call takes O(log
+    /// n).
     ///
     /// # Errors
     ///
     /// [`Error::Null`] if the place `at` is `u32::MAX`. [`Error::OutOfRange`] if the place `at` is not below the table's length.
-    /// [`Error::NotLinked`] if the place `at` is not linked. [`Error::Broken`] if the links form no red-black tree from the root on, or
-    /// `at` is no member of the tree.
+    /// [`Error::NotLinked`] if the place `at` is not linked. [`Error::Broken`] if the links below the root form no red-black tree, or `at`
+    /// is no member of the tree.
     #[inline]
     pub fn split(&mut self, table: &mut [Link3], at: u32) -> Result<Tree, Error> {
         let ((links, places), mut rest) = (Link3::parts(table), Tree::new());
@@ -254,10 +258,10 @@ impl Tree {
         Ok(rest)
     }
 
-    /// Counts the members, and returns how many there are, in O(n). Call it if the words come from a file, or from memory that others
-    /// write. If it returns a number, every other call on this tree does what the comment of that call says. The check reads no keys. It is
-    /// recursive, to a depth of at most 67 calls. It returns `None` if the links form no red-black tree from the root on, because a parent,
-    /// a color or a child is wrong.
+    /// Counts the members, and returns how many there are, in O(n). Make this call if the words come from a file, or from memory that
+    /// others write. If the call returns a number, every other call on this tree does what its own comment says. The call reads no keys,
+    /// and is recursive, to a depth of at most 67 calls. The call returns `None` if the links below the root form no red-black tree,
+    /// because a parent, a color or a child is wrong.
     #[inline]
     #[must_use]
     pub fn check(&self, table: &[Link3]) -> Option<u64> {
@@ -268,18 +272,19 @@ impl Tree {
     // to here
 }
 
-/// Trees by keys. A key is the number at the place's index, and there has to be one for each place. The least comes first.
+/// Trees by keys. The key of `place` is the number `keys[place]`, so there must be a key for each place. A smaller key comes before a greater
+/// one.
 ///
-/// A member's key must not change. The searches are for trees whose members are in order by their keys. In others they find some member
-/// or none.
+/// The key of a member must not change. A search requires a tree whose members are sorted by keys. In another tree a search may find a wrong
+/// member or none.
 impl Tree {
-    // tools/c-calls --write writes from here: tree-keys
+    // Made by tools/c-calls --write: tree-keys
     /// Inserts `place` by its key, after all members whose keys are not greater than `keys[place]`, in O(log n).
     ///
     /// # Errors
     ///
     /// [`Error::OutOfRange`] if there are fewer keys than places, or `place` is not below the table's length. [`Error::Linked`] if `place`
-    /// is linked already. [`Error::Broken`] if the root does not belong to this table.
+    /// is linked already. [`Error::Broken`] if the root is not linked in this table.
     #[inline]
     pub fn insert(&mut self, table: &mut [Link3], keys: &[u64], place: u32) -> Result<(), Error> {
         let (links, places) = Link3::parts(table);
@@ -287,11 +292,11 @@ impl Tree {
         done(unsafe { ic_tree_insert(links, places, keys.as_ptr(), keys.len(), &mut self.0, place) })
     }
 
-    /// Finds the first member whose key is `key`, and returns it, in O(log n). It returns `None` if there is no such member.
+    /// Finds the first member whose key is `key`, and returns it, in O(log n). The call returns `None` if no member has this key.
     ///
     /// # Errors
     ///
-    /// [`Error::OutOfRange`] if there are fewer keys than places. [`Error::Broken`] if the root does not belong to this table.
+    /// [`Error::OutOfRange`] if there are fewer keys than places. [`Error::Broken`] if the root is not linked in this table.
     #[inline]
     pub fn find(&self, table: &[Link3], keys: &[u64], key: u64) -> Result<Option<u32>, Error> {
         let (links, places) = Link3::read_parts(table);
@@ -299,11 +304,12 @@ impl Tree {
         handed_out(|it| unsafe { ic_tree_find(links, places, keys.as_ptr(), keys.len(), &self.0, key, it) })
     }
 
-    /// Finds the first member whose key is not less than `key`, and returns it, in O(log n). It returns `None` if there is no such member.
+    /// Finds the first member whose key is not less than `key`, and returns it, in O(log n). The call returns `None` if no member has such
+    /// a key.
     ///
     /// # Errors
     ///
-    /// [`Error::OutOfRange`] if there are fewer keys than places. [`Error::Broken`] if the root does not belong to this table.
+    /// [`Error::OutOfRange`] if there are fewer keys than places. [`Error::Broken`] if the root is not linked in this table.
     #[inline]
     pub fn lower_bound(&self, table: &[Link3], keys: &[u64], key: u64) -> Result<Option<u32>, Error> {
         let (links, places) = Link3::read_parts(table);
@@ -312,13 +318,13 @@ impl Tree {
     }
 
     /// Finds the LAST member whose key is NOT GREATER than `key`, and returns it, in O(log n). The upper_bound of C++ finds another member,
-    /// the first one whose key is greater. Both bounds have their names from the Rust crate intrusive-collections. If there are members
-    /// with keys from `low` to `high`, the lower bound of `low` is the first of them, and the upper bound of `high` is the last. It returns
-    /// `None` if there is no such member.
+    /// the first one whose key is greater. The lower and the upper bound have their names from the Rust crate intrusive-collections. If
+    /// members have keys from `low` to `high`, the lower bound of `low` is the first of these members, and the upper bound of `high` is the
+    /// last. The call returns `None` if no member has such a key.
     ///
     /// # Errors
     ///
-    /// [`Error::OutOfRange`] if there are fewer keys than places. [`Error::Broken`] if the root does not belong to this table.
+    /// [`Error::OutOfRange`] if there are fewer keys than places. [`Error::Broken`] if the root is not linked in this table.
     #[inline]
     pub fn upper_bound(&self, table: &[Link3], keys: &[u64], key: u64) -> Result<Option<u32>, Error> {
         let (links, places) = Link3::read_parts(table);
@@ -334,7 +340,7 @@ impl Tree {
     ///
     /// # Errors
     ///
-    /// [`Error::Broken`] if the root does not belong to this table.
+    /// [`Error::Broken`] if the root is not linked in this table.
     #[inline]
     pub fn first(&self, table: &[Link3]) -> Result<Option<u32>, Error> {
         Tree::next(self, table, None)
@@ -344,20 +350,20 @@ impl Tree {
     ///
     /// # Errors
     ///
-    /// [`Error::Broken`] if the root does not belong to this table.
+    /// [`Error::Broken`] if the root is not linked in this table.
     #[inline]
     pub fn last(&self, table: &[Link3]) -> Result<Option<u32>, Error> {
         Tree::prev(self, table, None)
     }
 
-    // tools/c-calls --write writes from here: tree-steps tree-ends
-    /// Finds the member after the member `at`, or the first member if `at` is `None`, and returns it, in O(log n). It returns `None` if
-    /// `at` is the last member, or the tree is empty.
+    // Made by tools/c-calls --write: tree-steps tree-ends
+    /// Finds the member after the member `at`, or the first member if `at` is `None`, and returns it, in O(log n). The call returns `None`
+    /// if `at` is the last member, or the tree is empty.
     ///
     /// # Errors
     ///
     /// [`Error::OutOfRange`] if the place `at` is not below the table's length. [`Error::NotLinked`] if the place `at` is not linked.
-    /// [`Error::Broken`] if the root does not belong to this table.
+    /// [`Error::Broken`] if the root is not linked in this table.
     #[inline]
     pub fn next(&self, table: &[Link3], at: Option<u32>) -> Result<Option<u32>, Error> {
         let (links, places) = Link3::read_parts(table);
@@ -365,13 +371,13 @@ impl Tree {
         handed_out(|it| unsafe { ic_tree_next(links, places, &self.0, number(at), it) })
     }
 
-    /// Finds the member before the member `at`, or the last member if `at` is `None`, and returns it, in O(log n). It returns `None` if
-    /// `at` is the first member, or the tree is empty.
+    /// Finds the member before the member `at`, or the last member if `at` is `None`, and returns it, in O(log n). The call returns `None`
+    /// if `at` is the first member, or the tree is empty.
     ///
     /// # Errors
     ///
     /// [`Error::OutOfRange`] if the place `at` is not below the table's length. [`Error::NotLinked`] if the place `at` is not linked.
-    /// [`Error::Broken`] if the root does not belong to this table.
+    /// [`Error::Broken`] if the root is not linked in this table.
     #[inline]
     pub fn prev(&self, table: &[Link3], at: Option<u32>) -> Result<Option<u32>, Error> {
         let (links, places) = Link3::read_parts(table);
@@ -379,13 +385,13 @@ impl Tree {
         handed_out(|it| unsafe { ic_tree_prev(links, places, &self.0, number(at), it) })
     }
 
-    /// Inserts `place` by its key, after all members whose keys are not greater than `keys[place]`, and keeps the ends of the tree, in
+    /// Inserts `place` by its key, after all members whose keys are not greater than `keys[place]`, and updates the ends of the tree, in
     /// O(log n).
     ///
     /// # Errors
     ///
     /// [`Error::OutOfRange`] if there are fewer keys than places, or `place` is not below the table's length. [`Error::Linked`] if `place`
-    /// is linked already. [`Error::Broken`] if the root does not belong to this table.
+    /// is linked already. [`Error::Broken`] if the root is not linked in this table.
     #[inline]
     pub fn ends_insert(
         &mut self,
@@ -399,13 +405,13 @@ impl Tree {
         done(unsafe { ic_tree_ends_insert(links, places, keys.as_ptr(), keys.len(), &mut self.0, &mut ends.0, place) })
     }
 
-    /// Inserts `place` as ic_tree_insert_left does, and keeps the ends of the tree, in O(log n).
+    /// Inserts `place` as ic_tree_insert_left does, and updates the ends of the tree, in O(log n).
     ///
     /// # Errors
     ///
     /// [`Error::OutOfRange`] if `at` or `place` is not below the table's length. [`Error::Linked`] if `place` is linked already.
     /// [`Error::NotLinked`] if the place `at` is not linked. [`Error::Broken`] if `at` has a left child, or `at` is `None` and the tree has
-    /// members, or the root does not belong to this table.
+    /// members, or the root is not linked in this table.
     #[inline]
     pub fn ends_insert_left(
         &mut self,
@@ -419,13 +425,13 @@ impl Tree {
         done(unsafe { ic_tree_ends_insert_left(links, places, &mut self.0, &mut ends.0, number(at), place) })
     }
 
-    /// Inserts `place` as ic_tree_insert_right does, and keeps the ends of the tree, in O(log n).
+    /// Inserts `place` as ic_tree_insert_right does, and updates the ends of the tree, in O(log n).
     ///
     /// # Errors
     ///
     /// [`Error::OutOfRange`] if `at` or `place` is not below the table's length. [`Error::Linked`] if `place` is linked already.
     /// [`Error::NotLinked`] if the place `at` is not linked. [`Error::Broken`] if `at` has a right child, or `at` is `None` and the tree
-    /// has members, or the root does not belong to this table.
+    /// has members, or the root is not linked in this table.
     #[inline]
     pub fn ends_insert_right(
         &mut self,
@@ -439,14 +445,13 @@ impl Tree {
         done(unsafe { ic_tree_ends_insert_right(links, places, &mut self.0, &mut ends.0, number(at), place) })
     }
 
-    /// Removes the member `at`, in O(log n). If `at` is the first or the last member of the tree, the member next to it takes over as that
-    /// end.
+    /// Removes the member `at`, in O(log n). If `at` is the first or the last member, the ends of the tree then name its neighbor instead.
     ///
     /// # Errors
     ///
     /// [`Error::Null`] if the place `at` is `u32::MAX`. [`Error::OutOfRange`] if the place `at` is not below the table's length.
-    /// [`Error::NotLinked`] if the place `at` is not linked. [`Error::Broken`] if the root does not belong to this table, or `at` is an
-    /// end, and the links lead from it to a place that is not linked, or to `at` itself.
+    /// [`Error::NotLinked`] if the place `at` is not linked. [`Error::Broken`] if the root is not linked in this table, or `at` is the root
+    /// of another tree, or `at` is an end, and the links lead from `at` to a place that is not linked, or back to `at`.
     #[inline]
     pub fn ends_remove(&mut self, table: &mut [Link3], ends: &mut TreeEnds, at: u32) -> Result<(), Error> {
         let (links, places) = Link3::parts(table);
@@ -454,14 +459,15 @@ impl Tree {
         done(unsafe { ic_tree_ends_remove(links, places, &mut self.0, &mut ends.0, at) })
     }
 
-    /// Removes the member `at`, and inserts `place` where it was, in O(1). If `at` was the first or the last member of the tree, `place`
-    /// takes over as that end. The call compares no keys, so pass a place that belongs at this position.
+    /// Removes the member `at`, and inserts `place` where it was, in O(1). If `at` is the first or the last member, the ends of the tree
+    /// then name `place` instead. The call compares no keys, so pass a place that comes between the neighbors of `at` in the order of the
+    /// keys.
     ///
     /// # Errors
     ///
     /// [`Error::Null`] if the place `at` is `u32::MAX`. [`Error::OutOfRange`] if `at` or `place` is not below the table's length.
-    /// [`Error::Linked`] if `place` is linked already, also if `at` and `place` are the same. [`Error::NotLinked`] if the place `at` is not
-    /// linked. [`Error::Broken`] if the root does not belong to this table.
+    /// [`Error::Linked`] if `place` is linked already, or is `at` itself. [`Error::NotLinked`] if the place `at` is not linked.
+    /// [`Error::Broken`] if the root is not linked in this table, or `at` is the root of another tree.
     #[inline]
     pub fn ends_replace(&mut self, table: &mut [Link3], ends: &mut TreeEnds, at: u32, place: u32) -> Result<(), Error> {
         let (links, places) = Link3::parts(table);
@@ -469,12 +475,12 @@ impl Tree {
         done(unsafe { ic_tree_ends_replace(links, places, &mut self.0, &mut ends.0, at, place) })
     }
 
-    /// Removes the first member, and returns it, in O(log n). The call finds this member in `ends`, and the next member in constant time on
-    /// average, so it serves timers and schedulers. It returns `None` if `ends` says that the tree is empty.
+    /// Removes the first member, and returns it, in O(log n). The call reads this member from `ends`, and finds the next member in O(1) on
+    /// average, which is good for timers and schedulers. The call returns `None` if `ends` names no first member.
     ///
     /// # Errors
     ///
-    /// [`Error::Broken`] if the root or the first member does not belong to this table, or the links lead from the first member to a place
+    /// [`Error::Broken`] if the root or the first member is not linked in this table, or the links lead from the first member to a place
     /// that is not linked, or back to the first member.
     #[inline]
     pub fn ends_pop_first(&mut self, table: &mut [Link3], ends: &mut TreeEnds) -> Result<Option<u32>, Error> {
@@ -485,9 +491,10 @@ impl Tree {
     // to here
 }
 
-/// The first and the last member of a tree, for the calls of a [`Tree`] that keep them.
+/// The ends of a tree, which name the first and the last member. The calls `ends_...` of a [`Tree`] read and update them.
 ///
-/// With them the first one, such as the next timer, is found in O(1). Edit such a tree by these calls alone, since the others leave the ends as they are:
+/// With its ends, you find the first member of a tree, such as the next timer, in O(1). Edit such a tree only by the calls `ends_...`, since
+/// all other calls leave the ends as they are:
 ///
 /// ```
 /// use ic::{Error, Link3, Tree, TreeEnds};
@@ -504,7 +511,7 @@ impl Tree {
 /// # Ok::<(), Error>(())
 /// ```
 ///
-/// After [`Tree::clear`] begin with new ones.
+/// After [`Tree::clear`] make new ends with [`TreeEnds::new`].
 #[repr(transparent)]
 #[derive(Clone, Default, PartialEq, Eq)]
 pub struct TreeEnds(ic_tree_ends);
@@ -517,28 +524,29 @@ impl TreeEnds {
         TreeEnds(ic_tree_ends { first: 0, last: 0 })
     }
 
-    /// Returns the ends that have these words, which may be any.
+    /// Returns the ends with these words, which may have any values.
     #[inline]
     #[must_use]
     pub const fn from_words([first, last]: [u64; 2]) -> TreeEnds {
         TreeEnds(ic_tree_ends { first, last })
     }
 
-    /// Returns the words of the ends, to be written to a file. They hold no addresses.
+    /// Returns the words of the ends, for example to write them to a file. They contain no addresses.
     #[inline]
     #[must_use]
     pub const fn words(&self) -> [u64; 2] {
         [self.0.first, self.0.last]
     }
 
-    /// Returns the first member of the tree, in O(1). It returns `None` if there is none, or if it is no linked place of the table.
+    /// Returns the first member of the tree, in O(1). It returns `None` if there is no member, or if the first member is not linked in the
+    /// table.
     #[inline]
     #[must_use]
     pub fn first(&self, table: &[Link3]) -> Option<u32> {
         member(table, place(self.0.first))
     }
 
-    /// Returns the last member of the tree, in O(1). It returns `None` if [`first`](Self::first) does.
+    /// Returns the last member of the tree, in O(1). It returns `None` if there is no member, or if the last member is not linked in the table.
     #[inline]
     #[must_use]
     pub fn last(&self, table: &[Link3]) -> Option<u32> {
@@ -562,7 +570,8 @@ impl fmt::Debug for Tree {
     }
 }
 
-// These calls insert a place beside a member as its child, if it has none on that side. If it has one, its neighbor on that side has none.
+// The calls `insert_after` and `insert_before` insert a place as the child of the member on this side, if the member has none there. Otherwise
+// the member's neighbor on this side has no child on the opposite side, and the place becomes this child.
 impl Collection for Tree {
     type Link = Link3;
     type Position = Option<u32>;

@@ -1,4 +1,4 @@
-//! What reads: a list or tree with its table, and the iterator over its members.
+//! This module has views, which are a list or tree with its table, and the iterator over the members.
 
 use crate::collection::{Bidirectional, Collection, Position};
 use crate::link::member;
@@ -7,7 +7,8 @@ use core::iter::FusedIterator;
 
 /// A list or tree together with its table of links, both borrowed for reading.
 ///
-/// A list or tree does not hold its table, so it cannot be printed or iterated over alone. Its call `view` makes a view, where `C` is its type.
+/// A list or tree does not contain its table, so you cannot print it, or iterate over it, without the table. The call `view` of a list or tree
+/// of the type `C` makes a view.
 ///
 /// ```
 /// use ic::{Link1, Stack};
@@ -41,9 +42,9 @@ impl<'a, C: Collection> View<'a, C> {
         self.collection.next(self.table, at)
     }
 
-    /// Iterates over the members, in order, which takes O(n) for all, and O(1) for each of a list.
+    /// Iterates over the members, in order. This takes O(n) for all members, and in a list O(1) for each member.
     ///
-    /// Whatever the words say, it ends after as many members as the table has places.
+    /// Whatever the words are, the iterator ends after as many members as the table has places.
     #[inline]
     pub fn iter(&self) -> Iter<'a, C> {
         let (front, back) = (self.next(C::Position::NULL), self.collection.end(self.table));
@@ -52,7 +53,7 @@ impl<'a, C: Collection> View<'a, C> {
 }
 
 impl<'a, C: Bidirectional> View<'a, C> {
-    /// The iterator from one position to another, both included.
+    /// Returns the iterator from `front` to `back`, both of which it visits.
     #[inline]
     pub(crate) fn between(self, front: C::Position, back: C::Position) -> Iter<'a, C> {
         Iter { view: self, front, back, left: self.table.len() }
@@ -99,9 +100,9 @@ impl<'a, C: Collection> IntoIterator for &View<'a, C> {
     }
 }
 
-/// An iterator over the members of a list or tree, in order. It goes from both ends, except in a [`Stack`](crate::Stack).
+/// An iterator over the members of a list or tree, in order. You can iterate from both ends, except in a [`Stack`](crate::Stack).
 ///
-/// It does not know how many members there are, and ends after as many as the table has places, whatever the words say.
+/// The iterator does not know how many members there are. Whatever the words are, it ends after as many members as the table has places.
 ///
 /// ```
 /// use ic::{Link2, List};
@@ -120,14 +121,14 @@ impl<'a, C: Collection> IntoIterator for &View<'a, C> {
 #[must_use = "iterators do nothing unless they are used"]
 pub struct Iter<'a, C: Collection> {
     view: View<'a, C>,
-    // The next member from each end, and how many may come still.
+    // The next members from the front and from the back, and how many members the iterator may still return.
     front: C::Position,
     back: C::Position,
     left: usize,
 }
 
 impl<C: Collection> Iter<'_, C> {
-    // Hands out the member at an end. At the last one, at none, and at a place that is not linked, it ends from both ends.
+    // Returns the member at an end. After the last member, and at a position without a linked member, the iterator ends in both directions.
     #[inline]
     fn hand_out(&mut self, end: C::Position) -> Option<u32> {
         let member = member(self.view.table, end.place().filter(|_| self.left > 0));

@@ -9,9 +9,10 @@ use ic_sys::*;
 
 /// An XOR list over a table of [`Link1`].
 ///
-/// It is good for lists that you use at both ends and walk both ways, if memory is scarce. The link of a member does not name its neighbors one by
-/// one, so you name a gap by both members beside it: `before` is the member before the gap, or `None` at the front, and `after` is the member after
-/// the gap, or `None` at the back. A [cursor](CursorMut) knows them:
+/// An XOR list is good if you use a list at both ends and walk in both directions, and memory is scarce. Calls insert into a gap, which is the
+/// position between two neighbors or at an end of the list. The link of a member does not name its two neighbors separately, so you name a gap
+/// by the members on both sides: `before` is the member before the gap, or `None` at the front, and `after` is the member after the gap, or
+/// `None` at the back. A [cursor](CursorMut) knows both members:
 ///
 /// ```
 /// use ic::{Error, Link1, XorList};
@@ -37,7 +38,7 @@ use ic_sys::*;
 /// # Ok::<(), Error>(())
 /// ```
 ///
-/// If you drop the list, its members stay linked. A clone of it belongs to a clone of the table.
+/// If you drop the list, its members stay linked. Use a clone of the list only with a clone of the table.
 #[repr(transparent)]
 #[derive(Clone, Default, PartialEq, Eq)]
 pub struct XorList(pub(crate) ic_xor_list);
@@ -50,14 +51,15 @@ impl XorList {
         XorList(ic_xor_list { head: 0, tail: 0 })
     }
 
-    /// Returns the list that has these words, which may be any. No call tells whether a table holds an XOR list.
+    /// Returns the list with these words, which may have any values. No call checks whether the words of the list and of its table form an XOR
+    /// list.
     #[inline]
     #[must_use]
     pub const fn from_words([head, tail]: [u64; 2]) -> XorList {
         XorList(ic_xor_list { head, tail })
     }
 
-    /// Returns the words of the list, to be written to a file. They hold no addresses.
+    /// Returns the words of the list, for example to write them to a file. They contain no addresses.
     #[inline]
     #[must_use]
     pub const fn words(&self) -> [u64; 2] {
@@ -85,21 +87,22 @@ impl XorList {
         place(self.0.tail)
     }
 
-    /// Returns the neighbor of the member `at` on the other side than its neighbor `from`, which is `None` at an end, in O(1). It returns
-    /// `None` if `at` is not linked or is not in the table, and if the link there leads out of the table.
+    /// Returns the neighbor of the member `at` that is not its neighbor `from`, in O(1). At an end of the list `from` is `None`. The call
+    /// returns `None` if there is no such neighbor, if `at` is not linked or is not in the table, and if the link of `at` leads out of the
+    /// table.
     #[inline]
     #[must_use]
     pub fn step(&self, table: &[Link1], from: Option<u32>, at: u32) -> Option<u32> {
         read(table, at, |link: &Link1| link.step(from))
     }
 
-    // tools/c-calls --write writes from here: xor
+    // Made by tools/c-calls --write: xor
     /// Inserts `place` at the front, in O(1).
     ///
     /// # Errors
     ///
     /// [`Error::OutOfRange`] if `place` is not below the table's length. [`Error::Linked`] if `place` is linked already. [`Error::Broken`]
-    /// if the first member does not belong to this table.
+    /// if the first member or the member after it is not linked in this table.
     #[inline]
     pub fn push_front(&mut self, table: &mut [Link1], place: u32) -> Result<(), Error> {
         let (links, places) = Link1::parts(table);
@@ -112,7 +115,7 @@ impl XorList {
     /// # Errors
     ///
     /// [`Error::OutOfRange`] if `place` is not below the table's length. [`Error::Linked`] if `place` is linked already. [`Error::Broken`]
-    /// if the last member does not belong to this table.
+    /// if the last member or the member before it is not linked in this table.
     #[inline]
     pub fn push_back(&mut self, table: &mut [Link1], place: u32) -> Result<(), Error> {
         let (links, places) = Link1::parts(table);
@@ -120,11 +123,11 @@ impl XorList {
         done(unsafe { ic_xor_push_back(links, places, &mut self.0, place) })
     }
 
-    /// Removes the first member, and returns it, in O(1). It returns `None` if the list is empty.
+    /// Removes the first member, and returns it, in O(1). The call returns `None` if the list is empty.
     ///
     /// # Errors
     ///
-    /// [`Error::Broken`] if the first member does not belong to this table.
+    /// [`Error::Broken`] if the first member or one of the two members after it is not linked in this table.
     #[inline]
     pub fn pop_front(&mut self, table: &mut [Link1]) -> Result<Option<u32>, Error> {
         let (links, places) = Link1::parts(table);
@@ -132,11 +135,11 @@ impl XorList {
         handed_out(|it| unsafe { ic_xor_pop_front(links, places, &mut self.0, it) })
     }
 
-    /// Removes the last member, and returns it, in O(1). It returns `None` if the list is empty.
+    /// Removes the last member, and returns it, in O(1). The call returns `None` if the list is empty.
     ///
     /// # Errors
     ///
-    /// [`Error::Broken`] if the last member does not belong to this table.
+    /// [`Error::Broken`] if the last member or one of the two members before it is not linked in this table.
     #[inline]
     pub fn pop_back(&mut self, table: &mut [Link1]) -> Result<Option<u32>, Error> {
         let (links, places) = Link1::parts(table);
@@ -150,7 +153,8 @@ impl XorList {
     /// # Errors
     ///
     /// [`Error::OutOfRange`] if `before`, `place` or `after` is not below the table's length. [`Error::Linked`] if `place` is linked
-    /// already. [`Error::NotLinked`] if `before` or `after` is not linked. [`Error::Broken`] if there is no such gap.
+    /// already. [`Error::NotLinked`] if `before` or `after` is not linked. [`Error::Broken`] if by their links, `before` and `after` are
+    /// not neighbors.
     #[inline]
     pub fn insert_between(
         &mut self,
@@ -164,7 +168,7 @@ impl XorList {
         done(unsafe { ic_xor_insert_between(links, places, &mut self.0, number(before), place, number(after)) })
     }
 
-    /// Removes the member `at`, in O(1). You also name the member before `at` as `before`, which is `None` if `at` is the first member.
+    /// Removes the member `at`, in O(1). Pass as `before` the member before `at`, or `None` if `at` is the first member.
     ///
     /// # Errors
     ///
@@ -178,14 +182,14 @@ impl XorList {
         done(unsafe { ic_xor_remove(links, places, &mut self.0, number(before), at) })
     }
 
-    /// Removes the member `at`, and inserts `place` where it was, in O(1). You also name the member before `at` as `before`, which is
-    /// `None` if `at` is the first member.
+    /// Removes the member `at`, and inserts `place` where it was, in O(1). Pass as `before` the member before `at`, or `None` if `at` is
+    /// the first member.
     ///
     /// # Errors
     ///
     /// [`Error::Null`] if the place `at` is `u32::MAX`. [`Error::OutOfRange`] if `before`, `at` or `place` is not below the table's length.
-    /// [`Error::Linked`] if `place` is linked already, also if `at` and `place` are the same. [`Error::NotLinked`] if `before` or `at` is
-    /// not linked. [`Error::Broken`] if `at` is no member of the list, or `before` is not the member before `at`.
+    /// [`Error::Linked`] if `place` is linked already, or is `at` itself. [`Error::NotLinked`] if `before` or `at` is not linked.
+    /// [`Error::Broken`] if `at` is no member of the list, or `before` is not the member before `at`.
     #[inline]
     pub fn replace(&mut self, table: &mut [Link1], before: Option<u32>, at: u32, place: u32) -> Result<(), Error> {
         let (links, places) = Link1::parts(table);
@@ -193,14 +197,14 @@ impl XorList {
         done(unsafe { ic_xor_replace(links, places, &mut self.0, number(before), at, place) })
     }
 
-    /// Moves all members of `given`, in their order, into the gap between the members `before` and `after`, which are `None` beyond an end,
-    /// and leaves `given` empty, in O(1).
+    /// Moves all members of `given`, in their order, between the neighbors `before` and `after`, and leaves `given` empty, in O(1). Pass
+    /// `None` as `before` to move the members to the front, and `None` as `after` to move the members to the back.
     ///
     /// # Errors
     ///
     /// [`Error::OutOfRange`] if `before` or `after` is not below the table's length. [`Error::NotLinked`] if `before` or `after` is not
-    /// linked. [`Error::Broken`] if there is no such gap, or `given` is no list of this table, or both lists begin with the same member, as
-    /// a list and its copy do.
+    /// linked. [`Error::Broken`] if by their links, `before` and `after` are not neighbors, or `given` is no list of this table, or both
+    /// lists begin with the same member, as a list and its copy do.
     #[inline]
     pub fn splice_between(
         &mut self,
@@ -218,8 +222,8 @@ impl XorList {
     ///
     /// # Errors
     ///
-    /// [`Error::Broken`] if an end of one of the lists does not belong to this table, or both lists begin with the same member, as a list
-    /// and its copy do.
+    /// [`Error::Broken`] if the last member of this list, the first or the last member of `given`, or the neighbor of one of these members
+    /// is not linked in this table, or both lists begin with the same member, as a list and its copy do.
     #[inline]
     pub fn append(&mut self, table: &mut [Link1], given: &mut XorList) -> Result<(), Error> {
         let (links, places) = Link1::parts(table);
@@ -227,13 +231,13 @@ impl XorList {
         done(unsafe { ic_xor_append(links, places, &mut self.0, &mut given.0) })
     }
 
-    /// Inserts the `count` places `first`, `first` + 1 and so on at the back, in rising order, in O(count). The call changes nothing if
-    /// `count` is 0.
+    /// Inserts the `count` places `first`, `first` + 1 and so on at the back, in rising order, in O(count). If `count` is 0, the call
+    /// changes nothing.
     ///
     /// # Errors
     ///
-    /// [`Error::OutOfRange`] if the first of these places that the call refuses is not below the table's length. [`Error::Linked`] if the
-    /// first of these places that the call refuses is linked already. [`Error::Broken`] if the last member does not belong to this table.
+    /// [`Error::OutOfRange`] if none of these places is linked, but one is not below the table's length. [`Error::Linked`] if one of these
+    /// places is linked already. [`Error::Broken`] if the last member or the member before it is not linked in this table.
     #[inline]
     pub fn fill(&mut self, table: &mut [Link1], first: u32, count: u32) -> Result<(), Error> {
         let (links, places) = Link1::parts(table);
@@ -245,8 +249,7 @@ impl XorList {
     ///
     /// # Errors
     ///
-    /// [`Error::Broken`] if an end of the list does not belong to this table, or the links do not lead from one end to the other within as
-    /// many steps as the table has places.
+    /// [`Error::Broken`] if the links do not lead from the first member to the last through linked places of this table.
     #[inline]
     pub fn clear(&mut self, table: &mut [Link1]) -> Result<(), Error> {
         let (links, places) = Link1::parts(table);
@@ -254,13 +257,13 @@ impl XorList {
         done(unsafe { ic_xor_clear(links, places, &mut self.0) })
     }
 
-    /// Moves the member `after` and all members that follow it to a new list, which it returns, so that `before` becomes the last member,
-    /// in O(1). All members move if `before` is `None`, and no member moves if `after` is `None`.
+    /// Moves the member `after` and all members after it to a new list, which the call returns, so that its neighbor `before` becomes the
+    /// last member, in O(1). If `before` is `None`, all members move. If `after` is `None`, no member moves.
     ///
     /// # Errors
     ///
     /// [`Error::OutOfRange`] if `before` or `after` is not below the table's length. [`Error::NotLinked`] if `before` or `after` is not
-    /// linked. [`Error::Broken`] if there is no such gap.
+    /// linked. [`Error::Broken`] if by their links, `before` and `after` are not neighbors.
     #[inline]
     pub fn split_between(
         &mut self,
@@ -274,7 +277,7 @@ impl XorList {
         Ok(rest)
     }
 
-    /// Reverses the list, in O(1). The call reads and writes no table, and is never refused.
+    /// Reverses the list, in O(1). The call takes no table, and always succeeds.
     #[inline]
     pub fn reverse(&mut self) {
         // SAFETY: each pointer comes from a reference, with the length of its slice, and no mutable reference overlaps another one.
@@ -286,14 +289,15 @@ impl XorList {
 collection!(XorList, Link1);
 bidirectional!(XorList, Link1);
 
-/// Cursors on a member that is named with a neighbor.
+/// These calls make a cursor on a member, which you name together with a neighbor.
 impl XorList {
-    /// Returns a cursor on the member `place`, before which `prev` is, in O(1). The call cannot tell the members of this list from those of
-    /// another.
+    /// Returns a cursor on the member `place`, whose previous member is `prev`, in O(1). The call cannot detect whether `place` is a member of
+    /// another list.
     ///
     /// # Errors
     ///
-    /// [`Error::OutOfRange`] if `place` or `prev` is not below the table's length. [`Error::NotLinked`] if one of them is not linked.
+    /// [`Error::OutOfRange`] if `place` or `prev` is not below the table's length. [`Error::NotLinked`] if `place` or the neighbor is not
+    /// linked.
     #[inline]
     pub fn cursor_from_place_and_prev<'a>(
         &'a self,
@@ -305,12 +309,13 @@ impl XorList {
         Ok(Cursor::new(self, table, position))
     }
 
-    /// Returns a cursor on the member `place`, after which `next` is, in O(1). The call cannot tell the members of this list from those of
-    /// another.
+    /// Returns a cursor on the member `place`, whose next member is `next`, in O(1). The call cannot detect whether `place` is a member of
+    /// another list.
     ///
     /// # Errors
     ///
-    /// [`Error::OutOfRange`] if `place` or `next` is not below the table's length. [`Error::NotLinked`] if one of them is not linked.
+    /// [`Error::OutOfRange`] if `place` or `next` is not below the table's length. [`Error::NotLinked`] if `place` or the neighbor is not
+    /// linked.
     #[inline]
     pub fn cursor_from_place_and_next<'a>(
         &'a self,
@@ -322,12 +327,13 @@ impl XorList {
         Ok(Cursor::new(self, table, position))
     }
 
-    /// Returns a cursor on the member `place`, before which `prev` is, which edits, in O(1). The call cannot tell the members of this list
-    /// from those of another.
+    /// Returns a cursor that can edit, on the member `place`, whose previous member is `prev`, in O(1). The call cannot detect whether `place`
+    /// is a member of another list.
     ///
     /// # Errors
     ///
-    /// [`Error::OutOfRange`] if `place` or `prev` is not below the table's length. [`Error::NotLinked`] if one of them is not linked.
+    /// [`Error::OutOfRange`] if `place` or `prev` is not below the table's length. [`Error::NotLinked`] if `place` or the neighbor is not
+    /// linked.
     #[inline]
     pub fn cursor_mut_from_place_and_prev<'a>(
         &'a mut self,
@@ -339,12 +345,13 @@ impl XorList {
         Ok(CursorMut::new(self, table, position))
     }
 
-    /// Returns a cursor on the member `place`, after which `next` is, which edits, in O(1). The call cannot tell the members of this list
-    /// from those of another.
+    /// Returns a cursor that can edit, on the member `place`, whose next member is `next`, in O(1). The call cannot detect whether `place` is a
+    /// member of another list.
     ///
     /// # Errors
     ///
-    /// [`Error::OutOfRange`] if `place` or `next` is not below the table's length. [`Error::NotLinked`] if one of them is not linked.
+    /// [`Error::OutOfRange`] if `place` or `next` is not below the table's length. [`Error::NotLinked`] if `place` or the neighbor is not
+    /// linked.
     #[inline]
     pub fn cursor_mut_from_place_and_next<'a>(
         &'a mut self,
@@ -363,7 +370,7 @@ impl fmt::Debug for XorList {
     }
 }
 
-/// A position: the member, and the one before it. Both are none at no member.
+/// A position in an XOR list: a member `at`, and the member before it. At no member both are `None`.
 #[derive(Clone, Copy)]
 pub struct Beside {
     before: Option<u32>,
@@ -385,7 +392,7 @@ impl Beside {
         at.map_or(Beside::NULL, |_| Beside { before, at })
     }
 
-    // On a member whose neighbor before it is named. Both have to be linked.
+    // Returns the position of the member `at` whose previous member is `prev`. Both must be linked.
     #[inline]
     fn with_prev(table: &[Link1], at: u32, prev: Option<u32>) -> Result<Beside, Error> {
         linked(table, at)?;
@@ -393,7 +400,7 @@ impl Beside {
         Ok(Beside { before: prev, at: Some(at) })
     }
 
-    // On a member whose neighbor after it is named. Both have to be linked.
+    // Returns the position of the member `at` whose next member is `next`. Both must be linked.
     #[inline]
     fn with_next(table: &[Link1], at: u32, next: Option<u32>) -> Result<Beside, Error> {
         let facing = Beside::with_prev(table, at, next)?;
@@ -401,7 +408,7 @@ impl Beside {
     }
 }
 
-// The neighbor of a member on the other side than `from`.
+// Returns the neighbor of the member `at` that is not its neighbor `from`.
 #[inline]
 fn beyond(table: &[Link1], from: Option<u32>, at: u32) -> Option<u32> {
     read(table, at, |link: &Link1| link.step(from))

@@ -7,13 +7,14 @@ ghost use Rattle.ic_rbtree.specs.Kept.{IsEmptied, RepresentsKept, RepresentsKept
 ghost use Rattle.ic_rbtree.specs.Tree.{head_of, root_in};
 ghost use Rattle.ic_augmented.specs.Consistent.{RepresentsAugmented};
 ghost use Rattle.ic_augmented.specs.Augmented.{links_of, summaries_of};
+ghost use Rattle.ic_augmented.specs.AugmentedTables.{room_of};
 ghost use Rattle.collections_tests.specs.Ready.{IsReady};
 
 use crate::notes::assert_words;
 use crate::tree::trees::OwnKey;
 use ic_augmented::{
-    Augmented, Counts, Greatest, RecomputeSummaries, Summaries, first_greater, first_overlap,
-    index_of, len, nth, refresh, set_value,
+    Augmented, AugmentedTable, Counts, Greatest, RecomputeSummaries, Summarize, first_greater,
+    first_overlap, index_of, len, nth, refresh, set_value,
 };
 use ic_link_ops::rbtree::{self, RBTreeOps};
 use ic_rbtree::{Entry, RBTree, RefusedInsert, TreeHead};
@@ -22,10 +23,11 @@ use ic_test_support::notes::{Answer, Text};
 use ic_test_support::objects::{TENS, eight_objects, place_at, reference};
 use ic_unsafe_ref::{Objects, UnsafeRef};
 use std::alloc::Global;
+use std::marker::Model;
 use std::process::Abort;
 
 // The kinds of summaries that the tests use, each with what a test reads of a tree with such summaries.
-trait Readings: RecomputeSummaries {
+trait Readings: RecomputeSummaries + Drop {
     // Notes what the test reads of the summaries of this tree.
     fn note<E: TreeHead, L: RBTreeOps>(
         notes: &mut Text,
@@ -74,19 +76,6 @@ impl Readings for Greatest {
     }
 }
 
-// Updates the summaries, and notes what the test reads of them.
-fn write_summaries<E: TreeHead, L: RBTreeOps, M: Readings>(
-    notes: &mut Text,
-    tree: &RBTree<OwnKey, E>,
-    summed: &mut Augmented<L, M>,
-)
-    requires ready { IsReady E.kept L.node L.table M.summaries M.Covers tree.now summed.old }
-    ensures ready { IsReady E.kept L.node L.table M.summaries M.Covers tree.now summed.new }
-{
-    refresh(tree, summed);
-    M::note(notes, tree, summed);
-}
-
 /// Returns the member at this position. The test fails if the tree has no member there.
 pub(crate) fn member_at<E: TreeHead, L: RBTreeOps>(
     rt: &impl Abort,
@@ -102,23 +91,6 @@ pub(crate) fn member_at<E: TreeHead, L: RBTreeOps>(
         cursor.move_next();
     }
     UnsafeRef::new(cursor.get_ptr().expect(rt, "a member"))
-}
-
-// Inserts the object into the tree at the position of its key.
-fn put_by_key<E: TreeHead, L: RBTreeOps, M: RecomputeSummaries>(
-    rt: &impl Abort,
-    tree: &mut RBTree<OwnKey, E>,
-    summed: &mut Augmented<L, M>,
-    objects: &Objects<u64>,
-    object: UnsafeRef<u64>,
-)
-    requires few { index_of object < 8 }
-    requires placed { (q : Place) → index_of q < 8 → is_placed objects.now q ≡ true }
-    requires ready { IsReady E.kept L.node L.table M.summaries M.Covers tree.old summed.old }
-    ensures ready { IsReady E.kept L.node L.table M.summaries M.Covers tree.new summed.new }
-{
-    let inserted = tree.insert(summed, objects, object);
-    assert!(rt; inserted.is_ok());
 }
 
 // Inserts the object at the entry of its key, if no member has the key.
@@ -149,161 +121,6 @@ fn put_at_entry<E: TreeHead, L: RBTreeOps, M: RecomputeSummaries>(
     }
 }
 
-// Inserts the object at the position of its key, with the member at the given position as the hint.
-fn put_with_hint<E: TreeHead, L: RBTreeOps, M: RecomputeSummaries>(
-    rt: &impl Abort,
-    tree: &mut RBTree<OwnKey, E>,
-    summed: &mut Augmented<L, M>,
-    objects: &Objects<u64>,
-    position: usize,
-    object: UnsafeRef<u64>,
-)
-    requires few { index_of object < 8 }
-    requires placed { (q : Place) → index_of q < 8 → is_placed objects.now q ≡ true }
-    requires ready { IsReady E.kept L.node L.table M.summaries M.Covers tree.old summed.old }
-    ensures ready { IsReady E.kept L.node L.table M.summaries M.Covers tree.new summed.new }
-{
-    let hint = member_at(rt, &*tree, &*summed, position);
-    let inserted = tree.insert_with_hint(summed, objects, &hint, object);
-    assert!(rt; inserted.is_ok());
-}
-
-// Inserts the object before the member at the given position, by a cursor.
-fn put_before<E: TreeHead, L: RBTreeOps, M: RecomputeSummaries>(
-    rt: &impl Abort,
-    tree: &mut RBTree<OwnKey, E>,
-    summed: &mut Augmented<L, M>,
-    position: usize,
-    object: UnsafeRef<u64>,
-)
-    requires few { index_of object < 8 }
-    requires ready { IsReady E.kept L.node L.table M.summaries M.Covers tree.old summed.old }
-    ensures ready { IsReady E.kept L.node L.table M.summaries M.Covers tree.new summed.new }
-{
-    let member = member_at(rt, &*tree, &*summed, position);
-    let mut cursor = tree.cursor_mut_from_ptr(summed, member);
-    let inserted = cursor.insert_before(object);
-    assert!(rt; inserted.is_ok());
-}
-
-// Replaces the member at the given position by the object, with a cursor.
-fn replace_at<E: TreeHead, L: RBTreeOps, M: RecomputeSummaries>(
-    rt: &impl Abort,
-    tree: &mut RBTree<OwnKey, E>,
-    summed: &mut Augmented<L, M>,
-    position: usize,
-    object: UnsafeRef<u64>,
-)
-    requires few { index_of object < 8 }
-    requires ready { IsReady E.kept L.node L.table M.summaries M.Covers tree.old summed.old }
-    ensures ready { IsReady E.kept L.node L.table M.summaries M.Covers tree.new summed.new }
-{
-    let member = member_at(rt, &*tree, &*summed, position);
-    let mut cursor = tree.cursor_mut_from_ptr(summed, member);
-    let replaced = cursor.replace_with(object);
-    assert!(rt; replaced.is_ok());
-}
-
-// Removes the member at the given position, by a cursor.
-fn remove_at<E: TreeHead, L: RBTreeOps, M: RecomputeSummaries>(
-    rt: &impl Abort,
-    tree: &mut RBTree<OwnKey, E>,
-    summed: &mut Augmented<L, M>,
-    position: usize,
-)
-    requires ready { IsReady E.kept L.node L.table M.summaries M.Covers tree.old summed.old }
-    ensures ready { IsReady E.kept L.node L.table M.summaries M.Covers tree.new summed.new }
-{
-    let member = member_at(rt, &*tree, &*summed, position);
-    let mut cursor = tree.cursor_mut_from_ptr(summed, member);
-    let _ = cursor.remove();
-}
-
-// Removes the member at the given position, by its reference.
-fn remove<E: TreeHead, L: RBTreeOps, M: RecomputeSummaries>(
-    rt: &impl Abort,
-    tree: &mut RBTree<OwnKey, E>,
-    summed: &mut Augmented<L, M>,
-    position: usize,
-)
-    requires ready { IsReady E.kept L.node L.table M.summaries M.Covers tree.old summed.old }
-    ensures ready { IsReady E.kept L.node L.table M.summaries M.Covers tree.new summed.new }
-{
-    let member = member_at(rt, &*tree, &*summed, position);
-    tree.remove(summed, &member);
-}
-
-// Removes the first member, if there is one.
-fn pop_front<E: TreeHead, L: RBTreeOps, M: RecomputeSummaries>(
-    tree: &mut RBTree<OwnKey, E>,
-    summed: &mut Augmented<L, M>,
-)
-    requires ready { IsReady E.kept L.node L.table M.summaries M.Covers tree.old summed.old }
-    ensures ready { IsReady E.kept L.node L.table M.summaries M.Covers tree.new summed.new }
-{
-    let _ = tree.pop_front(summed);
-}
-
-// Removes the last member, if there is one.
-fn pop_back<E: TreeHead, L: RBTreeOps, M: RecomputeSummaries>(
-    tree: &mut RBTree<OwnKey, E>,
-    summed: &mut Augmented<L, M>,
-)
-    requires ready { IsReady E.kept L.node L.table M.summaries M.Covers tree.old summed.old }
-    ensures ready { IsReady E.kept L.node L.table M.summaries M.Covers tree.new summed.new }
-{
-    let _ = tree.pop_back(summed);
-}
-
-// Splits the tree before the member at the given position, notes the summaries of both parts, and appends the second part to the first one again.
-fn write_parts<E: TreeHead, L: RBTreeOps, M: Readings>(
-    rt: &impl Abort,
-    notes: &mut Text,
-    tree: &mut RBTree<OwnKey, E>,
-    summed: &mut Augmented<L, M>,
-    position: usize,
-)
-    requires ready { IsReady E.kept L.node L.table M.summaries M.Covers tree.old summed.old }
-    ensures ready { IsReady E.kept L.node L.table M.summaries M.Covers tree.new summed.new }
-{
-    let member = member_at(rt, &*tree, &*summed, position);
-    let mut rest = tree.split_off(summed, &member);
-    refresh(&*tree, summed);
-    M::note(notes, &*tree, &*summed);
-    refresh(&rest, summed);
-    M::note(notes, &rest, &*summed);
-    tree.append(summed, &mut rest);
-}
-
-// Splits the tree before the member at the given position, and appends the second part to the first one again, with the object between both parts.
-fn join_with<E: TreeHead, L: RBTreeOps, M: RecomputeSummaries>(
-    rt: &impl Abort,
-    tree: &mut RBTree<OwnKey, E>,
-    summed: &mut Augmented<L, M>,
-    position: usize,
-    object: UnsafeRef<u64>,
-)
-    requires few { index_of object < 8 }
-    requires ready { IsReady E.kept L.node L.table M.summaries M.Covers tree.old summed.old }
-    ensures ready { IsReady E.kept L.node L.table M.summaries M.Covers tree.new summed.new }
-{
-    let member = member_at(rt, &*tree, &*summed, position);
-    let mut rest = tree.split_off(summed, &member);
-    let joined = tree.join(summed, object, &mut rest);
-    assert!(rt; joined.is_ok());
-}
-
-// Removes all members of the tree.
-fn clear<E: TreeHead, L: RBTreeOps, M: RecomputeSummaries>(
-    tree: &mut RBTree<OwnKey, E>,
-    summed: &mut Augmented<L, M>,
-)
-    requires ready { IsReady E.kept L.node L.table M.summaries M.Covers tree.old summed.old }
-    ensures ready { IsReady E.kept L.node L.table M.summaries M.Covers tree.new summed.new }
-{
-    tree.clear(summed);
-}
-
 // One edit of a tree. Its numbers are the place of the object that is inserted, and the position of the member at which the edit is made.
 enum Edit {
     ByKey(usize),
@@ -325,39 +142,6 @@ fn eighth(place: usize) -> UnsafeRef<u64>
     ensures { index_of result < 8 }
 {
     reference(place % 8)
-}
-
-// Makes the edit in the tree.
-fn make<E: TreeHead, L: RBTreeOps, M: Readings>(
-    rt: &impl Abort,
-    notes: &mut Text,
-    tree: &mut RBTree<OwnKey, E>,
-    summed: &mut Augmented<L, M>,
-    objects: &Objects<u64>,
-    edit: &Edit,
-)
-    requires placed { (q : Place) → index_of q < 8 → is_placed objects.now q ≡ true }
-    requires ready { IsReady E.kept L.node L.table M.summaries M.Covers tree.old summed.old }
-    ensures ready { IsReady E.kept L.node L.table M.summaries M.Covers tree.new summed.new }
-{
-    match edit {
-        Edit::ByKey(object) => put_by_key(rt, tree, summed, objects, eighth(*object)),
-        Edit::AtEntry(key, object) => {
-            put_at_entry(rt, tree, summed, objects, *key, eighth(*object));
-        }
-        Edit::WithHint(at, object) => {
-            put_with_hint(rt, tree, summed, objects, *at, eighth(*object));
-        }
-        Edit::Before(at, object) => put_before(rt, tree, summed, *at, eighth(*object)),
-        Edit::Replace(at, object) => replace_at(rt, tree, summed, *at, eighth(*object)),
-        Edit::RemoveAt(at) => remove_at(rt, tree, summed, *at),
-        Edit::Remove(at) => remove(rt, tree, summed, *at),
-        Edit::PopFront => pop_front(tree, summed),
-        Edit::PopBack => pop_back(tree, summed),
-        Edit::Parts(at) => write_parts(rt, notes, tree, summed, *at),
-        Edit::Join(at, object) => join_with(rt, tree, summed, *at, eighth(*object)),
-        Edit::Clear => clear(tree, summed),
-    }
 }
 
 // The edits of a test. The comment of each edit lists the members that the tree has after the edit.
@@ -385,37 +169,204 @@ const EDITS: &[Edit] = &[
     Edit::AtEntry(30, 5), // 0 2 3: the member at 2 has that key
 ];
 
-// Makes all edits in the tree, and notes the summaries after each edit.
-fn play<E: TreeHead, L: RBTreeOps, M: Readings>(
-    rt: &impl Abort,
-    notes: &mut Text,
-    tree: &mut RBTree<OwnKey, E>,
-    summed: &mut Augmented<L, M>,
-    objects: &Objects<u64>,
-)
-    requires placed { (q : Place) → index_of q < 8 → is_placed objects.now q ≡ true }
-    requires ready { IsReady E.kept L.node L.table M.summaries M.Covers tree.old summed.old }
-    ensures ready { IsReady E.kept L.node L.table M.summaries M.Covers tree.new summed.new }
-{
-    for edit in EDITS {
-        make(rt, notes, tree, summed, objects, edit);
-        write_summaries(notes, &*tree, summed);
+// A tree, its links and summaries, which have room for the places 0 to 7, and its objects, which are at these places. Each fresh summary is right.
+#[derive(Drop)]
+struct SummedTree<E: TreeHead, L: RBTreeOps, M: Readings> {
+    objects: Objects<u64>,
+    summed: Augmented<L, M>,
+    tree: RBTree<OwnKey, E>,
+}
+
+impl<E: TreeHead, L: RBTreeOps, M: Readings> Model for SummedTree<E, L, M> {
+    ghost use Rattle.std.specs.Prelude.{⊤};
+    ghost use Rattle.collections_tests.specs.Ready.{IsKept};
+
+    ghost Value = { ⊤ };
+
+    ghost view = { λ tree. tt };
+
+    ghost invariant = { λ tree. IsKept E.kept L.node L.table M.summaries M.Covers tree.objects tree.tree tree.summed };
+}
+
+// The number `place` is the index of the object that is inserted, and `position` says at which member the edit is made.
+impl<E: TreeHead, L: RBTreeOps, M: Readings> SummedTree<E, L, M> {
+    // Inserts the object at the position of its key.
+    fn insert(&mut self, rt: &impl Abort, place: usize) {
+        let object = eighth(place);
+        let inserted = self.tree.insert(&mut self.summed, &self.objects, object);
+        assert!(rt; inserted.is_ok());
     }
+
+    // Inserts the object at the entry of the key, if no member has the key.
+    fn insert_at_entry(&mut self, rt: &impl Abort, key: u64, place: usize) {
+        let object = eighth(place);
+        put_at_entry(
+            rt,
+            &mut self.tree,
+            &mut self.summed,
+            &self.objects,
+            key,
+            object,
+        );
+    }
+
+    // Inserts the object at the position of its key, with a member as the hint.
+    fn insert_with_hint(&mut self, rt: &impl Abort, position: usize, place: usize) {
+        let object = eighth(place);
+        let hint = member_at(rt, &self.tree, &self.summed, position);
+        let inserted = self
+            .tree
+            .insert_with_hint(&mut self.summed, &self.objects, &hint, object);
+        assert!(rt; inserted.is_ok());
+    }
+
+    // Inserts the object before a member, by a cursor.
+    fn insert_before(&mut self, rt: &impl Abort, position: usize, place: usize) {
+        let object = eighth(place);
+        let member = member_at(rt, &self.tree, &self.summed, position);
+        let mut cursor = self.tree.cursor_mut_from_ptr(&mut self.summed, member);
+        let inserted = cursor.insert_before(object);
+        assert!(rt; inserted.is_ok());
+    }
+
+    // Replaces a member by the object, with a cursor.
+    fn replace(&mut self, rt: &impl Abort, position: usize, place: usize) {
+        let object = eighth(place);
+        let member = member_at(rt, &self.tree, &self.summed, position);
+        let mut cursor = self.tree.cursor_mut_from_ptr(&mut self.summed, member);
+        let replaced = cursor.replace_with(object);
+        assert!(rt; replaced.is_ok());
+    }
+
+    // Removes a member, by a cursor.
+    fn remove_by_cursor(&mut self, rt: &impl Abort, position: usize) {
+        let member = member_at(rt, &self.tree, &self.summed, position);
+        let mut cursor = self.tree.cursor_mut_from_ptr(&mut self.summed, member);
+        let _ = cursor.remove();
+    }
+
+    // Removes a member, by its reference.
+    fn remove(&mut self, rt: &impl Abort, position: usize) {
+        let member = member_at(rt, &self.tree, &self.summed, position);
+        self.tree.remove(&mut self.summed, &member);
+    }
+
+    // Removes the first member, if there is one.
+    fn pop_front(&mut self) {
+        let _ = self.tree.pop_front(&mut self.summed);
+    }
+
+    // Removes the last member, if there is one.
+    fn pop_back(&mut self) {
+        let _ = self.tree.pop_back(&mut self.summed);
+    }
+
+    // Removes all members.
+    fn clear(&mut self) {
+        self.tree.clear(&mut self.summed);
+    }
+
+    // Splits the tree before a member, notes the summaries of both parts, and appends the second part to the first one again.
+    fn write_parts(&mut self, rt: &impl Abort, notes: &mut Text, position: usize) {
+        let member = member_at(rt, &self.tree, &self.summed, position);
+        let mut rest = self.tree.split_off(&mut self.summed, &member);
+        refresh(&self.tree, &mut self.summed);
+        M::note(notes, &self.tree, &self.summed);
+        refresh(&rest, &mut self.summed);
+        M::note(notes, &rest, &self.summed);
+        self.tree.append(&mut self.summed, &mut rest);
+    }
+
+    // Splits the tree before a member, and appends the second part to the first one again, with the object between both parts.
+    fn join(&mut self, rt: &impl Abort, position: usize, place: usize) {
+        let object = eighth(place);
+        let member = member_at(rt, &self.tree, &self.summed, position);
+        let mut rest = self.tree.split_off(&mut self.summed, &member);
+        let joined = self.tree.join(&mut self.summed, object, &mut rest);
+        assert!(rt; joined.is_ok());
+    }
+
+    // Makes the edit.
+    fn make(&mut self, rt: &impl Abort, notes: &mut Text, edit: &Edit) {
+        match edit {
+            Edit::ByKey(place) => self.insert(rt, *place),
+            Edit::AtEntry(key, place) => self.insert_at_entry(rt, *key, *place),
+            Edit::WithHint(at, place) => self.insert_with_hint(rt, *at, *place),
+            Edit::Before(at, place) => self.insert_before(rt, *at, *place),
+            Edit::Replace(at, place) => self.replace(rt, *at, *place),
+            Edit::RemoveAt(at) => self.remove_by_cursor(rt, *at),
+            Edit::Remove(at) => self.remove(rt, *at),
+            Edit::PopFront => self.pop_front(),
+            Edit::PopBack => self.pop_back(),
+            Edit::Parts(at) => self.write_parts(rt, notes, *at),
+            Edit::Join(at, place) => self.join(rt, *at, *place),
+            Edit::Clear => self.clear(),
+        }
+    }
+
+    // Updates the summaries, and notes what the test reads of them.
+    fn write_summaries(&mut self, notes: &mut Text) {
+        refresh(&self.tree, &mut self.summed);
+        M::note(notes, &self.tree, &self.summed);
+    }
+
+    // Makes all edits, and notes the summaries after each edit.
+    fn play(&mut self, rt: &impl Abort, notes: &mut Text) {
+        for edit in EDITS {
+            self.make(rt, notes, edit);
+            self.write_summaries(notes);
+        }
+    }
+}
+
+// Sets the number of a place.
+fn set_number<E: TreeHead, L: RBTreeOps>(
+    numbered: &mut SummedTree<E, L, Greatest>,
+    place: usize,
+    number: u64,
+)
+    requires few { place < 8 }
+{
+    set_value(&mut numbered.summed, place_at(place), number);
 }
 
 // Notes the first member that overlaps 15 to 35, the first that overlaps 45 to 50, and the first that overlaps 20 to 30. The interval of a member goes
 // from the value of its object to its number.
 fn write_overlaps<E: TreeHead, L: RBTreeOps>(
     notes: &mut Text,
-    tree: &RBTree<OwnKey, E>,
-    summed: &Augmented<L, Greatest>,
-    objects: &Objects<u64>,
-)
-    requires placed { (q : Place) → index_of q < 8 → is_placed objects.now q ≡ true }
-    requires ready { IsReady E.kept L.node L.table ⟦<Greatest as Summaries>⟧.summaries ⟦<Greatest as Summaries>⟧.Covers tree.now summed.now }
-{
+    numbered: &SummedTree<E, L, Greatest>,
+) {
+    let (tree, summed, objects) = (&numbered.tree, &numbered.summed, &numbered.objects);
     for (from, to) in [(15, 35), (45, 50), (20, 30)] {
         write_places(notes, &[first_overlap(tree, summed, objects, from, to)]);
+    }
+}
+
+// Returns summaries with room for the places 0 to 7.
+fn eight_summaries<V: Summarize<u64>>(rt: &impl Abort, alloc: Global) -> AugmentedTable<V, u64>
+    ensures room { (q : Place) → index_of q < 8 → index_of q < room_of result }
+{
+    let mut summaries: AugmentedTable<V, u64> = AugmentedTable::new(alloc);
+    let covered = summaries.cover(8);
+    assert!(rt; covered.is_ok());
+    summaries
+}
+
+// Returns the empty tree with these summaries, over the objects 10 to 80.
+fn over_tens<E: TreeHead, M: Readings>(
+    rt: &impl Abort,
+    alloc: Global,
+    tree: RBTree<OwnKey, E>,
+    summaries: M,
+) -> SummedTree<E, rbtree::LinkOps, M>
+    requires empty { IsEmptied (E.kept (head_of tree)) }
+    requires room { (q : Place) → index_of q < 8 → M.Covers summaries q }
+{
+    let (objects, links): (_, rbtree::LinkOps) = eight_objects(alloc, TENS).expect(rt, "memory");
+    SummedTree {
+        objects,
+        summed: Augmented { links, summaries },
+        tree,
     }
 }
 
@@ -424,13 +375,9 @@ fn play_counts<E: TreeHead>(rt: &impl Abort, alloc: Global, tree: RBTree<OwnKey,
     requires empty { IsEmptied (E.kept (head_of tree)) }
 {
     let mut notes = Text::new(alloc);
-    let mut tree = tree;
-    let (objects, links): (_, rbtree::LinkOps) = eight_objects(alloc, TENS).expect(rt, "memory");
-    let mut summaries = Counts::new(alloc);
-    let covered = summaries.cover(8);
-    assert!(rt; covered.is_ok());
-    let mut summed = Augmented { links, summaries };
-    play(rt, &mut notes, &mut tree, &mut summed, &objects);
+    let summaries: Counts = eight_summaries(rt, alloc);
+    let mut summed = over_tens(rt, alloc, tree, summaries);
+    summed.play(rt, &mut notes);
     assert_words(
         rt,
         &notes,
@@ -467,17 +414,13 @@ fn play_greatest<E: TreeHead>(rt: &impl Abort, alloc: Global, tree: RBTree<OwnKe
     requires empty { IsEmptied (E.kept (head_of tree)) }
 {
     let mut notes = Text::new(alloc);
-    let mut tree = tree;
-    let (objects, links): (_, rbtree::LinkOps) = eight_objects(alloc, TENS).expect(rt, "memory");
-    let mut summaries = Greatest::new(alloc);
-    let covered = summaries.cover(8);
-    assert!(rt; covered.is_ok());
-    let mut summed = Augmented { links, summaries };
-    for index in 0..8 {
-        set_value(&mut summed, place_at(index), NUMBERS[index]);
+    let summaries: Greatest = eight_summaries(rt, alloc);
+    let mut summed = over_tens(rt, alloc, tree, summaries);
+    for place in 0..8 {
+        set_number(&mut summed, place, NUMBERS[place]);
     }
-    play(rt, &mut notes, &mut tree, &mut summed, &objects);
-    write_overlaps(&mut notes, &tree, &summed, &objects);
+    summed.play(rt, &mut notes);
+    write_overlaps(&mut notes, &summed);
     assert_words(
         rt,
         &notes,

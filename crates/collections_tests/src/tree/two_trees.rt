@@ -6,6 +6,7 @@ ghost use Rattle.ic_rbtree.specs.Tree.{root_of};
 ghost use Rattle.ic_augmented.specs.Counts.{counts};
 ghost use Rattle.ic_augmented.specs.Augmented.{links_of, summaries_of};
 ghost use Rattle.ic_augmented.specs.AugmentedTables.{room_of};
+ghost use Rattle.collections_tests.specs.Filled.{IsFilled};
 
 use crate::notes::assert_words;
 use crate::tree::trees::OwnKey;
@@ -19,46 +20,49 @@ use ic_test_support::objects::reference;
 use std::alloc::Global;
 use std::process::Abort;
 
-// Inserts a member into each of two trees, and notes the first tree's member at position 0. No call computes the counts of the first tree again after
-// the insert into the second tree.
+// Inserts the objects at the first `members` places into the tree.
+fn fill<L: RBTreeOps + LinkValues<u64>>(
+    rt: &impl Abort,
+    tree: &mut RBTree<OwnKey>,
+    summed: &mut Augmented<L, Counts>,
+    members: usize,
+)
+    requires few { members < 4 }
+    requires none { IsFilled L.node L.table (root_of tree.old) summed.old 0 }
+    ensures filled { IsFilled L.node L.table (root_of tree.new) summed.new members }
+{
+    for index in 0..members {
+        let next = reference(index);
+        let put = insert_fresh(tree, summed, next);
+        assert!(rt; put.is_ok());
+    }
+}
+
+// Fills the first of two trees, inserts the object at the next place into the second tree, and removes it again if `leaves` is true. Then it notes the
+// first tree's member at position 0. No call computes the counts of the first tree again after the edits of the second tree.
 fn play<L: RBTreeOps + LinkValues<u64>>(
     rt: &impl Abort,
     notes: &mut Text,
-    first: &mut RBTree<OwnKey>,
-    second: &mut RBTree<OwnKey>,
     summed: &mut Augmented<L, Counts>,
+    members: usize,
+    leaves: bool,
 )
+    requires few { members < 4 }
     requires covers { (L.table (links_of summed.old)).extent.places ≡ 4 }
-    requires empty { (root_of first.old ≡ None) × (root_of second.old ≡ None) }
     requires room { (q : Place) → IsCovered (L.table (links_of summed.old)) q → index_of q < room_of (summaries_of summed.old) }
     requires stale { (q : Place) → (counts (summaries_of summed.old)).fresh q ≡ None }
 {
-    let put = insert_fresh(first, summed, reference(0));
-    assert!(rt; put.is_ok());
-    let beside = insert_fresh(second, summed, reference(1));
+    let mut first = RBTree::new(OwnKey);
+    fill(rt, &mut first, summed, members);
+    let mut second = RBTree::new(OwnKey);
+    let object = reference(members);
+    let beside = insert_fresh(&mut second, summed, object);
     assert!(rt; beside.is_ok());
-    write_places(notes, &[nth(&*first, &*summed, 0)]);
-}
-
-// Inserts a member into each of two trees, and removes the second tree's member again. Then it notes the first tree's member at position 0.
-fn play_and_leave<L: RBTreeOps + LinkValues<u64>>(
-    rt: &impl Abort,
-    notes: &mut Text,
-    first: &mut RBTree<OwnKey>,
-    second: &mut RBTree<OwnKey>,
-    summed: &mut Augmented<L, Counts>,
-)
-    requires covers { (L.table (links_of summed.old)).extent.places ≡ 4 }
-    requires empty { (root_of first.old ≡ None) × (root_of second.old ≡ None) }
-    requires room { (q : Place) → IsCovered (L.table (links_of summed.old)) q → index_of q < room_of (summaries_of summed.old) }
-    requires stale { (q : Place) → (counts (summaries_of summed.old)).fresh q ≡ None }
-{
-    let put = insert_fresh(first, summed, reference(0));
-    assert!(rt; put.is_ok());
-    let beside = insert_fresh(second, summed, reference(1));
-    assert!(rt; beside.is_ok());
-    remove_fresh(second, summed, &reference(1));
-    write_places(notes, &[nth(&*first, &*summed, 0)]);
+    if leaves {
+        let leaving = reference(members);
+        remove_fresh(&mut second, summed, &leaving);
+    }
+    write_places(notes, &[nth(&first, &*summed, 0)]);
 }
 
 // Returns counts with room for four places. The count of each place is still stale.
@@ -72,34 +76,31 @@ fn four_counts(rt: &impl Abort, alloc: Global) -> Counts
     summaries
 }
 
+// Plays with two trees of a new table that covers four places, and compares the notes with the expected words.
+fn assert_played(rt: &impl Abort, alloc: Global, members: usize, leaves: bool, words: &str)
+    requires few { members < 4 }
+{
+    let mut notes = Text::new(alloc);
+    let mut links: LinkOpsWith<u64> = LinkOpsWith::new(alloc);
+    let _ = links.cover(4);
+    assert!(rt; links.covers() == 4);
+    let summaries = four_counts(rt, alloc);
+    let mut summed = Augmented { links, summaries };
+    play(rt, &mut notes, &mut summed, members, leaves);
+    assert_words(rt, &notes, words);
+}
+
 // A member is inserted into the second tree of a table, and the first tree must still find its member by the position 0.
 // Promise: a tree stays summed while another one of its table gets a member.
 #[test]
 fn a_tree_beside_another(rt: HostRuntime) {
-    let mut notes = Text::new(rt.alloc());
-    let mut links: LinkOpsWith<u64> = LinkOpsWith::new(rt.alloc());
-    let _ = links.cover(4);
-    assert!(rt; links.covers() == 4);
-    let summaries = four_counts(&rt, rt.alloc());
-    let mut summed = Augmented { links, summaries };
-    let mut first = RBTree::new(OwnKey);
-    let mut second = RBTree::new(OwnKey);
-    play(&rt, &mut notes, &mut first, &mut second, &mut summed);
-    assert_words(&rt, &notes, "0");
+    assert_played(&rt, rt.alloc(), 1, false, "0");
 }
 
-// A member is inserted into the second tree of a table and removed again, and the first tree must still find its member by the position 0.
+// A member is inserted into the second tree of a table and removed again, and the first tree must still find its member by the position 0. The first
+// tree has three members, so that the member at position 0 is below the root, and is found by its count.
 // Promise: a tree stays summed while another one of its table loses a member.
 #[test]
 fn a_removal_beside_another(rt: HostRuntime) {
-    let mut notes = Text::new(rt.alloc());
-    let mut links: LinkOpsWith<u64> = LinkOpsWith::new(rt.alloc());
-    let _ = links.cover(4);
-    assert!(rt; links.covers() == 4);
-    let summaries = four_counts(&rt, rt.alloc());
-    let mut summed = Augmented { links, summaries };
-    let mut first = RBTree::new(OwnKey);
-    let mut second = RBTree::new(OwnKey);
-    play_and_leave(&rt, &mut notes, &mut first, &mut second, &mut summed);
-    assert_words(&rt, &notes, "0");
+    assert_played(&rt, rt.alloc(), 3, true, "0");
 }

@@ -1,4 +1,5 @@
-//! Splits a tree at a hole, which is a missing child. On the path up from the hole, each member and its other subtree are joined to one of the two parts.
+//! Splits a tree at an insert position, which is a missing child. On the path up from the insert position, each member and its other subtree are joined to
+//! one of the two parts.
 //!
 //! Each turn of the loop passes the black heights on to the next turn. A join takes time proportional to the difference between the heights of a part and
 //! of the subtree that is joined to it. Before the join the part is at most one higher than the subtree, and after the join it is at least as high.
@@ -47,8 +48,8 @@ fn detach<N: NodeStore>(links: &mut N, child: Option<Place>, height: u32) -> Mea
     }
 }
 
-// Cuts off the member above the hole with its other subtree, which has the black height `height`. Joins both to the part on their side. The hole is then at
-// the member's old position.
+// Cuts off the member above the insert position with its other subtree, which has the black height `height`. Joins both to the part on their side. The
+// insert position is then at the member's old position.
 fn cut_off<N: NodeStore>(
     links: &mut N,
     place: Place,
@@ -69,7 +70,7 @@ fn cut_off<N: NodeStore>(
     }
 }
 
-// Splits a tree at a hole, and returns the roots of the part before the hole and of the part after the hole.
+// Splits a tree at an insert position, and returns the roots of the part before the insert position and of the part after the insert position.
 pub(crate) fn cut_at<N: NodeStore>(
     links: &mut N,
     parent: Option<Place>,

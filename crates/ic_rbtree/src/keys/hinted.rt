@@ -7,7 +7,7 @@
 ghost use Rattle.std.specs.Prelude.{◌≡◌, ◌+◌, true, OnOk, OnErr, IfErr, List, [], ◌∷◌};
 ghost use Rattle.ic_link_ops.specs.Prelude.{Place, is_placed, IsCovered, HasMember, RepresentsPlaced, acquires};
 ghost use Rattle.ic_rbtree.specs.Comparing.{compared, own_order, HasRoom};
-ghost use Rattle.ic_rbtree.specs.Holes.{HintedLooks};
+ghost use Rattle.ic_rbtree.specs.InsertPositions.{HintedLooks};
 ghost use Rattle.ic_rbtree.specs.Kept.{RepresentsKept};
 ghost use Rattle.ic_rbtree.specs.Ordered.{InsertsInOrder};
 ghost use Rattle.ic_rbtree.specs.Tree.{head_of, adapter_of};

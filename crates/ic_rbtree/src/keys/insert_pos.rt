@@ -1,5 +1,5 @@
-//! A hole is a missing child, where an object belongs by its key. It is given by the member above the hole, `None` in an empty tree, and by a side of this
-//! member.
+//! An insert position is a missing child, where an object belongs by its key. It is given by the member above the insert position, `None` in an empty tree,
+//! and by a side of this member.
 //!
 //! ```text
 //! let (parent, side) = insert_pos_for(&links, &head, &objects, &mut probe); // a descent, or first a look at the last member if it is kept
@@ -11,7 +11,7 @@ ghost use Rattle.ic_link_ops.specs.Prelude.{Place, is_placed, Cut, join, IsAfter
 ghost use Rattle.ic_link_ops.specs.RedBlackTree.{Represents};
 ghost use Rattle.ic_rbtree.specs.Borders.{less_at};
 ghost use Rattle.ic_rbtree.specs.Comparing.{compared, HasRoom};
-ghost use Rattle.ic_rbtree.specs.Holes.{less_there, after_there, looks_there, IsInOrder, BelongsBefore, HintedLooks};
+ghost use Rattle.ic_rbtree.specs.InsertPositions.{less_there, after_there, looks_there, IsInOrder, BelongsBefore, HintedLooks};
 ghost use Rattle.ic_rbtree.specs.Insertion.{IsInsertPos};
 ghost use Rattle.ic_rbtree.specs.Kept.{RepresentsKept, HasRoomFor, InsertLooks};
 
@@ -53,8 +53,8 @@ fn is_after<V, P: Probe<V>, O: Values<V>>(objects: &O, probe: &mut P, at: Option
     }
 }
 
-// The hole where the searched key belongs. If the tree stores its last member, the last member is compared first, and the key may belong after this member.
-// Otherwise a descent finds the hole.
+// The insert position where the searched key belongs. If the tree stores its last member, the last member is compared first, and the key may belong after
+// this member. Otherwise a descent finds the insert position.
 #[inline]
 pub(crate) fn insert_pos_for<E: TreeHead, L: RBTreeOps, V, P: Probe<V>, O: Values<V>>(
     links: &L,
@@ -77,8 +77,8 @@ pub(crate) fn insert_pos_for<E: TreeHead, L: RBTreeOps, V, P: Probe<V>, O: Value
     (insert_pos.parent.get(), insert_pos.side)
 }
 
-// Returns the hole in the gap between the neighbors `front` and `back`, or before the first member `back`. The hole is below `back`, or if `back` has a
-// left subtree, below the last member of this subtree, which is `front`.
+// Returns the insert position in the gap between the neighbors `front` and `back`, or before the first member `back`. The insert position is below `back`,
+// or if `back` has a left subtree, below the last member of this subtree, which is `front`.
 #[inline]
 fn insert_pos_between<L: RBTreeOps>(
     links: &L,
@@ -95,8 +95,8 @@ fn insert_pos_between<L: RBTreeOps>(
     }
 }
 
-// Returns the hole in the gap before the member at `place`, if the searched key belongs there. The function compares this member, and if the key is less,
-// also the member before it.
+// Returns the insert position in the gap before the member at `place`, if the searched key belongs there. The function compares this member, and if the key
+// is less, also the member before it.
 #[inline]
 fn insert_pos_before<L: RBTreeOps, V, P: Probe<V>, O: Values<V>>(
     links: &L,
@@ -125,7 +125,7 @@ fn insert_pos_before<L: RBTreeOps, V, P: Probe<V>, O: Values<V>>(
     Some(insert_pos_between(links, front, place))
 }
 
-// The hole where the searched key belongs: before the member at `hint`, or otherwise where a descent ends.
+// The insert position where the searched key belongs: before the member at `hint`, or otherwise where a descent ends.
 #[inline]
 pub(crate) fn insert_pos_near<L: RBTreeOps, V, P: Probe<V>, O: Values<V>>(
     links: &L,

@@ -146,7 +146,7 @@ pub(crate) fn insert_fixup<N: NodeStore>(
     false
 }
 
-// Inserts a linked place, which is in no collection, into a hole of the tree.
+// Inserts a linked place, which is in no collection, into an insert position of the tree.
 #[inline(always)]
 pub(crate) fn attach<N: NodeStore>(
     links: &mut N,

@@ -4,16 +4,37 @@
 ghost use Rattle.std.specs.Prelude.{◌≡◌, ◌<◌, ◌≤◌, None, length, true};
 ghost use Rattle.std.specs.List.{AllByRecursion};
 ghost use Rattle.ic_link_ops.specs.Prelude.{Place, index_of, is_placed};
+ghost use Rattle.ic_hash_table.specs.HashTable.{adapter_of, slots_of, number, HoldsSome, KeepsBuckets};
 
 use crate::asserts::assert_true;
-use crate::hash_table::{NUMBERS, OwnKey, put};
+use crate::hash_table::{NUMBERS, OwnKey};
 use ic_hash_table::{BucketsFor, HashAdapter, HashTable};
 use ic_link_ops::LinkOps as _;
 use ic_link_ops::singly_linked_list::{LinkOps, SinglyLinkedListOps};
 use ic_test_support::answers::write_places;
 use ic_test_support::notes::{Answer, Text};
-use ic_test_support::objects::eight_objects;
+use ic_test_support::objects::{eight_objects, reference};
 use ic_unsafe_ref::{Objects, UnsafeRef};
+
+// Inserts the object into the hash table, which keeps its buckets, its adapter and its chains in use.
+fn put<A: HashAdapter<Value = u64>, L: SinglyLinkedListOps, B: BucketsFor<L>>(
+    table: &mut HashTable<A, B>,
+    links: &mut L,
+    objects: &Objects<u64>,
+    index: usize,
+)
+    requires few { index < 8 }
+    requires covers { (L.table links.old).extent.places ≡ 8 }
+    requires placed { (q : Place) → index_of q < 8 → is_placed objects.now q ≡ true }
+    requires held { HoldsSome L.successor (number A.key_of A.hash_of) B.fronts (L.table links.old) table.old objects.now }
+    ensures adapter { adapter_of table.new ≡ adapter_of table.old }
+    ensures slots { slots_of table.new ≡ slots_of table.old }
+    ensures buckets { KeepsBuckets B.fronts B.Rewrites table.old table.new }
+    ensures covers { (L.table links.new).extent.places ≡ 8 }
+    ensures held { HoldsSome L.successor (number A.key_of A.hash_of) B.fronts (L.table links.new) table.new objects.now }
+{
+    let _ = table.insert(links, objects, reference(index));
+}
 
 // Inserts two objects into a new table over these buckets, closes it, and makes a table of the buckets again. Returns the member that the second table
 // finds by this key.

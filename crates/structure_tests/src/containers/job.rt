@@ -1,7 +1,7 @@
 //! A job of the queue, and its priority.
 
 ghost use Rattle.std.specs.Prelude.{◌≡◌, ◌<◌};
-ghost use Rattle.structure_tests.specs.Jobs.{lane_of};
+ghost use Rattle.structure_tests.specs.Jobs.{list_index};
 
 /// The priority of a job: how urgent the job is.
 #[derive(Clone, Copy, PartialEq, Eq, Debug)]
@@ -13,9 +13,9 @@ pub enum Priority {
 }
 
 impl Priority {
-    /// Returns the number of the lane of this priority, which is 0 to 3. O(1).
-    pub fn lane(self) -> usize
-        ensures value { result ≡ lane_of self }
+    /// Returns the index of the list of this priority, which is 0 to 3. O(1).
+    pub fn list_index(self) -> usize
+        ensures value { result ≡ list_index self }
         ensures small { result < 4 }
     {
         match self {

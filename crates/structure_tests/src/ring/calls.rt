@@ -10,6 +10,7 @@ use ic_link_ops::{AlreadyLinked, LinkOps, ReplaceError};
 use ic_ring::{
     Ring, exchange, insert_after, insert_before, move_after, move_before, remove, replace,
 };
+use ic_test_support::objects::place_at;
 use ic_unsafe_ref::{Place, UnsafeRef};
 
 /// A call of the first ring, of its first member or of its last member. The comment of a call names the call of Linux's lists that does the same, if
@@ -85,17 +86,24 @@ fn object_on(is_null: bool, at: Option<Place>, read: Option<Place>) -> Option<Un
     }
 }
 
+// Returns the place of the object that is the argument of a call. Each index names one of the first six places.
+fn argument(index: usize) -> Place
+    ensures few { index_of result < 8 }
+{
+    place_at(index % 6)
+}
+
 /// Makes a call of the first ring, and returns the object that the call gives back, if there is one.
 pub(crate) fn call_ring<L: LinkedListOps>(
     links: &mut L,
     ring: &Ring<u64>,
     call: Call,
-    place: Place,
+    index: usize,
 ) -> Option<UnsafeRef<u64>>
-    requires few { index_of place < 8 }
     requires two { (other : Place) × TwoRings L.neighbors (L.table links.old) ring.now other }
     ensures two { (other : Place) → TwoRings L.neighbors (L.table links.old) ring.now other → TwoRings L.neighbors (L.table links.new) ring.now other }
 {
+    let place = argument(index);
     match call {
         Call::PushFront => return refused(ring.push_front(links, UnsafeRef::new(place))),
         Call::PushBack => return refused(ring.push_back(links, UnsafeRef::new(place))),
@@ -145,12 +153,12 @@ pub(crate) fn call_by_cursor<L: LinkedListOps>(
     ring: &Ring<u64>,
     other: &Ring<u64>,
     call: At,
-    place: Place,
+    index: usize,
 ) -> Option<UnsafeRef<u64>>
-    requires few { index_of place < 8 }
     requires two { TwoRings L.neighbors (L.table links.old) ring.now other.now }
     ensures two { TwoRings L.neighbors (L.table links.new) ring.now other.now }
 {
+    let place = argument(index);
     let mut cursor = ring.cursor_mut_at(links, ring.head());
     match call {
         At::FirstInsertAfter => {
@@ -195,14 +203,13 @@ pub(crate) fn call_both<L: LinkedListOps>(
     ring: &Ring<u64>,
     other: &Ring<u64>,
     call: Pair,
-    place: Place,
+    index: usize,
 ) -> Option<UnsafeRef<u64>>
-    requires few { index_of place < 8 }
     requires two { TwoRings L.neighbors (L.table links.old) ring.now other.now }
     ensures two { TwoRings L.neighbors (L.table links.new) ring.now other.now }
 {
     match call {
-        Pair::PushBack => return refused(other.push_back(links, UnsafeRef::new(place))),
+        Pair::PushBack => return refused(other.push_back(links, UnsafeRef::new(argument(index)))),
         Pair::MoveFirstToBack => {
             let back = other.first(&*links)?;
             move_before(links, ring.head(), &UnsafeRef::<u64>::new(back));

@@ -124,14 +124,13 @@ fn rotate_left<L: LinkedListOps>(links: &mut L, ring: &Ring<u64>)
     touch(links, ring, &UnsafeRef::new(first));
 }
 
-// Removes the first member by a call that does not name the ring, as Linux's `list_del` does.
-fn remove_first<L: LinkedListOps>(links: &mut L, ring: &Ring<u64>)
-    requires covers { (L.table links.old).extent.places ≡ 8 }
-    requires shown { InRing L.neighbors (L.table links.old) ring.now }
-    ensures covers { (L.table links.new).extent.places ≡ 8 }
-    ensures shown { InRing L.neighbors (L.table links.new) ring.now }
+// Removes the first member by a call that does not name the queue, as Linux's `list_del` does.
+fn remove_first<L: LinkedListOps>(links: &mut L, queue: &Ring<u64>)
+    requires queue { InRing L.neighbors (L.table links.old) queue.now }
+    ensures queue { InRing L.neighbors (L.table links.new) queue.now }
+    ensures extent { (L.table links.new).extent ≡ (L.table links.old).extent }
 {
-    let Some(first) = ring.first(&*links) else {
+    let Some(first) = queue.first(&*links) else {
         return;
     };
     close(links, &UnsafeRef::new(first));

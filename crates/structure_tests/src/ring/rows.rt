@@ -1,5 +1,8 @@
 //! The rows of the tests of rings. Each row has a call on two rings of one table, and the members of both rings after the call. The heads are at the
 //! places 6 and 7, and the objects 10 to 60 at the places 0 to 5.
+//!
+//! The rows make each call at least once. The text of a row has the object that the call returns. Then the text has, for each ring, its members from
+//! the front on, and the member that a walk from the back meets first. The notes of `Ends` and `Second` come before these words.
 
 use crate::ring::calls::{At, Call, Pair};
 use Row::{Both, Cursor, Ends, Ring, Second};
@@ -20,10 +23,8 @@ pub(crate) enum Row {
     Second,
 }
 
-/// The rows make each call at least once. The text of a row has the object that the call returns. Then the text has, for each ring, its members from
-/// the front on, and the member that a walk from the back meets first. The notes of `Ends` and `Second` come before these words.
-pub(crate) const ROWS: &[(Row, &str)] = &[
-    // The rows below make calls of one ring.
+/// The rows make calls of the first ring. Both rings are new before the first row.
+pub(crate) const ONE_RING: &[(Row, &str)] = &[
     (Ends, "yes none none 6 6 none none, none,"),
     (Ring(Call::PushFront, 0), "none 10 10, none,"),
     (Ring(Call::PushFront, 1), "none 20 10 10, none,"),
@@ -46,7 +47,10 @@ pub(crate) const ROWS: &[(Row, &str)] = &[
     (Ends, "yes none none 6 6 none none, none,"),
     (Ring(Call::PopFront, 0), "none none, none,"),
     (Ring(Call::PopBack, 0), "none none, none,"),
-    // The rows below make calls by a cursor in one ring.
+];
+
+/// The rows make calls by a cursor in the first ring, which has no members before the first row.
+pub(crate) const BY_CURSOR: &[(Row, &str)] = &[
     (Cursor(At::FirstInsertAfter, 0), "none 10 10, none,"),
     (Cursor(At::FirstInsertAfter, 1), "none 10 20 20, none,"),
     (Cursor(At::FirstInsertAfter, 2), "none 10 30 20 20, none,"),
@@ -57,12 +61,19 @@ pub(crate) const ROWS: &[(Row, &str)] = &[
     (Cursor(At::LastReplaceWith, 4), "1 10 30 40 50 50, none,"),
     (Cursor(At::FirstRemove, 0), "0 30 40 50 50, none,"),
     (Second, "yes 3 4 40 none 30 40 50 50, none,"),
-    // The rows below make calls by a cursor that move members between the two rings.
+];
+
+/// The rows clear the first ring, and insert two objects into each ring.
+pub(crate) const TWO_IN_EACH: &[(Row, &str)] = &[
     (Ring(Call::Clear, 0), "none none, none,"),
     (Ring(Call::PushBack, 0), "none 10 10, none,"),
     (Ring(Call::PushBack, 1), "none 10 20 20, none,"),
     (Both(Pair::PushBack, 2), "none 10 20 20, 30 30,"),
     (Both(Pair::PushBack, 3), "none 10 20 20, 30 40 40,"),
+];
+
+/// The rows make calls by a cursor that move members between the two rings. Each ring has two members before the first row.
+pub(crate) const MOVED_BY_CURSOR: &[(Row, &str)] = &[
     (Cursor(At::FirstSplitAfter, 0), "0 10 10, 20 30 40 40,"),
     (Both(Pair::MoveFirstToBack, 0), "none 10 20 20, 30 40 40,"),
     (Cursor(At::FirstSpliceAfter, 0), "0 10 30 40 20 20, none,"),
@@ -70,12 +81,10 @@ pub(crate) const ROWS: &[(Row, &str)] = &[
     (Both(Pair::SplitAfterFirst, 0), "none 20 20, 10 30 40 40,"),
     (Both(Pair::MoveFirstToFront, 0), "none 10 20 20, 30 40 40,"),
     (Cursor(At::LastSpliceBefore, 0), "1 10 30 40 20 20, none,"),
-    // The rows below make calls of both rings.
-    (Ring(Call::Clear, 0), "none none, none,"),
-    (Ring(Call::PushBack, 0), "none 10 10, none,"),
-    (Ring(Call::PushBack, 1), "none 10 20 20, none,"),
-    (Both(Pair::PushBack, 2), "none 10 20 20, 30 30,"),
-    (Both(Pair::PushBack, 3), "none 10 20 20, 30 40 40,"),
+];
+
+/// The rows make calls of both rings. Each ring has two members before the first row.
+pub(crate) const BOTH_RINGS: &[(Row, &str)] = &[
     (Both(Pair::MoveFirstToBack, 0), "none 10 20 30 30, 40 40,"),
     (
         Both(Pair::MoveFirstToFront, 0),

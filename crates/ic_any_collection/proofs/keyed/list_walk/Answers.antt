@@ -1,5 +1,4 @@
-use Rattle.std.proofs.Common.{sym, ap, Some, ◌∙◌}
-use Rattle.ic_any_collection.proofs.KeyedWalks.{walk_count, lists_first, lists_all, lists_next, lists_stands, is_there}
+use Rattle.ic_any_collection.proofs.Common.{sym, ap, Some, ◌∙◌, walk_count, lists_first, lists_all, lists_next, lists_stands, is_there}
 use Rattle.ic_any_collection.proofs.keyed.list_walk.Goals as goal
 
 pub loop-places-init : goal.loop-places-init
@@ -17,8 +16,7 @@ move_next-requires g c = record { stands = lists_stands c.loop-places.invariant 
 pub loop-places-preserved : goal.loop-places-preserved
 loop-places-preserved g c =
     let e = c.move_next.ensures in
-    rw (e.list, e.links)
-    (lists_next c.loop-places.invariant c.in-Some-next.ensures.steps.0 (sym c.get_ptr-in-Some-next.ensures ∙ c.unwrap.ensures) c.in_ok-push.ensures.items e.moved.leads)
+    rw (e.list, e.links) (lists_next c.loop-places.invariant c.in-Some-next.ensures.steps.0 (sym c.get_ptr-in-Some-next.ensures ∙ c.unwrap.ensures) c.in_ok-push.ensures.items e.moved.leads)
 
 pub returns : goal.returns
 returns g c = lists_all c.loop-places.invariant c.in_default-next.ensures.steps.0.0

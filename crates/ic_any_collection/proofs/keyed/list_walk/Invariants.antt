@@ -1,7 +1,6 @@
 use Rattle.ic_rbtree.specs.Cursor.{links_of, tree_of, position}
 use Rattle.ic_rbtree.specs.Iter.{rest_of, objects_left}
-use Rattle.ic_rbtree.specs.Tree.{root_of}
-use Rattle.ic_any_collection.proofs.KeyedWalks.{Lists}
+use Rattle.ic_any_collection.proofs.Common.{root_of, Lists}
 use Rattle.ic_any_collection.proofs.keyed.list_walk.Given as goal
 
 abbrev pub invariant-loop-places : goal.invariant-loop-places

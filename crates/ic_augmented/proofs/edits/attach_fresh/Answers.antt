@@ -15,13 +15,13 @@ use Rattle.ic_augmented.proofs.edits.attach_fresh.Goals as goal
 
 pub attach_marking-edge-requires : goal.attach_marking-edge-requires
 attach_marking-edge-requires g c =
-    let r = c.requires.hole in
+    let r = c.requires.insert_pos in
     let x = attach_closed g.N.NodeStore.node _ _ c.args.parent c.args.side c.args.place r.0 r.1 r.2 r.3 r.4 in
     record { closed = x.0; inside = x.1 }
 
 pub settle-requires-clause-member : goal.settle-requires-clause-member
 settle-requires-clause-member g c =
-    let r = c.requires.hole in
+    let r = c.requires.insert_pos in
     (_, record { front = r.0.front; back = r.0.back; shown = attached_represents g.N.NodeStore.node _ _ _ _ c.args.parent c.args.side c.args.place r.0 c.attach_marking-edge.ensures.attached r.1 r.2 r.3 r.4 })
 
 pub settle-requires-clause-covered : goal.settle-requires-clause-covered
@@ -30,7 +30,7 @@ settle-requires-clause-covered g c q is =
 
 pub refresh_below-requires-clause-tree : goal.refresh_below-requires-clause-tree
 refresh_below-requires-clause-tree g c =
-    let r = c.requires.hole in
+    let r = c.requires.insert_pos in
     let h = attached_represents g.N.NodeStore.node _ _ _ _ c.args.parent c.args.side c.args.place r.0 c.attach_marking-edge.ensures.attached r.1 r.2 r.3 r.4 in
     (None, h.tree, h.held.entries, c.root-top.ensures ∙ h.starts)
 
@@ -39,10 +39,10 @@ refresh_below-requires-clause-covered g c q is =
     c.settle.ensures.covers q (c.attach_marking-edge.ensures.covers q (c.invalidate_up.ensures.covers q (c.requires.covered q (sym (c.attach_marking-edge.ensures.linked q) ∙ is))))
 
 pub returns-clause-fresh : goal.returns-clause-fresh
-returns-clause-fresh g c gap linked out h hole =
+returns-clause-fresh g c gap linked out h insert_pos =
     let n = g.N.NodeStore.node in
     let v = g.N.NodeStore.table c.args.summed.now.links in
-    let shown = attached_represents n v _ _ _ c.args.parent c.args.side c.args.place gap c.attach_marking-edge.ensures.attached linked out h.0 hole in
+    let shown = attached_represents n v _ _ _ c.args.parent c.args.side c.args.place gap c.attach_marking-edge.ensures.attached linked out h.0 insert_pos in
     let kept = stale_with n v _ _ c.args.place gap c.invalidate_up.ensures.stale c.invalidate_up.ensures.consistent h.1 in
     let right = c.settle.ensures.consistent _ gap.front gap.back shown (c.attach_marking-edge.ensures.consistent (insert gap c.args.place) kept) in
     all_fresh n _ _ _ (insert gap c.args.place)
@@ -52,7 +52,7 @@ pub returns-clause-beside : goal.returns-clause-beside
 returns-clause-beside g c =
     let n = g.N.NodeStore.node in
     let p = c.args.place in
-    let r = c.requires.hole in
+    let r = c.requires.insert_pos in
     let z0 = g.M.Summaries.summaries c.args.summed.now.summaries in
     let z1 = g.M.Summaries.summaries c.invalidate_up.new.summaries in
     let z2 = g.M.Summaries.summaries c.attach_marking-edge.new.summed.summaries in

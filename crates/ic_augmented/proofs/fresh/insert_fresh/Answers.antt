@@ -11,8 +11,8 @@ use Rattle.ic_augmented.specs.Consistent.{RepresentsConsistent}
 use Rattle.ic_augmented.proofs.EditLemmas.{free_member, acquired_consistent, beside_represents, own_searched, inserts_fresh}
 use Rattle.ic_augmented.proofs.fresh.insert_fresh.Goals as goal
 
-pub descend-hole-requires-clause-placed : goal.descend-hole-requires-clause-placed
-descend-hole-requires-clause-placed g c =
+pub descend-insert_pos-requires-clause-placed : goal.descend-insert_pos-requires-clause-placed
+descend-insert_pos-requires-clause-placed g c =
     let n = g.L.RBTreeOps.node in
     let alike = g.met.L.RBTreeOps.linked_alike in
     let r = c.requires.shown in
@@ -27,16 +27,16 @@ attach_fresh-requires-clause-safe g c =
     let r = c.requires.shown in
     let l = g.met.L.LinkOps.does_replay _ _ _ c.if-not-acquire_link.ensures.acquired in
     let there = still_represented n g.L.LinkOps.linked alike l.was l.is c.acquire_link.ensures.frame r.1 in
-    fits_safe n g.L.LinkOps.linked alike l.was l.is c.acquire_link.ensures.frame r.1 (ended_in_order n there (c.descend-hole.ensures.ends r.0 there) c.get.ensures)
+    fits_safe n g.L.LinkOps.linked alike l.was l.is c.acquire_link.ensures.frame r.1 (ended_in_order n there (c.descend-insert_pos.ensures.ends r.0 there) c.get.ensures)
 
-pub attach_fresh-requires-clause-hole : goal.attach_fresh-requires-clause-hole
-attach_fresh-requires-clause-hole g c =
+pub attach_fresh-requires-clause-insert_pos : goal.attach_fresh-requires-clause-insert_pos
+attach_fresh-requires-clause-insert_pos g c =
     let n = g.L.RBTreeOps.node in
     let alike = g.met.L.RBTreeOps.linked_alike in
     let r = c.requires.shown in
     let l = g.met.L.LinkOps.does_replay _ _ _ c.if-not-acquire_link.ensures.acquired in
     let there = still_represented n g.L.LinkOps.linked alike l.was l.is c.acquire_link.ensures.frame r.1 in
-    let x = ended_in_order n there (c.descend-hole.ensures.ends r.0 there) c.get.ensures in
+    let x = ended_in_order n there (c.descend-insert_pos.ensures.ends r.0 there) c.get.ensures in
     (x.gap, alike _ ∙ l.is, free_member n _ _ r.0 (join x.gap) c.place-place.result x.same r.1 (alike _ ∙ l.was), subst (λ (s : List Place). Represents n (g.L.LinkOps.table c.acquire_link.new.self) (root_kept (g.E.TreeHead.kept c.args.tree.now.head)) s) (sym x.same) there, x.insert_pos)
 
 pub attach_fresh-requires-clause-covered : goal.attach_fresh-requires-clause-covered
@@ -52,7 +52,7 @@ returns-clause-inserted g c s was =
     let l = g.met.L.LinkOps.does_replay _ _ _ c.if-not-acquire_link.ensures.acquired in
     let values = g.L.Values.values c.acquire_link.new.self in
     let there = still_represented n g.L.LinkOps.linked alike l.was l.is c.acquire_link.ensures.frame was.0 in
-    let x = ended_in_order n there (c.descend-hole.ensures.ends s there) c.get.ensures in
+    let x = ended_in_order n there (c.descend-insert_pos.ensures.ends s there) c.get.ensures in
     let free = alike _ ∙ l.was in
     let fresh = c.attach_fresh.ensures.fresh x.gap (alike _ ∙ l.is) (free_member n _ _ s (join x.gap) c.place-place.result x.same was.0 free)
     (acquired_consistent n _ _ _ _ s (join x.gap) c.place-place.result x.same free c.acquire_link.ensures.frame was) x.insert_pos in
@@ -71,7 +71,7 @@ returns-clause-kept g c s h =
     let l = g.met.L.LinkOps.does_replay _ _ _ c.if-not-acquire_link.ensures.acquired in
     let values = g.L.Values.values c.acquire_link.new.self in
     let there = still_represented n g.L.LinkOps.linked alike l.was l.is c.acquire_link.ensures.frame (shown (kept c.args.tree.now.head) h) in
-    let x = ended_in_order n there (c.descend-hole.ensures.ends s there) c.get.ensures in
+    let x = ended_in_order n there (c.descend-insert_pos.ensures.ends s there) c.get.ensures in
     own_searched g.A.Key.Ord.cmp (g.A.KeyAdapter.key_of c.args.tree.now.adapter) c.place-place.ensures (g.met.L.LinkValues.values_stay _ _ c.acquire_link.ensures.frame.extent)
     (own_is g.A.Key.Ord.cmp g.A.KeyAdapter.key_of values (c.new-probe.ensures.adapter ∙ c.adapter-adapter.ensures)
     (c.new-probe.ensures.key ∙ (c.get_key.ensures ∙ ap (λ z. g.A.KeyAdapter.key_of z c.value.result.now) c.adapter-adapter.ensures)) refl c.value.ensures)

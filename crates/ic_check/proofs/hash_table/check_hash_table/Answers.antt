@@ -8,7 +8,7 @@ loop-at-init g c = record { checks = chains_none }
 pub check_chain-requires : goal.check_chain-requires
 check_chain-requires g c =
     let many = c.count-count.ensures ∙ ap (λ b. length (g.B.BucketRow.fronts b)) c.buckets.ensures in
-    record { within = omega (arith, c.loop-at-test.true, many); well_formed = c.requires.chains.well_formed }
+    record { in_bounds = omega (arith, c.loop-at-test.true, many); well_formed = c.requires.chains.well_formed }
 
 pub returns-in_default : goal.returns-in_default
 returns-in_default g c =

@@ -1,6 +1,6 @@
 use Rattle.std.proofs.Common.{◌≡◌, ℕ, ◌<◌, None}
-use Rattle.ic_container.specs.ListArray.{lane_at}
+use Rattle.ic_container.specs.ListArray.{list_at}
 use Rattle.ic_container.proofs.list_array.first.Given as goal
 
-abbrev pub invariant-loop-lane : goal.invariant-loop-lane
-invariant-loop-lane g l = (i : ℕ) → i < l.lane-index → (lane_at l.lanes i).head ≡ None
+abbrev pub invariant-loop-list : goal.invariant-loop-list
+invariant-loop-list g l = (i : ℕ) → i < l.list-index → (list_at l.array i).head ≡ None

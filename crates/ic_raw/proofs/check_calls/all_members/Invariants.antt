@@ -7,7 +7,7 @@ use Rattle.ic_raw.proofs.check_calls.all_members.Given as goal
 abbrev pub invariant-loop-at : goal.invariant-loop-at
 invariant-loop-at l = record {
   checks : ChecksOwn (raw_entries l.fn.links) l.fn.hashes l.fn.buckets l.at l.members;
-  within : l.at ≤ length l.fn.buckets;
+  in_bounds : l.at ≤ length l.fn.buckets;
 }
 
 abbrev pub decreases-loop-at : goal.decreases-loop-at

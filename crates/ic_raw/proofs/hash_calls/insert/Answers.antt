@@ -18,10 +18,10 @@ returns c = record {
   holds = λ chains p some is free holds.
       let slot = c.slot.ensures.slot c.in-Some.at c.in-Some.is in
       let at = slot_of c.args.buckets.now c.args.hash in
-      let within : at < length c.args.buckets.now = subst (λ i. i < length c.args.buckets.now) slot.0 slot.1 in
-      let seen = subst (λ w. RepresentsList c.args.table.now w (chains at)) (chain_read c.args.buckets.now c.args.hash c.in-Some.at slot.0 _ slot.1) (holds.shown at within) in
+      let in_bounds : at < length c.args.buckets.now = subst (λ i. i < length c.args.buckets.now) slot.0 slot.1 in
+      let seen = subst (λ w. RepresentsList c.args.table.now w (chains at)) (chain_read c.args.buckets.now c.args.hash c.in-Some.at slot.0 _ slot.1) (holds.shown at in_bounds) in
       let put = (c.push_front.ensures.inserted (at_front (chains at)) p refl is seen free).done in
-      holds_inserted holds c.args.hash within (changes_chain c.args.buckets.now c.args.hash c.in-Some.at slot.0 c.push_front.new.list) p free
+      holds_inserted holds c.args.hash in_bounds (changes_chain c.args.buckets.now c.args.hash c.in-Some.at slot.0 c.push_front.new.list) p free
       (rw (chain_written c.args.buckets.now c.args.hash c.in-Some.at slot.0 c.push_front.new.list slot.1) put.shows) put.frame;
   accepted =
       let slot = c.slot.ensures.slot c.in-Some.at c.in-Some.is in

@@ -21,13 +21,13 @@ returns c = record {
       let one : c.in-Some.member ≡ p = some_same (sym c.in-Some.is ∙ c.place_of.ensures ∙ is) in
       let slot = c.slot.ensures.slot c.in-Some-slot.at c.in-Some-slot.is in
       let at = slot_of c.args.buckets.now c.args.hash in
-      let within : at < length c.args.buckets.now = subst (λ i. i < length c.args.buckets.now) slot.0 slot.1 in
+      let in_bounds : at < length c.args.buckets.now = subst (λ i. i < length c.args.buckets.now) slot.0 slot.1 in
       let shown : RepresentsList c.args.table.now (chain_of c.args.buckets.now c.args.hash) (front ++ c.in-Some.member ∷ back) =
-      subst (RepresentsList c.args.table.now (chain_of c.args.buckets.now c.args.hash)) (members ∙ ap (λ (q : Place). front ++ q ∷ back) (sym one)) (holds.shown at within) in
+      subst (RepresentsList c.args.table.now (chain_of c.args.buckets.now c.args.hash)) (members ∙ ap (λ (q : Place). front ++ q ∷ back) (sym one)) (holds.shown at in_bounds) in
       let off = c.remove_from.ensures.removed front back
       (subst (λ w. RepresentsList c.args.table.now w (front ++ c.in-Some.member ∷ back)) (chain_read c.args.buckets.now c.args.hash c.in-Some-slot.at slot.0 _ slot.1) shown) in
       let edit = off.done.0 in
-      holds_removed holds c.args.hash within (changes_chain c.args.buckets.now c.args.hash c.in-Some-slot.at slot.0 c.remove_from.new.list) front back p members
+      holds_removed holds c.args.hash in_bounds (changes_chain c.args.buckets.now c.args.hash c.in-Some-slot.at slot.0 c.remove_from.new.list) front back p members
       (rw (chain_written c.args.buckets.now c.args.hash c.in-Some-slot.at slot.0 c.remove_from.new.list slot.1) edit.shows)
       (rw one at edit.frame);
   null = search rules;

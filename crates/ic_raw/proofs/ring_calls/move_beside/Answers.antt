@@ -24,11 +24,11 @@ returns g c =
           let got = (c.move_beside.ensures.apart r s here there far).1 in
           let named : MakesTwo words (lent_table words links) (lent_table words c.move_beside.new.links) (p ∷ r ++ h ∷ s) r (put_in c.args.side h p s) = rw (place, to) at got in
           record { accepted = refl; done = makes_two_back words links c.move_beside.new.links view (search rules) named };
-      within = λ h p r s is_at is_place circle.
+      in_circle = λ h p r s is_at is_place circle.
           let to : beside ≡ h = some_same (sym c.in-Some.is ∙ c.place_of.ensures ∙ is_at) in
           let place : member ≡ p = some_same (sym c.in-Some-place_of.is ∙ c.place_of-2.ensures ∙ is_place) in
           let here : IsCircle words (lent_table words links) (member ∷ r ++ beside ∷ s) = rw (place, to) (circle_viewed words links view circle) in
-          let got = (c.move_beside.ensures.within r s here).1 in
+          let got = (c.move_beside.ensures.in_circle r s here).1 in
           let named : Makes words (lent_table words links) (lent_table words c.move_beside.new.links) (p ∷ r ++ h ∷ s) (put_in c.args.side h p (s ++ r)) = rw (place, to) at got in
           record { accepted = refl; done = makes_back words links c.move_beside.new.links view (search rules) named };
       itself = λ p r is_at is_place circle.

@@ -12,8 +12,8 @@ use Rattle.ic_raw.proofs.ring_moves.move_beside.Goals as goal
 pub returns-in_default-clause-apart : goal.returns-in_default-clause-apart
 returns-in_default-clause-apart g c r s circle ring away = absurd (some_there c.in_default.is (c.around.ensures.tells r circle))
 
-pub returns-in_default-clause-within : goal.returns-in_default-clause-within
-returns-in_default-clause-within g c r s circle = absurd (some_there c.in_default.is (c.around.ensures.tells (r ++ c.args.at ∷ s) circle))
+pub returns-in_default-clause-in_circle : goal.returns-in_default-clause-in_circle
+returns-in_default-clause-in_circle g c r s circle = absurd (some_there c.in_default.is (c.around.ensures.tells (r ++ c.args.at ∷ s) circle))
 
 pub returns-in_default-clause-itself : goal.returns-in_default-clause-itself
 returns-in_default-clause-itself g c r same circle = absurd (some_there c.in_default.is (c.around.ensures.tells r circle))
@@ -21,8 +21,8 @@ returns-in_default-clause-itself g c r same circle = absurd (some_there c.in_def
 pub returns-then-eq-clause-apart : goal.returns-then-eq-clause-apart
 returns-then-eq-clause-apart g c r s circle ring away = absurd (away.0.0 (sym (tested_same _ _ (sym c.eq.ensures ∙ c.if-eq.true))))
 
-pub returns-then-eq-clause-within : goal.returns-then-eq-clause-within
-returns-then-eq-clause-within g c r s circle =
+pub returns-then-eq-clause-in_circle : goal.returns-then-eq-clause-in_circle
+returns-then-eq-clause-in_circle g c r s circle =
     absurd ((absent_right c.args.place r (c.args.at ∷ s) circle.distinct.0).0 (sym (tested_same _ _ (sym c.eq.ensures ∙ c.if-eq.true))))
 
 pub returns-then-eq-clause-linked : goal.returns-then-eq-clause-linked
@@ -34,8 +34,8 @@ returns-in_default-beside-clause-apart g c r s circle ring away =
     let words = link_words g.W.Words g.W.NextWord g.W.PrevPlace in
     let x = circle_tells words (lent_table words c.args.links.now) s ring c.args.side in absurd (none_not x.0 (sym c.in_default-beside.is ∙ c.beside.ensures.tells x.0 x.1 x.2))
 
-pub returns-in_default-beside-clause-within : goal.returns-in_default-beside-clause-within
-returns-in_default-beside-clause-within g c r s circle =
+pub returns-in_default-beside-clause-in_circle : goal.returns-in_default-beside-clause-in_circle
+returns-in_default-beside-clause-in_circle g c r s circle =
     let words = link_words g.W.Words g.W.NextWord g.W.PrevPlace in
     let ring = rotated {n = neighbors words} (c.args.place ∷ r) (c.args.at ∷ s) circle in
     let x = circle_tells words (lent_table words c.args.links.now) (s ++ c.args.place ∷ r) ring c.args.side in
@@ -51,8 +51,8 @@ returns-then-eq-2-clause-apart g c r s circle ring away =
     let apart = not_beside words c.args.side (lent_table words c.args.links.now) s ring c.in-Some-beside.to links_back.0 links_back.1 c.args.place away.0 in
     absurd (neighbor_not c.args.side c.in-Some-beside.to apart (sym c.neighbor_on.ensures ∙ tested_same _ _ (sym c.eq-2.ensures ∙ c.if-eq-2.true)))
 
-pub returns-then-eq-2-clause-within : goal.returns-then-eq-2-clause-within
-returns-then-eq-2-clause-within g c r s circle =
+pub returns-then-eq-2-clause-in_circle : goal.returns-then-eq-2-clause-in_circle
+returns-then-eq-2-clause-in_circle g c r s circle =
     let words = link_words g.W.Words g.W.NextWord g.W.PrevPlace in
     let links_back = c.beside.ensures.links_back c.in-Some-beside.to c.in-Some-beside.is in
     let there = sym c.neighbor_on.ensures ∙ tested_same _ _ (sym c.eq-2.ensures ∙ c.if-eq-2.true) in
@@ -111,8 +111,8 @@ returns-clause-apart g c r s circle ring away =
       },
     )
 
-pub returns-clause-within : goal.returns-clause-within
-returns-clause-within g c r s circle =
+pub returns-clause-in_circle : goal.returns-clause-in_circle
+returns-clause-in_circle g c r s circle =
     let words = link_words g.W.Words g.W.NextWord g.W.PrevPlace in
     let old = lent_table words c.args.links.now in
     let place = c.args.place in

@@ -31,10 +31,10 @@ returns-in_default-named-clause-down c some =
     let down = at_end c.loop.invariant c.look_at-first.ensures.passed (sym c.look_at-first.ensures.below ∙ (sym c.named.ensures ∙ c.in_default-named.is)) in
     down.down
 
-pub returns-in_default-named-clause-within : goal.returns-in_default-named-clause-within
-returns-in_default-named-clause-within c S h =
+pub returns-in_default-named-clause-in_closed_set : goal.returns-in_default-named-clause-in_closed_set
+returns-in_default-named-clause-in_closed_set c S h =
     let down = at_end c.loop.invariant c.look_at-first.ensures.passed (sym c.look_at-first.ensures.below ∙ (sym c.named.ensures ∙ c.in_default-named.is)) in
-    rw c.end.ensures (down.within S h)
+    rw c.end.ensures (down.in_closed_set S h)
 
 pub returns-in_default-named-2-clause-ends : goal.returns-in_default-named-2-clause-ends
 returns-in_default-named-2-clause-ends c s h =
@@ -46,10 +46,10 @@ returns-in_default-named-2-clause-down c some =
     let down = at_end (at_next c.loop.invariant c.look_at-first.ensures.passed (sym c.look_at-first.ensures.below ∙ (sym c.named.ensures ∙ c.in-Some-named.is))) c.look_at-next.ensures.passed (sym c.look_at-next.ensures.below ∙ (sym c.named-in-loop.ensures ∙ c.in_default-named-2.is)) in
     down.down
 
-pub returns-in_default-named-2-clause-within : goal.returns-in_default-named-2-clause-within
-returns-in_default-named-2-clause-within c S h =
+pub returns-in_default-named-2-clause-in_closed_set : goal.returns-in_default-named-2-clause-in_closed_set
+returns-in_default-named-2-clause-in_closed_set c S h =
     let down = at_end (at_next c.loop.invariant c.look_at-first.ensures.passed (sym c.look_at-first.ensures.below ∙ (sym c.named.ensures ∙ c.in-Some-named.is))) c.look_at-next.ensures.passed (sym c.look_at-next.ensures.below ∙ (sym c.named-in-loop.ensures ∙ c.in_default-named-2.is)) in
-    rw c.end-in_default-named-2.ensures (down.within S h)
+    rw c.end-in_default-named-2.ensures (down.in_closed_set S h)
 
 pub returns-in_default-named-3-clause-ends : goal.returns-in_default-named-3-clause-ends
 returns-in_default-named-3-clause-ends c s h =
@@ -61,10 +61,10 @@ returns-in_default-named-3-clause-down c some =
     let down = at_end (at_next (at_next c.loop.invariant c.look_at-first.ensures.passed (sym c.look_at-first.ensures.below ∙ (sym c.named.ensures ∙ c.in-Some-named.is))) c.look_at-next.ensures.passed (sym c.look_at-next.ensures.below ∙ (sym c.named-in-loop.ensures ∙ c.in-Some-named-2.is))) c.look_at-last.ensures.passed (sym c.look_at-last.ensures.below ∙ (sym c.named-in-loop-2.ensures ∙ c.in_default-named-3.is)) in
     down.down
 
-pub returns-in_default-named-3-clause-within : goal.returns-in_default-named-3-clause-within
-returns-in_default-named-3-clause-within c S h =
+pub returns-in_default-named-3-clause-in_closed_set : goal.returns-in_default-named-3-clause-in_closed_set
+returns-in_default-named-3-clause-in_closed_set c S h =
     let down = at_end (at_next (at_next c.loop.invariant c.look_at-first.ensures.passed (sym c.look_at-first.ensures.below ∙ (sym c.named.ensures ∙ c.in-Some-named.is))) c.look_at-next.ensures.passed (sym c.look_at-next.ensures.below ∙ (sym c.named-in-loop.ensures ∙ c.in-Some-named-2.is))) c.look_at-last.ensures.passed (sym c.look_at-last.ensures.below ∙ (sym c.named-in-loop-2.ensures ∙ c.in_default-named-3.is)) in
-    rw c.end-in_default-named-3.ensures (down.within S h)
+    rw c.end-in_default-named-3.ensures (down.in_closed_set S h)
 
 pub loop-preserved : goal.loop-preserved
 loop-preserved c =

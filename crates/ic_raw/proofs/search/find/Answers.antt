@@ -23,8 +23,8 @@ returns-in_default-clause-found c s shown =
 pub compare_at-requires : goal.compare_at-requires
 compare_at-requires c =
     let t = lent_table c.args.links.now in
-    let within = rw c.in-Some.is at (c.descend.ensures.within (has_place t) (closed t _ (end_in t (in_range c.args.links.now) _ c.requires.root))) in
-    keyed t c.args.keys.now c.requires.keys c.in-Some-get.member (in_there (has_place t) within.1.1.0 (sym c.get.ensures ∙ c.in-Some-get.is))
+    let in_closed_set = rw c.in-Some.is at (c.descend.ensures.in_closed_set (has_place t) (closed t _ (end_in t (in_range c.args.links.now) _ c.requires.root))) in
+    keyed t c.args.keys.now c.requires.keys c.in-Some-get.member (in_there (has_place t) in_closed_set.1.1.0 (sym c.get.ensures ∙ c.in-Some-get.is))
 
 pub returns-in_default-get-clause-found : goal.returns-in_default-get-clause-found
 returns-in_default-get-clause-found c s shown =
@@ -104,17 +104,17 @@ returns-in-AtMost-clause-bounded c q is =
     rw c.in-AtMost.is (at_least _ (sym (ap (λ side. goes_left side (against c.args.key c.args.keys.now q)) (c.equals_of.ensures ∙ ap equals_of c.in-AtMost.is))
     ∙ turned.front q (sym c.get-in-AtMost.ensures ∙ some_same is)))
 
-pub returns-then-is_eq-clause-within : goal.returns-then-is_eq-clause-within
-returns-then-is_eq-clause-within c S h =
-    let within = rw c.in-Some.is at (c.descend.ensures.within S h) in
-    in_there S within.1.1.0 (sym c.get.ensures ∙ c.in-Some-get.is)
+pub returns-then-is_eq-clause-in_closed_set : goal.returns-then-is_eq-clause-in_closed_set
+returns-then-is_eq-clause-in_closed_set c S h =
+    let in_closed_set = rw c.in-Some.is at (c.descend.ensures.in_closed_set S h) in
+    in_there S in_closed_set.1.1.0 (sym c.get.ensures ∙ c.in-Some-get.is)
 
-pub returns-in-AtLeast-clause-within : goal.returns-in-AtLeast-clause-within
-returns-in-AtLeast-clause-within c S h =
-    let within = rw c.in-Some.is at (c.descend.ensures.within S h) in
-    read_in S within.1.1.0 c.get-in-AtLeast.ensures
+pub returns-in-AtLeast-clause-in_closed_set : goal.returns-in-AtLeast-clause-in_closed_set
+returns-in-AtLeast-clause-in_closed_set c S h =
+    let in_closed_set = rw c.in-Some.is at (c.descend.ensures.in_closed_set S h) in
+    read_in S in_closed_set.1.1.0 c.get-in-AtLeast.ensures
 
-pub returns-in-AtMost-clause-within : goal.returns-in-AtMost-clause-within
-returns-in-AtMost-clause-within c S h =
-    let within = rw c.in-Some.is at (c.descend.ensures.within S h) in
-    read_in S within.1.0 c.get-in-AtMost.ensures
+pub returns-in-AtMost-clause-in_closed_set : goal.returns-in-AtMost-clause-in_closed_set
+returns-in-AtMost-clause-in_closed_set c S h =
+    let in_closed_set = rw c.in-Some.is at (c.descend.ensures.in_closed_set S h) in
+    read_in S in_closed_set.1.0 c.get-in-AtMost.ensures

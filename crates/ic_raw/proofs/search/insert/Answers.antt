@@ -24,22 +24,22 @@ pub is_open-requires : goal.is_open-requires
 is_open-requires g c =
     let t = lent_table c.args.links.now in
     let inside = closed t _ (end_in t (in_range c.args.links.now) _ (c.is_searchable.ensures.root c.if-not-is_searchable.false)) in
-    let within = rw c.in-Some-descend.is at (c.descend.ensures.within (has_place t) inside) in
-    within.0
+    let in_closed_set = rw c.in-Some-descend.is at (c.descend.ensures.in_closed_set (has_place t) inside) in
+    in_closed_set.0
 
 pub returns-then-not-is_open-clause-inserted : goal.returns-then-not-is_open-clause-inserted
 returns-then-not-is_open-clause-inserted g c s p shown is enough free =
     let at = against (slice_index c.args.keys.now c.index.result) c.args.keys.now in
     let f = fits (lent_table c.args.links.now) (in_range c.args.links.now) {at = at} c.in-Some-descend.way shown refl
     (λ s h. ends_at h.tree at {equals = Right} (c.descend.ensures.ends s h) c.in-Some-descend.is refl) in
-    absurd (never c.if-not-is_open.true (c.is_open.ensures f.gap f.shown f.hole))
+    absurd (never c.if-not-is_open.true (c.is_open.ensures f.gap f.shown f.insert_pos))
 
 pub put-requires : goal.put-requires
 put-requires g c =
     let t = lent_table c.args.links.now in
     let root = end_in t (in_range c.args.links.now) _ (c.is_searchable.ensures.root c.if-not-is_searchable.false) in
-    let within = rw c.in-Some-descend.is at (c.descend.ensures.within (has_place t) (closed t _ root)) in
-    (read_in (has_place t) within.0 c.get.ensures, (root, tt))
+    let in_closed_set = rw c.in-Some-descend.is at (c.descend.ensures.in_closed_set (has_place t) (closed t _ root)) in
+    (read_in (has_place t) in_closed_set.0 c.get.ensures, (root, tt))
 
 pub returns-clause-inserted : goal.returns-clause-inserted
 returns-clause-inserted g c s p shown is enough free =
@@ -49,17 +49,17 @@ returns-clause-inserted g c s p shown is enough free =
     let at = against (slice_index c.args.keys.now c.index.result) c.args.keys.now in
     let f = fits (lent_table c.args.links.now) (in_range c.args.links.now) {at = at} c.in-Some-descend.way shown c.get.ensures
     (λ s h. ends_at h.tree at {equals = Right} (c.descend.ensures.ends s h) c.in-Some-descend.is refl) in
-    let put = c.put.ensures.inserted f.gap p f.shown f.hole (sym c.in-Some.is ∙ is) free in
+    let put = c.put.ensures.inserted f.gap p f.shown f.insert_pos (sym c.in-Some.is ∙ is) free in
     rw (← key) (put.0, record { gap = f.gap; same = f.same; border = f.border; inserted = put.1 })
 
 pub returns-clause-free : goal.returns-clause-free
 returns-clause-free g c made =
     let free = c.put.ensures.free made in (free.0, c.in-Some.is ∙ free.1, free.2)
 
-pub returns-clause-within : goal.returns-clause-within
-returns-clause-within g c made =
-    rw c.in-Some.is (led_within (λ S h. let within = rw c.in-Some-descend.is at (c.descend.ensures.within S h) in read_in S within.0 c.get.ensures)
-    (c.put.ensures.within made))
+pub returns-clause-in_closed_set : goal.returns-clause-in_closed_set
+returns-clause-in_closed_set g c made =
+    rw c.in-Some.is (led_within (λ S h. let in_closed_set = rw c.in-Some-descend.is at (c.descend.ensures.in_closed_set S h) in read_in S in_closed_set.0 c.get.ensures)
+    (c.put.ensures.in_closed_set made))
 
-pub returns-clause-told : goal.returns-clause-told
-returns-clause-told g c p is made = c.put.ensures.told p (sym c.in-Some.is ∙ is) made
+pub returns-clause-reported : goal.returns-clause-reported
+returns-clause-reported g c p is made = c.put.ensures.reported p (sym c.in-Some.is ∙ is) made

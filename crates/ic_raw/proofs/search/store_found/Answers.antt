@@ -21,7 +21,7 @@ pub hand_out-requires : goal.hand_out-requires
 hand_out-requires c =
     let t = lent_table c.args.links.now in
     let root = end_in t (in_range c.args.links.now) _ (c.is_searchable.ensures.root c.if-not-is_searchable.false) in
-    rw c.in-Some.is at (c.find.ensures.within (has_place t) (closed t _ root))
+    rw c.in-Some.is at (c.find.ensures.in_closed_set (has_place t) (closed t _ root))
 
 pub returns-clause-found : goal.returns-clause-found
 returns-clause-found c s shown enough =
@@ -45,5 +45,5 @@ returns-clause-reached c ok =
       links_back.0,
       links_back.2,
       links_back.3,
-      (λ S h ends. let within = rw c.in-Some.is at (c.find.ensures.within S h) in in_there S within links_back.1),
+      (λ S h ends. let in_closed_set = rw c.in-Some.is at (c.find.ensures.in_closed_set S h) in in_there S in_closed_set links_back.1),
     )

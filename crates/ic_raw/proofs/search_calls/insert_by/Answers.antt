@@ -20,7 +20,7 @@ returns-then-not-insert-clause-call g c = record {
   enough = search rules;
   root = search rules;
   linked = search rules;
-  within = search rules;
+  in_closed_set = search rules;
   words = search rules;
   refused = search rules;
   why = search rules;
@@ -44,14 +44,14 @@ returns-clause-call g c = record {
   linked = λ p is made.
       steps_back c.new-links.result c.insert.new.links (acquires p ∷ []) c.new-links.ensures.1 (search rules)
       (c.insert.ensures.linked p (c.place_of.ensures ∙ is) (search rules));
-  within = λ made.
+  in_closed_set = λ made.
       within_back c.new-links.result c.insert.new.links c.new-links.ensures.1 (search rules) (search rules) (search rules) (search rules) refl refl
-      (c.insert.ensures.within (search rules));
+      (c.insert.ensures.in_closed_set (search rules));
   words = search rules;
   refused = search rules;
   why = search rules;
   is_status = search rules;
 }
 
-pub returns-clause-told : goal.returns-clause-told
-returns-clause-told g c p is made = (c.new-links.result, c.insert.new.links, c.new-links.ensures.1, search rules, c.insert.ensures.told p (c.place_of.ensures ∙ is) (search rules))
+pub returns-clause-reported : goal.returns-clause-reported
+returns-clause-reported g c p is made = (c.new-links.result, c.insert.new.links, c.new-links.ensures.1, search rules, c.insert.ensures.reported p (c.place_of.ensures ∙ is) (search rules))

@@ -2,14 +2,14 @@ use Rattle.std.proofs.Common.{◌≡◌, Some, [], ◌∷◌, refl, sym, ◌∙�
 use Rattle.ic_link_ops.specs.Sequences.{join}
 use Rattle.ic_link_ops.proofs.SequenceLemmas.{some_same}
 use Rattle.ic_rbtree.specs.Pieces.{loose}
-use Rattle.ic_rbtree.proofs.Attaching.{acquired_represented, hole_kept, inserts}
+use Rattle.ic_rbtree.proofs.Attaching.{acquired_represented, insert_pos_kept, inserts}
 use Rattle.ic_rbtree.proofs.Closed.{weaker}
 use Rattle.ic_rbtree.proofs.Removing.{represents_of}
 use Rattle.ic_raw.specs.Words.{is_linked_three}
 use Rattle.ic_raw.specs.Tree.{node, lent_table}
 use Rattle.ic_raw.specs.Seen.{seen, seen_node, has_place}
 use Rattle.ic_raw.proofs.Seen.{seen_changes}
-use Rattle.ic_raw.proofs.Trees.{in_range, in_kept, has, closed, seen_represented, seen_hole, told_kept, told_with, links_back, frame_told}
+use Rattle.ic_raw.proofs.Trees.{in_range, in_kept, has, closed, seen_represented, seen_insert_pos, told_kept, told_with, links_back, frame_told}
 use Rattle.ic_raw.proofs.TreeSets.{came_within}
 use Rattle.ic_raw.proofs.Touches.{links_first}
 use Rattle.ic_raw.proofs.tree.put.Goals as goal
@@ -39,8 +39,8 @@ returns-clause-inserted g c cut p shown at is free =
     let only = c.acquire.ensures.frame _ taken in
     let beside = acquired_represented node is_linked_three (λ e. refl) old mid root (join cut) place shown was on only in
     let before = seen_represented mid (in_range c.acquire.new.links) (loose place ∷ []) beside (has mid (in_range c.acquire.new.links) place on, tt) in
-    let there = hole_kept node is_linked_three (λ e. refl) old mid root c.args.at c.args.side cut place shown was only at in
-    let after = c.attach.ensures.attached (seen mid) cut [] before (seen_hole mid c.args.side c.args.at cut there) in
+    let there = insert_pos_kept node is_linked_three (λ e. refl) old mid root c.args.at c.args.side cut place shown was only at in
+    let after = c.attach.ensures.attached (seen mid) cut [] before (seen_insert_pos mid c.args.side c.args.at cut there) in
     rw one (
       refl,
       record {
@@ -59,14 +59,14 @@ returns-clause-linked g c p is made =
     let taken : c.acquire.result ≡ Some p = c.in-Some.is ∙ sym (c.acquire.ensures.same _ c.in-Some.is) ∙ is in
     links_first (c.acquire.ensures.free p taken) (c.acquire.ensures.linked p taken) (c.acquire.ensures.frame p taken) c.attach.ensures.keeps_links.marks
 
-pub returns-clause-within : goal.returns-clause-within
-returns-clause-within g c made =
+pub returns-clause-in_closed_set : goal.returns-clause-in_closed_set
+returns-clause-in_closed_set g c made =
     let taken = c.in-Some.is in
     rw (c.acquire.ensures.same _ taken) (came_within (c.acquire.ensures.free _ taken) (c.acquire.ensures.frame _ taken) (c.acquire.ensures.bare _ taken)
     c.attach.ensures.keeps_links
     (λ T h here i. c.attach.ensures.safe T h (here, (i, tt))) c.requires.1.0 c.requires.0)
 
-pub returns-clause-told : goal.returns-clause-told
-returns-clause-told g c p is made =
+pub returns-clause-reported : goal.returns-clause-reported
+returns-clause-reported g c p is made =
     let taken : c.acquire.result ≡ Some p = c.in-Some.is ∙ sym (c.acquire.ensures.same _ c.in-Some.is) ∙ is in
-    (lent_table c.acquire.new.links, c.acquire.ensures.frame p taken, c.attach.ensures.told)
+    (lent_table c.acquire.new.links, c.acquire.ensures.frame p taken, c.attach.ensures.reported)

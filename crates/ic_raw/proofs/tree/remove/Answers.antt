@@ -43,8 +43,8 @@ returns-clause-removed g c front back shown =
 pub returns-clause-unlinked : goal.returns-clause-unlinked
 returns-clause-unlinked g c made = unlinks_last c.unlink.ensures.keeps_links.marks c.release_link.ensures.released
 
-pub returns-clause-within : goal.returns-clause-within
-returns-clause-within g c made =
+pub returns-clause-in_closed_set : goal.returns-clause-in_closed_set
+returns-clause-in_closed_set g c made =
     let v = lent_table c.args.links.now in
     let law = in_range c.args.links.now in
     let ok = c.if-not-may_hold.false in
@@ -52,5 +52,5 @@ returns-clause-within g c made =
     left_within (stays_within c.unlink.ensures.keeps_links c.unlink.ensures.safe (end_in v law _ (c.may_hold.ensures.root ok)) (here, tt))
     c.release_link.ensures.frame
 
-pub returns-clause-told : goal.returns-clause-told
-returns-clause-told g c made = (lent_table c.unlink.new.links, c.unlink.ensures.told, c.release_link.ensures.frame)
+pub returns-clause-reported : goal.returns-clause-reported
+returns-clause-reported g c made = (lent_table c.unlink.new.links, c.unlink.ensures.reported, c.release_link.ensures.frame)

@@ -83,8 +83,8 @@ returns-clause-exchanged c p is made =
     exchanges (links_first free (c.acquire.ensures.linked p taken) (c.acquire.ensures.frame p taken) c.take_place.ensures.keeps_links.marks) apart
     c.release_link.ensures.released
 
-pub returns-clause-within : goal.returns-clause-within
-returns-clause-within c made =
+pub returns-clause-in_closed_set : goal.returns-clause-in_closed_set
+returns-clause-in_closed_set c made =
     let taken = c.in-Some.is in
     let v = lent_table c.args.links.now in
     let law = in_range c.args.links.now in

@@ -21,7 +21,7 @@ returns-then-not-remove-clause-call g c = record {
   root = search rules;
   own = search rules;
   unlinked = search rules;
-  within = search rules;
+  in_closed_set = search rules;
   words = search rules;
   refused = search rules;
   why = search rules;
@@ -50,17 +50,17 @@ returns-clause-call g c = record {
       let one : p ≡ c.in-Some.member = some_same (sym at ∙ sym c.place_of.ensures ∙ c.in-Some.is) in
       rw one (steps_back c.new-links.result c.remove.new.links (releases c.in-Some.member ∷ []) c.new-links.ensures.1 (search rules)
       (c.remove.ensures.unlinked (search rules)));
-  within = λ made.
+  in_closed_set = λ made.
       let is = sym c.place_of.ensures ∙ c.in-Some.is in
       within_back c.new-links.result c.remove.new.links c.new-links.ensures.1 (search rules) (search rules) (search rules) refl is (ap (λ o. o ∷ []) is)
-      (c.remove.ensures.within (search rules));
+      (c.remove.ensures.in_closed_set (search rules));
   words = search rules;
   refused = search rules;
   why = search rules;
   is_status = search rules;
 }
 
-pub returns-clause-told : goal.returns-clause-told
-returns-clause-told g c p at made =
+pub returns-clause-reported : goal.returns-clause-reported
+returns-clause-reported g c p at made =
     let one : p ≡ c.in-Some.member = some_same (sym at ∙ sym c.place_of.ensures ∙ c.in-Some.is) in
-    rw one (c.new-links.result, c.remove.new.links, c.new-links.ensures.1, search rules, c.remove.ensures.told (search rules))
+    rw one (c.new-links.result, c.remove.new.links, c.new-links.ensures.1, search rules, c.remove.ensures.reported (search rules))

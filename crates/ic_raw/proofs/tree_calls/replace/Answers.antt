@@ -23,7 +23,7 @@ returns-then-not-replace c = record {
   root = search rules;
   own = search rules;
   exchanged = search rules;
-  within = search rules;
+  in_closed_set = search rules;
   words = search rules;
   refused = search rules;
   why = search rules;
@@ -55,10 +55,10 @@ returns c = record {
       let one : out ≡ c.in-Some.member = some_same (sym at ∙ sym c.place_of.ensures ∙ c.in-Some.is) in
       rw one (exchanges_back c.new-links.result c.replace.new.links c.new-links.ensures.1 (search rules)
       (c.replace.ensures.exchanged p (c.place_of-2.ensures ∙ is) (search rules)));
-  within = λ made.
+  in_closed_set = λ made.
       let is = sym c.place_of.ensures ∙ c.in-Some.is in
       within_back c.new-links.result c.replace.new.links c.new-links.ensures.1 (search rules) (search rules) (search rules) (search rules) is (ap (λ o. o ∷ []) is)
-      (c.replace.ensures.within (search rules));
+      (c.replace.ensures.in_closed_set (search rules));
   words = search rules;
   refused = search rules;
   why = search rules;

@@ -15,7 +15,7 @@ returns c = record {
       subst (λ (ws : List RawThree). IsSummed c.args.kind (table_of ws) c.settle.new.sums s) (sym c.settle.ensures.same)
       (c.settle.ensures.right ok root s shown'
       (put_in c.args.kind c.args.sums.now s c.of-written.result c.insert_at_by-status.new.by {old = c.args.table.now} {new = c.insert_at_by-status.new.table} (place_of c.args.place) (λ none. c.insert_at_by-status.ensures.call.no_place none ok)
-      (λ p is. c.of-written.ensures p (c.place_of.ensures ∙ is)) (λ p is. c.insert_at_by-status.ensures.told p is ok) right));
+      (λ p is. c.of-written.ensures p (c.place_of.ensures ∙ is)) (λ p is. c.insert_at_by-status.ensures.reported p is ok) right));
   values = c.settle.ensures.kept;
   has_sums = λ ok. c.if-sums-table.false;
   refused = λ no. let left = c.insert_at_by-status.ensures.call.refused no in (c.settle.ensures.same ∙ left.0, left.1, c.settle.ensures.refused no);

@@ -19,7 +19,7 @@ returns c = record {
       (taken_out c.args.kind c.args.sums.now s c.of-written.result c.remove_by-status.new.by {old = c.args.table.now} {new = c.remove_by-status.new.table} (place_of c.args.at)
       (λ none. let null : c.remove_by-status.result ≡ 4 = c.remove_by-status.ensures.call.null.1 none in omega (arith, null, ok))
       (λ p is m. let on = holds_linked shown'.held m in let off = (c.remove_by-status.ensures.call.unlinked p is ok).is in never off on)
-      (λ p is. c.remove_by-status.ensures.told p is ok) right));
+      (λ p is. c.remove_by-status.ensures.reported p is ok) right));
   values = c.settle.ensures.kept;
   has_sums = λ ok. c.if-sums-table.false;
   refused = λ no. let left = c.remove_by-status.ensures.call.refused no in (c.settle.ensures.same ∙ left.0, left.1, c.settle.ensures.refused no);

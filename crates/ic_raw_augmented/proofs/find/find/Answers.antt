@@ -28,10 +28,10 @@ returns-then-bound-done-clause-found c cut h at r =
     (found_next c.args.kind (lent_table c.args.links.now) c.args.sums.now cut c.args.at c.next_end-below.result c.next_end-below.ensures c.args.bound c.in_ok-next.next c.first_below.result
     c.in_ok-next.was more c.first_below.ensures.found h at r) c.in_ok-member.was
 
-pub returns-then-bound-done-clause-within : goal.returns-then-bound-done-clause-within
-returns-then-bound-done-clause-within c S closed i =
+pub returns-then-bound-done-clause-in_closed_set : goal.returns-then-bound-done-clause-in_closed_set
+returns-then-bound-done-clause-in_closed_set c S closed i =
     let next = in_there S (read_in S (next_in (lent_table c.args.links.now) c.args.root c.args.at S closed i) c.next_end-below.ensures) c.in_ok-next.was in
-    in_there S (c.first_below.ensures.within S (unrooted closed) next) c.in_ok-member.was
+    in_there S (c.first_below.ensures.in_closed_set S (unrooted closed) next) c.in_ok-member.was
 
 pub returns-in_default-clause-found : goal.returns-in_default-clause-found
 returns-in_default-clause-found c cut h at r =
@@ -48,8 +48,8 @@ returns-clause-found c cut h at r =
     (subst (λ (d : ℕ). FindsAbove c.args.kind v c.args.sums.now c.in-Some.place d c.args.bound 67 c.first_above.result) c.sum_below-done.ensures c.first_above.ensures.found)
     h (sym c.in-Some.is ∙ at) r
 
-pub returns-clause-within : goal.returns-clause-within
-returns-clause-within c S closed i = c.first_above.ensures.within S (unrooted closed) (in_there S i c.in-Some.is)
+pub returns-clause-in_closed_set : goal.returns-clause-in_closed_set
+returns-clause-in_closed_set c S closed i = c.first_above.ensures.in_closed_set S (unrooted closed) (in_there S i c.in-Some.is)
 
 pub returns-in_default-clause-ended : goal.returns-in_default-clause-ended
 returns-in_default-clause-ended c is =

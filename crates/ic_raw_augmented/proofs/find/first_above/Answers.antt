@@ -26,8 +26,8 @@ returns-then-bound-with_it-clause-found c =
     (above_here c.args.kind (lent_table c.args.links.now) c.args.sums.now c.loop.place c.in-Some.above (sym c.parent.ensures ∙ c.in-Some.is) (67 - c.loop.counter) c.loop.done c.args.bound
     c.combine-with_it.result (c.combine-with_it.ensures ∙ ap (combined c.args.kind c.loop.done) c.value_at.ensures) (sym c.is_child.ensures ∙ c.if-not-is_child.true) c.if-bound-with_it.true)
 
-pub returns-then-bound-with_it-clause-within : goal.returns-then-bound-with_it-clause-within
-returns-then-bound-with_it-clause-within c S shut here =
+pub returns-then-bound-with_it-clause-in_closed_set : goal.returns-then-bound-with_it-clause-in_closed_set
+returns-then-bound-with_it-clause-in_closed_set c S shut here =
     in_there S (read_in S (shut.parent c.loop.place (c.loop.invariant.there S shut here) (none_not c.loop.place)) c.parent.ensures) c.in-Some.is
 
 pub returns-in_err-member-clause-found : goal.returns-in_err-member-clause-found
@@ -46,11 +46,11 @@ returns-then-bound-with_right-clause-found c =
     (c.combine-with_right.ensures ∙ ap (combined c.args.kind c.combine-with_it.result) c.sum_below.ensures) c.if-bound-with_it.false (sym c.is_child.ensures ∙ c.if-not-is_child.true)
     c.in_ok-next.next c.first_below.result c.in_ok-next.was c.if-bound-with_right.true c.first_below.ensures.found c.in_ok-member.member c.in_ok-member.was)
 
-pub returns-then-bound-with_right-clause-within : goal.returns-then-bound-with_right-clause-within
-returns-then-bound-with_right-clause-within c S shut here =
+pub returns-then-bound-with_right-clause-in_closed_set : goal.returns-then-bound-with_right-clause-in_closed_set
+returns-then-bound-with_right-clause-in_closed_set c S shut here =
     let up = in_there S (read_in S (shut.parent c.loop.place (c.loop.invariant.there S shut here) (none_not c.loop.place)) c.parent.ensures) c.in-Some.is in
     let next = in_there S (read_in S (shut.right c.in-Some.above up (none_not c.in-Some.above)) c.right-right.ensures) c.in_ok-next.was in
-    in_there S (c.first_below.ensures.within S shut next) c.in_ok-member.was
+    in_there S (c.first_below.ensures.in_closed_set S shut next) c.in_ok-member.was
 
 pub loop-preserved : goal.loop-preserved
 loop-preserved c =

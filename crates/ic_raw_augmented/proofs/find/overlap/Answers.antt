@@ -23,8 +23,8 @@ returns-in_default-clause-found c cut h at r sorted =
 pub bounds-starts-index : goal.bounds-starts-index
 bounds-starts-index c =
     let t = lent_table c.args.links.now in
-    let within = rw c.in_ok-position.was at (c.find.ensures.within (has_place t) (closed t c.args.root c.requires.root) c.requires.at) in
-    let inside = ltb-true (index_of c.in-Some.member) t.extent.places (in_there (has_place t) within c.in-Some.is) in
+    let in_closed_set = rw c.in_ok-position.was at (c.find.ensures.in_closed_set (has_place t) (closed t c.args.root c.requires.root) c.requires.at) in
+    let inside = ltb-true (index_of c.in-Some.member) t.extent.places (in_there (has_place t) in_closed_set c.in-Some.is) in
     let enough = c.requires.starts in
     let index = c.index.ensures.value in
     omega (arith, inside, enough, index)
@@ -37,9 +37,9 @@ returns-then-starts-index-clause-found c cut h at r sorted =
     ap Some (it_overlaps (key_of c.args.starts.now) (value_at c.args.sums.now) c.args.from c.args.to cut.back c.in-Some.member
     (subst (λ (o : Option Place). IsFirstBeyond Greatest (value_at c.args.sums.now) [] c.args.from cut.back o) one f.2) less)
 
-pub returns-then-starts-index-clause-within : goal.returns-then-starts-index-clause-within
-returns-then-starts-index-clause-within c S closed i =
-    let within = rw c.in_ok-position.was at (c.find.ensures.within S closed i) in in_there S within c.in-Some.is
+pub returns-then-starts-index-clause-in_closed_set : goal.returns-then-starts-index-clause-in_closed_set
+returns-then-starts-index-clause-in_closed_set c S closed i =
+    let in_closed_set = rw c.in_ok-position.was at (c.find.ensures.in_closed_set S closed i) in in_there S in_closed_set c.in-Some.is
 
 pub returns-clause-found : goal.returns-clause-found
 returns-clause-found c cut h at r sorted =
@@ -55,4 +55,4 @@ returns-in_default-clause-ended c is = inl (c.find.ensures.ended (c.in_ok-positi
 pub returns-clause-ended : goal.returns-clause-ended
 returns-clause-ended c is =
     let late : c.args.to ≤ key_of c.args.starts.now c.in-Some.member = rw (← c.index.ensures.value) c.if-starts-index.false in
-    inr (c.in-Some.member, (λ S shut i. in_there S (rw c.in_ok-position.was at (c.find.ensures.within S shut i.0)) c.in-Some.is), late)
+    inr (c.in-Some.member, (λ S shut i. in_there S (rw c.in_ok-position.was at (c.find.ensures.in_closed_set S shut i.0)) c.in-Some.is), late)

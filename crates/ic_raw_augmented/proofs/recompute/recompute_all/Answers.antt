@@ -10,7 +10,7 @@ pub loop-index-init : goal.loop-index-init
 loop-index-init c = record {
   right = λ root s shown q m off. let k : true ≡ false = sym (from_first q) ∙ off in cc;
   kept = record { count = refl; values = λ q. refl };
-  within = omega arith;
+  in_bounds = omega arith;
 }
 
 pub loop-index-smaller : goal.loop-index-smaller
@@ -23,7 +23,7 @@ loop-index-preserved c = record {
     count = c.recompute_index.ensures.kept.count ∙ c.loop-index.invariant.kept.count;
     values = λ q. c.recompute_index.ensures.kept.values q ∙ c.loop-index.invariant.kept.values q;
   };
-  within = let less = c.loop-index-test.true in let e = c.places.ensures in omega (arith, less, e);
+  in_bounds = let less = c.loop-index-test.true in let e = c.places.ensures in omega (arith, less, e);
 }
 
 pub returns-clause-right : goal.returns-clause-right

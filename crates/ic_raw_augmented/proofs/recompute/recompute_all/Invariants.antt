@@ -10,7 +10,7 @@ abbrev pub invariant-loop-index : goal.invariant-loop-index
 invariant-loop-index l = record {
   right : (root : Option Place) (s : List Place) → IsSeen (lent_table l.fn.links) root s → IsSummedBut l.fn.kind (lent_table l.fn.links) l.sums s (is_from l.index);
   kept : KeepsValues l.fn.sums l.sums;
-  within : l.index ≤ (lent_table l.fn.links).extent.places;
+  in_bounds : l.index ≤ (lent_table l.fn.links).extent.places;
 }
 
 abbrev pub decreases-loop-index : goal.decreases-loop-index

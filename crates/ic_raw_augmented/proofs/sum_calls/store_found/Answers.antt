@@ -55,8 +55,8 @@ returns-clause-reached c ok = (
   sym c.is_linked.ensures ∙ c.if-not-is_linked.false,
   c.number_of.ensures,
   (λ S h ends.
-      let within = rw c.in-Some.is at (c.find.ensures.within S (rw c.place_in-root.ensures h) (read_in S ends.0 c.place_of-from.ensures)) in
-      in_there S within c.in-Some-position.is),
+      let in_closed_set = rw c.in-Some.is at (c.find.ensures.in_closed_set S (rw c.place_in-root.ensures h) (read_in S ends.0 c.place_of-from.ensures)) in
+      in_there S in_closed_set c.in-Some-position.is),
 )
 
 pub returns-in_default-position-clause-ended : goal.returns-in_default-position-clause-ended

@@ -21,12 +21,12 @@ returns-then-not-has-2-clause-leads c cut shown at =
     (end_in (lent_table c.new-links.result) (in_range c.new-links.result) (root_in c.args.tree.now) (root_stands seen)))))
 
 pub returns-then-not-has-clause-ended : goal.returns-then-not-has-clause-ended
-returns-then-not-has-clause-ended c within none =
-    absurd (never c.if-not-has.true (c.has.ensures.1 (has_viewed c.new-links.result (Some c.args.at) c.new-links.ensures.1 within.0)))
+returns-then-not-has-clause-ended c in_closed_set none =
+    absurd (never c.if-not-has.true (c.has.ensures.1 (has_viewed c.new-links.result (Some c.args.at) c.new-links.ensures.1 in_closed_set.0)))
 
 pub returns-then-not-has-2-clause-ended : goal.returns-then-not-has-2-clause-ended
-returns-then-not-has-2-clause-ended c within none =
-    absurd (never c.if-not-has-2.true (c.has-2.ensures.1 (rw c.place_in-root.ensures (has_viewed c.new-links.result (root_in c.args.tree.now) c.new-links.ensures.1 within.1.0))))
+returns-then-not-has-2-clause-ended c in_closed_set none =
+    absurd (never c.if-not-has-2.true (c.has-2.ensures.1 (rw c.place_in-root.ensures (has_viewed c.new-links.result (root_in c.args.tree.now) c.new-links.ensures.1 in_closed_set.1.0))))
 
 pub step_bounded-requires : goal.step_bounded-requires
 step_bounded-requires c =
@@ -43,5 +43,5 @@ returns-clause-reached c q is =
     steps_back c.new-links.result (root_in c.args.tree.now) (Some c.args.at) c.args.side q c.new-links.ensures.1 (c.step_bounded.ensures.reached q is)
 
 pub returns-clause-ended : goal.returns-clause-ended
-returns-clause-ended c within none =
+returns-clause-ended c in_closed_set none =
     end_back c.new-links.result (root_in c.args.tree.now) (Some c.args.at) c.args.side c.new-links.ensures.1 (c.step_bounded.ensures.ended none)

@@ -14,7 +14,7 @@ returns-in-None-clause-shown c cut shown is =
     (subst (λ (o : Option Place). IsBeside (across c.args.side) gap o) c.in-None.is (c.beside.ensures.leads gap whole (outwards_beside c.args.side cut.front c.args.place cut.back)))
 
 pub returns-in-None-clause-own : goal.returns-in-None-clause-own
-returns-in-None-clause-own c within = inr (refl, c.beside.ensures.ended within c.in-None.is)
+returns-in-None-clause-own c in_closed_set = inr (refl, c.beside.ensures.ended in_closed_set c.in-None.is)
 
 pub returns-in-Some-clause-shown : goal.returns-in-Some-clause-shown
 returns-in-Some-clause-shown c cut shown is =

@@ -18,7 +18,7 @@ returns-then-not-is_at-clause-shown c front back after shown is same =
     sym (some_same same) ∙ end_stays c.args.side front back c.args.member is (sym c.is_at.ensures ∙ c.if-not-is_at.true)
 
 pub returns-then-not-is_at-clause-own : goal.returns-then-not-is_at-clause-own
-returns-then-not-is_at-clause-own c after same within = record {
+returns-then-not-is_at-clause-own c after same in_closed_set = record {
   next = λ at. absurd (is_end_no c.args.end c.args.member (sym c.is_at.ensures ∙ c.if-not-is_at.true) at);
   other = λ away. sym (some_same same);
 }
@@ -49,9 +49,9 @@ returns-clause-shown c front back after shown is same =
     sym (some_same same) ∙ end_steps {n = node} c.args.side front back c.args.member shown is (sym c.is_at.ensures ∙ c.if-not-is_at.false) leads
 
 pub returns-clause-own : goal.returns-clause-own
-returns-clause-own c after same within = record {
+returns-clause-own c after same in_closed_set = record {
   next = λ at. rw (← some_same same) (is_next (table_of c.args.table.now) (root_in c.args.tree.now) c.args.side c.args.member c.beside-next.result
-      (rw (← c.inwards.ensures) c.beside-next.ensures.reached) (λ none. rw (← c.inwards.ensures) (c.beside-next.ensures.ended within none))
+      (rw (← c.inwards.ensures) c.beside-next.ensures.reached) (λ none. rw (← c.inwards.ensures) (c.beside-next.ensures.ended in_closed_set none))
       (rw (← c.beside-next.ensures.same) (c.stands.ensures.stands.0 c.if-not-stands.false))
       (is_end_no c.beside-next.result c.args.member (sym c.is_at-2.ensures ∙ c.if-is_at.false)));
   other = λ away. absurd (away (is_end_yes c.args.end c.args.member (sym c.is_at.ensures ∙ c.if-not-is_at.false)));

@@ -17,10 +17,10 @@ returns-clause-shown c front back after shown says same =
       by Right = c.of.ensures.last ∙ c.end_without-2.ensures.shown front back c.in-Some-end_without.last (rw c.end_without.ensures.same shown) (c.end-2.ensures ∙ says Right) c.in-Some-end_without.is
 
 pub returns-clause-own : goal.returns-clause-own
-returns-clause-own c after same within = subst (λ (e : RawTreeEnds). (d : Side)
+returns-clause-own c after same in_closed_set = subst (λ (e : RawTreeEnds). (d : Side)
     → LosesEnd (table_of c.args.table.now) (root_in c.args.tree.now) d c.args.member (end_in d c.args.ends.now) (end_in d e)) (some_same same) by where
       by : (d : Side) → LosesEnd (table_of c.args.table.now) (root_in c.args.tree.now) d c.args.member (end_in d c.args.ends.now) (end_in d c.of.result)
-      by Left = rw (← c.end.ensures, c.of.ensures.first) (c.end_without.ensures.own c.in-Some.first c.in-Some.is within)
+      by Left = rw (← c.end.ensures, c.of.ensures.first) (c.end_without.ensures.own c.in-Some.first c.in-Some.is in_closed_set)
       by Right =
           rw (← c.end-2.ensures, c.of.ensures.last, ← c.end_without.ensures.same)
-          (c.end_without-2.ensures.own c.in-Some-end_without.last c.in-Some-end_without.is (rw c.end_without.ensures.same within))
+          (c.end_without-2.ensures.own c.in-Some-end_without.last c.in-Some-end_without.is (rw c.end_without.ensures.same in_closed_set))

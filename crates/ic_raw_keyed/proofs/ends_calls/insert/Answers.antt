@@ -35,8 +35,8 @@ returns c = record {
   words = λ made. c.of.ensures.words;
   refused = λ off. absurd (off c.if-status-ne-OK.false);
 } where
-  within : AreIn (has_place (table_of c.insert-status.new.table)) (Some c.in-Some.new ∷ root_in c.insert-status.new.tree ∷ [])
-  within = put_in c.insert-status.ensures c.in-Some.new (sym c.place_of.ensures ∙ c.in-Some.is) c.if-status-ne-OK.false
+  in_closed_set : AreIn (has_place (table_of c.insert-status.new.table)) (Some c.in-Some.new ∷ root_in c.insert-status.new.tree ∷ [])
+  in_closed_set = put_in c.insert-status.ensures c.in-Some.new (sym c.place_of.ensures ∙ c.in-Some.is) c.if-status-ne-OK.false
 
   kept : (cut : Cut) → RepresentsTree c.insert-status.new.table c.insert-status.new.tree (insert cut c.in-Some.new) → SaysEnds c.args.ends.now (join cut)
       → (d : Side) → end_in d c.of.result ≡ end_on d (insert cut c.in-Some.new)
@@ -44,5 +44,5 @@ returns c = record {
   kept cut after says Right = c.of.ensures.last ∙ c.end_with-last.ensures.shown cut (rw c.end_with-first.ensures.same after) (c.end-2.ensures ∙ says Right)
 
   new : (d : Side) → EndWith (table_of c.insert-status.new.table) (root_in c.insert-status.new.tree) d (Some c.in-Some.new) (end_in d c.args.ends.now) (end_in d c.of.result)
-  new Left = rw (← c.end.ensures, c.of.ensures.first) (c.end_with-first.ensures.own within)
-  new Right = rw (← c.end-2.ensures, c.of.ensures.last, ← c.end_with-first.ensures.same) (c.end_with-last.ensures.own (rw c.end_with-first.ensures.same within))
+  new Left = rw (← c.end.ensures, c.of.ensures.first) (c.end_with-first.ensures.own in_closed_set)
+  new Right = rw (← c.end-2.ensures, c.of.ensures.last, ← c.end_with-first.ensures.same) (c.end_with-last.ensures.own (rw c.end_with-first.ensures.same in_closed_set))

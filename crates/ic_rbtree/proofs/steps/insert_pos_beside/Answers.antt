@@ -3,7 +3,7 @@ use Rattle.ic_link_ops.proofs.Positions.{member_there}
 use Rattle.ic_rbtree.specs.Sides.{IsBeside}
 use Rattle.ic_rbtree.specs.Insertion.{IsInsertPos}
 use Rattle.ic_rbtree.proofs.Removing.{spot_linked}
-use Rattle.ic_rbtree.proofs.Beside.{root_can, member_spot, below_can, null_end, null_hole, member_end, outermost_here}
+use Rattle.ic_rbtree.proofs.Beside.{root_can, member_spot, below_can, null_end, null_insert_pos, member_end, outermost_here}
 use Rattle.ic_rbtree.proofs.steps.insert_pos_beside.Goals as goal
 use Rattle.ic_rbtree.proofs.steps.insert_pos_beside.Goals.{in-None, in-Some}
 
@@ -24,7 +24,7 @@ pub returns-in-None-below : goal.returns-in-None-below
 returns-in-None-below g c gap shown here = elim c.match-current.branch [
   | in-None w ↦
       subst (λ o. IsInsertPos g.L.RBTreeOps.node (g.L.LinkOps.table c.args.links.now) o c.args.side gap) (sym (w.current-is ∙ w.in-None.is))
-      (null_hole g.L.RBTreeOps.node c.args.side gap shown (subst (λ o. IsBeside c.args.side gap o) w.in-None.is here) (sym w.below-is ∙ c.in-None-below.is))
+      (null_insert_pos g.L.RBTreeOps.node c.args.side gap shown (subst (λ o. IsBeside c.args.side gap o) w.in-None.is here) (sym w.below-is ∙ c.in-None-below.is))
   | in-Some w ↦
       subst (λ o. IsInsertPos g.L.RBTreeOps.node (g.L.LinkOps.table c.args.links.now) o c.args.side gap) (sym w.current-is)
       (sym w.child-below.ensures ∙ (sym w.below-is ∙ c.in-None-below.is), subst (λ o. IsBeside c.args.side gap o) w.in-Some.is here)

@@ -8,7 +8,7 @@ use Rattle.plain_tests.proofs.trees.reschedule_at.Goals as goal
 pub reschedule-requires-clause-member : goal.reschedule-requires-clause-member
 reschedule-requires-clause-member g c =
     let s = c.requires.shown in
-    rw c.new-2.ensures (has_member (PlainRepresents c.args.links.now (root_of c.args.tree.now)) s.0 s.1 ((c.contains.ensures s.0 s.1).0 (search rules)))
+    rw c.new.ensures (has_member (PlainRepresents c.args.links.now (root_of c.args.tree.now)) s.0 s.1 ((c.contains.ensures s.0 s.1).0 (search rules)))
 
 pub returns-clause-shown : goal.returns-clause-shown
 unfolding IsInOrder

@@ -1,32 +1,10 @@
 use Rattle.std.proofs.Common.{[], sym}
 use Rattle.structure_tests.proofs.ring.play.Goals as goal
-use Rattle.structure_tests.proofs.ring.play.Goals.{in-Ring, in-Cursor, in-Both, in-Ends, in-Second}
 
-pub loop-row-init : goal.loop-row-init
-loop-row-init g c =
+pub loop-rows-init : goal.loop-rows-init
+loop-rows-init g c =
     let q = c.opened-ring.ensures.ring in
     let kept = c.opened-other.ensures.others _ q.1 in record {
       placed = c.requires.placed;
       two = record { covers = c.opened-other.ensures.covers; shown = (q.0, kept.0); apart = ([], c.opened-other.ensures.shown, ((λ e. kept.1.0 (sym e)), tt)) };
     }
-
-pub write_rings-requires-clause-two : goal.write_rings-requires-clause-two
-write_rings-requires-clause-two g c = elim c.match-row.branch [
-  | in-Ring w ↦ rw w.links-is (w.call_ring-back.ensures.two _ c.loop-row.invariant.two)
-  | in-Cursor w ↦ rw w.links-is w.call_by_cursor-back.ensures.two
-  | in-Both w ↦ rw w.links-is w.call_both-back.ensures.two
-  | in-Ends w ↦ rw w.links-is c.loop-row.invariant.two
-  | in-Second w ↦ rw w.links-is c.loop-row.invariant.two
-]
-
-pub loop-row-preserved : goal.loop-row-preserved
-loop-row-preserved g c = record {
-  placed = c.requires.placed;
-  two = elim c.match-row.branch [
-    | in-Ring w ↦ rw w.links-is (w.call_ring-back.ensures.two _ c.loop-row.invariant.two)
-    | in-Cursor w ↦ rw w.links-is w.call_by_cursor-back.ensures.two
-    | in-Both w ↦ rw w.links-is w.call_both-back.ensures.two
-    | in-Ends w ↦ rw w.links-is c.loop-row.invariant.two
-    | in-Second w ↦ rw w.links-is c.loop-row.invariant.two
-  ];
-}

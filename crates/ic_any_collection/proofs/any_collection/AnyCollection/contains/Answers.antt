@@ -5,6 +5,4 @@ pub contains-requires-in-Tree-clause-shown : goal.contains-requires-in-Tree-clau
 contains-requires-in-Tree-clause-shown g c = let held = rw (c.in-Tree.is, c.tree.ensures) at c.requires.held in (_, to_own held.shown)
 
 pub returns-in-Tree : goal.returns-in-Tree
-returns-in-Tree g c =
-    let held = rw (c.in-Tree.is, c.tree.ensures) at c.requires.held in
-    rw (c.in-Tree.is, c.tree.ensures) (c.contains-in-Tree.ensures _ (to_own held.shown))
+returns-in-Tree g c = let held = rw (c.in-Tree.is, c.tree.ensures) at c.requires.held in rw (c.in-Tree.is, c.tree.ensures) (c.contains-in-Tree.ensures _ (to_own held.shown))

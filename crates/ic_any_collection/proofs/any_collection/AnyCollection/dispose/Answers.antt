@@ -6,9 +6,5 @@ dispose-requires-in-Tree g c = let held = rw (c.in-Tree.is, c.tree_mut.ensures.i
 
 pub returns-in-Tree : goal.returns-in-Tree
 returns-in-Tree g c =
-    let held = rw (c.in-Tree.is, c.tree_mut.ensures.inner) at c.requires.held in
-    let e = c.dispose-in-Tree.ensures in
-    rw (c.in-Tree.is, c.tree_mut.ensures.inner) (record {
-      released = trace_in_field _ _ _ (e.released _ (to_own held.shown));
-      frame = frame_in_field (e.frame _ (to_own held.shown));
-    })
+    let held = rw (c.in-Tree.is, c.tree_mut.ensures.inner) at c.requires.held in let e = c.dispose-in-Tree.ensures in
+    rw (c.in-Tree.is, c.tree_mut.ensures.inner) (record { released = trace_in_field _ _ _ (e.released _ (to_own held.shown)); frame = frame_in_field (e.frame _ (to_own held.shown)) })

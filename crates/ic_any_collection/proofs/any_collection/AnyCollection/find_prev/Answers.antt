@@ -1,17 +1,12 @@
-use Rattle.std.proofs.Common.{[], ◌∷◌, ◌++◌, sym}
+use Rattle.ic_any_collection.proofs.Common.{[], ◌∷◌, ◌++◌, sym, table_in, distinct, gap_at, same_place, other_place, walks_first, walks_next, walks_fewer}
 use Rattle.ic_link_ops.proofs.SequenceLemmas.{absent_both}
-use Rattle.ic_any_collection.specs.AnyTables.{table_in}
-use Rattle.ic_any_collection.proofs.AllKinds.{distinct}
-use Rattle.ic_any_collection.proofs.Reading.{gap_at, same_place, other_place, walks_first, walks_next, walks_fewer}
 use Rattle.ic_any_collection.proofs.any_collection.AnyCollection.find_prev.Goals as goal
 
 pub loop-current-init : goal.loop-current-init
 loop-current-init g c = record { sought = ([], walks_first c.front-current.ensures, tt) }
 
 pub returns-then-eq-clause-member : goal.returns-then-eq-clause-member
-returns-then-eq-clause-member g c =
-    let same = same_place c.in-Some.member c.args.place (sym c.if-eq.ensures) in
-    rw same at (gap_at (rw c.in-Some.is at c.loop-current.invariant.sought.1))
+returns-then-eq-clause-member g c = let same = same_place c.in-Some.member c.args.place (sym c.if-eq.ensures) in rw same at (gap_at (rw c.in-Some.is at c.loop-current.invariant.sought.1))
 
 pub after-current-requires-clause-member : goal.after-current-requires-clause-member
 after-current-requires-clause-member g c = gap_at (rw c.in-Some.is at c.loop-current.invariant.sought.1)
@@ -23,6 +18,5 @@ loop-current-smaller g c =
 
 pub loop-current-preserved : goal.loop-current-preserved
 loop-current-preserved g c =
-    let so = c.loop-current.invariant.sought in
-    let out = absent_both c.args.place so.0 (c.in-Some.member ∷ []) so.2 (other_place c.in-Some.member c.args.place (sym c.if-eq.ensures), tt) in
+    let so = c.loop-current.invariant.sought in let out = absent_both c.args.place so.0 (c.in-Some.member ∷ []) so.2 (other_place c.in-Some.member c.args.place (sym c.if-eq.ensures), tt) in
     record { sought = (so.0 ++ c.in-Some.member ∷ [], walks_next (rw c.in-Some.is at so.1) c.after-current.ensures, out) }

@@ -1,8 +1,6 @@
-use Rattle.std.proofs.Common.{refl, ap}
+use Rattle.ic_any_collection.proofs.Common.{refl, ap, puts_and_goes, to_own, placed_in}
 use Rattle.ic_any_collection.specs.declared.any_table.AnyTable.TheVariants.{WithPrev}
 use Rattle.ic_any_collection.specs.declared.table_with_prev.TableWithPrev.TheVariants.{Tree}
-use Rattle.ic_any_collection.proofs.KeyedEdits.{puts_and_goes}
-use Rattle.ic_any_collection.proofs.OwnTrees.{to_own, placed_in}
 use Rattle.ic_any_collection.proofs.any_collection.AnyCollection.insert_by.Goals as goal
 
 pub put_in_order-requires-clause-placed : goal.put_in_order-requires-clause-placed
@@ -11,8 +9,7 @@ put_in_order-requires-clause-placed g c =
 
 pub returns-then-not-put_in_order : goal.returns-then-not-put_in_order
 returns-then-not-put_in_order g c =
-    let held = rw (c.in-Tree.is, c.tree_mut.ensures.inner) at c.requires.held in
-    let e = c.if-not-put_in_order.ensures in
+    let held = rw (c.in-Tree.is, c.tree_mut.ensures.inner) at c.requires.held in let e = c.if-not-put_in_order.ensures in
     rw (c.in-Tree.is, c.tree_mut.ensures.inner) (record {
       inserted = tt;
       looks = tt;
@@ -21,8 +18,7 @@ returns-then-not-put_in_order g c =
 
 pub returns : goal.returns
 returns g c =
-    let held = rw (c.in-Tree.is, c.tree_mut.ensures.inner) at c.requires.held in
-    let e = c.if-not-put_in_order.ensures in
+    let held = rw (c.in-Tree.is, c.tree_mut.ensures.inner) at c.requires.held in let e = c.if-not-put_in_order.ensures in
     rw (c.in-Tree.is, c.tree_mut.ensures.inner) (record {
       inserted = puts_and_goes held _ _ (e.inserted _ (to_own held.shown)) e.acquired c.of.ensures;
       looks = e.looks _ (to_own held.shown);

@@ -1,7 +1,4 @@
-use Rattle.std.proofs.Common.{length}
-use Rattle.ic_any_collection.specs.AnyTables.{table_in}
-use Rattle.ic_any_collection.specs.AnyCollection.{members_in}
-use Rattle.ic_any_collection.proofs.Reading.{Walks, from}
+use Rattle.ic_any_collection.proofs.Common.{length, table_in, members_in, Walks, from}
 use Rattle.ic_any_collection.proofs.any_collection.AnyCollection.listed.Given as goal
 
 -- the places that were listed up to now are the members before `current`

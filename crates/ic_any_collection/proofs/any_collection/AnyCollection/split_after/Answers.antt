@@ -1,36 +1,26 @@
-use Rattle.std.proofs.Common.{refl}
-use Rattle.ic_any_collection.specs.AnyTables.{table_in}
-use Rattle.ic_any_collection.specs.TablesWithPrev as with_prev
-use Rattle.ic_any_collection.proofs.Standing.{stands_plainly, gap_after_cursor, knows, known}
-use Rattle.ic_any_collection.proofs.Parting.{parts, singly_list, doubly_list, xor_list, at_null, at_end, xor_null}
+use Rattle.ic_any_collection.proofs.Common.{refl, singly_made, doubly_made, xor_made, at_null, xor_null, gap_after_cursor, at_cursor, parts}
 use Rattle.ic_any_collection.proofs.any_collection.AnyCollection.split_after.Goals as goal
 
 pub split_after_at-requires : goal.split_after_at-requires
-split_after_at-requires g c = let held = rw (c.in-Singly.is) at c.requires.held in record { stands = stands_plainly _ held.shown held.stands }
+split_after_at-requires g c = record { stands = at_cursor singly_made (rw (c.in-Singly.is) at c.requires.held) }
 
 pub returns-in-Singly : goal.returns-in-Singly
 returns-in-Singly g c =
-    let held = rw (c.in-Singly.is) at c.requires.held in
-    let at = gap_after_cursor _ held in
-    let e = c.split_after_at.ensures in
-    rw (c.in-Singly.is) (at.0, at.1, (at.2, parts singly_list table_in held at.0 at.1 at.2 e.split (λ here shown. at_end at.0 here) c.null.ensures.null (at_null c.null.ensures.null)))
+    let held = rw (c.in-Singly.is) at c.requires.held in let e = c.split_after_at.ensures in
+    rw (c.in-Singly.is) (parts singly_made held e.kept.stands e.split c.null.ensures.null (λ s. at_null c.null.ensures.null) (gap_after_cursor _ held))
 
 pub split_after_at-requires-in-Doubly : goal.split_after_at-requires-in-Doubly
-split_after_at-requires-in-Doubly g c = let held = rw (c.in-Doubly.is, c.with_prev_mut.ensures.inner) at c.requires.held in record { stands = stands_plainly _ held.shown held.stands }
+split_after_at-requires-in-Doubly g c = record { stands = at_cursor doubly_made (rw (c.in-Doubly.is, c.with_prev_mut.ensures.inner) at c.requires.held) }
 
 pub returns-in-Doubly : goal.returns-in-Doubly
 returns-in-Doubly g c =
-    let held = rw (c.in-Doubly.is, c.with_prev_mut.ensures.inner) at c.requires.held in
-    let at = gap_after_cursor _ held in
-    let e = c.split_after_at-in-Doubly.ensures in
-    rw (c.in-Doubly.is, c.with_prev_mut.ensures.inner) (at.0, at.1, (at.2, parts doubly_list with_prev.table_in held at.0 at.1 at.2 e.split (λ here shown. at_end at.0 here) c.null-in-Doubly.ensures.null (at_null c.null-in-Doubly.ensures.null)))
+    let held = rw (c.in-Doubly.is, c.with_prev_mut.ensures.inner) at c.requires.held in let e = c.split_after_at-in-Doubly.ensures in
+    rw (c.in-Doubly.is, c.with_prev_mut.ensures.inner) (parts doubly_made held e.kept.stands e.split c.null-in-Doubly.ensures.null (λ s. at_null c.null-in-Doubly.ensures.null) (gap_after_cursor _ held))
 
 pub split_after_at-requires-in-Xor : goal.split_after_at-requires-in-Xor
-split_after_at-requires-in-Xor g c = let held = rw (c.in-Xor.is) at c.requires.held in record { stands = knows _ held.shown held.stands }
+split_after_at-requires-in-Xor g c = record { stands = at_cursor xor_made (rw (c.in-Xor.is) at c.requires.held) }
 
 pub returns-in-Xor : goal.returns-in-Xor
 returns-in-Xor g c =
-    let held = rw (c.in-Xor.is) at c.requires.held in
-    let at = gap_after_cursor _ held in
-    let e = c.split_after_at-in-Xor.ensures in
-    rw (c.in-Xor.is) (at.0, at.1, (at.2, parts xor_list table_in held at.0 at.1 at.2 e.split (λ here shown. known _ shown e.kept.stands) (rw c.null-in-Xor.ensures.null refl) (xor_null _ c.null-in-Xor.ensures.null)))
+    let held = rw (c.in-Xor.is) at c.requires.held in let e = c.split_after_at-in-Xor.ensures in
+    rw (c.in-Xor.is) (parts xor_made held e.kept.stands e.split (rw c.null-in-Xor.ensures.null refl) (λ s. xor_null s c.null-in-Xor.ensures.null) (gap_after_cursor _ held))

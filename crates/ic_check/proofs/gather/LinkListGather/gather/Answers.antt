@@ -33,8 +33,8 @@ loop-current-smaller g c =
     let more = walks_more g.K.ForwardLinks.step g.met.K.ForwardLinks.leads k {ahead = c.next-after.result} {more = c.loop-current.count + 1} c.in-Some.is
     (subst (λ (j : ℕ). slice_index_or c.loop-current.marks j false ≡ false) c.index-index.ensures.value c.if-marks-index.false)
     (rw c.next-after.ensures (c.names_prev.ensures.0 c.if-not-names_prev.false)) refl c.index-index.ensures.value (omega (arith, covered, k.also.long, c.requires.room, c.index-index.ensures.value)) in
-    let within = walks_covered g.K.ForwardLinks.step g.met.K.ForwardLinks.leads more (λ q b a h. g.met.L.LinkOps.linked_is_covered c.args.links.now q (g.met.K.ForwardLinks.between_linked _ b a h)) in
-    omega (arith, within)
+    let in_bounds = walks_covered g.K.ForwardLinks.step g.met.K.ForwardLinks.leads more (λ q b a h. g.met.L.LinkOps.linked_is_covered c.args.links.now q (g.met.K.ForwardLinks.between_linked _ b a h)) in
+    omega (arith, in_bounds)
 
 pub loop-current-preserved : goal.loop-current-preserved
 loop-current-preserved g c =

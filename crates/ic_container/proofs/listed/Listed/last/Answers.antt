@@ -1,6 +1,6 @@
 use Rattle.std.proofs.Common.{◌∙◌, sym}
 use Rattle.ic_container.proofs.ListedLemmas.{listed_distinct, listed_last}
-use Rattle.ic_container.proofs.RowLemmas.{without_last}
+use Rattle.ic_container.proofs.NumberedListLemmas.{without_last}
 use Rattle.ic_container.proofs.listed.Listed.last.Goals as goal
 
 pub returns-clause-last : goal.returns-clause-last

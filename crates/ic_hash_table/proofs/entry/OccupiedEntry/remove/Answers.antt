@@ -3,7 +3,7 @@ use Rattle.ic_hash_table.proofs.entry.OccupiedEntry.remove.Goals as goal
 pub remove_at-requires : goal.remove_at-requires
 remove_at-requires g c = record {
   held = (g.O.Values.values c.args.objects.now, c.requires.held);
-  within = c.requires.found.0;
+  in_bounds = c.requires.found.0;
   member = rw (c.place-place.ensures, c.get.ensures) c.requires.found.1;
 }
 

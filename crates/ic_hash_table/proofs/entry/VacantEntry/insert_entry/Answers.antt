@@ -8,7 +8,7 @@ insert_at-requires g c =
     let k = chain_of c.requires.held.1 c.args.self.at c.requires.belongs.0 in record {
       covered = c.requires.covered;
       held = (g.O.Values.values c.args.objects.now, c.requires.held);
-      within = c.requires.belongs.0;
+      in_bounds = c.requires.belongs.0;
       gap = (record { front = []; back = k.chain }, k.shown, refl, c.front-front.ensures ∙ k.shown.head);
     }
 

@@ -8,8 +8,8 @@ pub returns-clause-well_formed : goal.returns-clause-well_formed
 returns-clause-well_formed c =
     let r = c.requires.well_formed in
     elim c.if-self.branch [
-      | then-self w ↦ rw w.mask-is (record { half = omega (arith, w.if-self.true); within = omega (arith, w.if-self.true, r.within); mask = (1 + r.mask.0, twice c.args.self.mask r.mask.0 r.mask.1) })
-      | else-self w ↦ rw w.mask-is (record { half = omega (arith, r.half); within = omega (arith, w.if-self.false); mask = r.mask })
+      | then-self w ↦ rw w.mask-is (record { half = omega (arith, w.if-self.true); in_bounds = omega (arith, w.if-self.true, r.in_bounds); mask = (1 + r.mask.0, twice c.args.self.mask r.mask.0 r.mask.1) })
+      | else-self w ↦ rw w.mask-is (record { half = omega (arith, r.half); in_bounds = omega (arith, w.if-self.false); mask = r.mask })
     ]
 
 pub returns-clause-splits : goal.returns-clause-splits
@@ -17,7 +17,7 @@ returns-clause-splits c =
     let r = c.requires.well_formed in
     elim c.if-self.branch [
       | then-self w ↦
-          let full : c.args.self.mask + 1 ≡ c.args.self.used = omega (arith, w.if-self.true, r.within) in
+          let full : c.args.self.mask + 1 ≡ c.args.self.used = omega (arith, w.if-self.true, r.in_bounds) in
           rw w.mask-is (subst (λ u. IsSplit (slots u c.args.self.mask) (slots (u + 1) (2 * c.args.self.mask + 1))) full (split_full c.args.self.mask r.mask.0 r.mask.1))
       | else-self w ↦ rw w.mask-is (split_within c.args.self.used c.args.self.mask (omega (arith, r.half)))
     ]

@@ -7,10 +7,10 @@ use Rattle.ic_hash_table.proofs.slots.Slots.shrunk.Goals.{then-self-half, else-s
 pub returns-clause-well_formed : goal.returns-clause-well_formed
 returns-clause-well_formed c =
     let r = c.requires.well_formed in
-    let h = halved c.args.self.mask r.mask.0 r.mask.1 (omega (arith, r.within, c.requires.more)) in
+    let h = halved c.args.self.mask r.mask.0 r.mask.1 (omega (arith, r.in_bounds, c.requires.more)) in
     elim c.if-self-half.branch [
-      | then-self-half w ↦ rw w.mask-is (record { half = omega (arith, h.2, w.if-self-half.true); within = omega (arith, w.if-self-half.true); mask = (h.0, h.1) })
-      | else-self-half w ↦ rw w.mask-is (record { half = omega (arith, r.half, h.2, w.if-self-half.false); within = omega (arith, r.within); mask = r.mask })
+      | then-self-half w ↦ rw w.mask-is (record { half = omega (arith, h.2, w.if-self-half.true); in_bounds = omega (arith, w.if-self-half.true); mask = (h.0, h.1) })
+      | else-self-half w ↦ rw w.mask-is (record { half = omega (arith, r.half, h.2, w.if-self-half.false); in_bounds = omega (arith, r.in_bounds); mask = r.mask })
     ]
 
 pub returns-clause-splits : goal.returns-clause-splits
@@ -18,7 +18,7 @@ returns-clause-splits c =
     let r = c.requires.well_formed in
     let used = c.args.self.used in
     let mask = c.args.self.mask in
-    let h = halved mask r.mask.0 r.mask.1 (omega (arith, r.within, c.requires.more)) in
+    let h = halved mask r.mask.0 r.mask.1 (omega (arith, r.in_bounds, c.requires.more)) in
     elim c.if-self-half.branch [
       | then-self-half w ↦
           let last : mask / 2 + 1 + 1 ≡ used = omega (arith, w.if-self-half.true) in

@@ -12,34 +12,34 @@ loop-at-init g c = record {
   count = sym c.count-count.ensures;
   was = sym c.count-count.ensures;
   rewrites = g.met.B.BucketRow.rewrites_none c.args.self.now.buckets;
-  within = omega arith;
+  in_bounds = omega arith;
   none = λ j less. absurd (omega (arith, less));
   each = λ s shown. empties_none g.L.SinglyLinkedListOps.successor g.L.LinkOps.table g.L.LinkOps.Trace g.met.L.LinkOps.does_nothing c.args.links.now (g.B.BucketRow.fronts c.args.self.now.buckets) s shown.chained;
 }
 
 pub clear_chain-requires-clause-shown : goal.clear_chain-requires-clause-shown
 clear_chain-requires-clause-shown g c =
-    let within : c.loop-at.at < length (g.B.BucketRow.fronts c.loop-at.self.buckets) = omega (arith, c.loop-at-test.true, c.loop-at.invariant.count) in
-    let k = next_chain g.L.SinglyLinkedListOps.successor g.L.LinkOps.table g.L.LinkOps.Trace within (c.loop-at.invariant.each c.requires.shown.0 c.requires.shown.1) in
+    let in_bounds : c.loop-at.at < length (g.B.BucketRow.fronts c.loop-at.self.buckets) = omega (arith, c.loop-at-test.true, c.loop-at.invariant.count) in
+    let k = next_chain g.L.SinglyLinkedListOps.successor g.L.LinkOps.table g.L.LinkOps.Trace in_bounds (c.loop-at.invariant.each c.requires.shown.0 c.requires.shown.1) in
     (k.chain, k.shown)
 
 pub loop-at-preserved : goal.loop-at-preserved
 loop-at-preserved g c =
     let i = c.loop-at.invariant in
-    let within : c.loop-at.at < length (g.B.BucketRow.fronts c.loop-at.self.buckets) = omega (arith, c.loop-at-test.true, i.count) in
+    let in_bounds : c.loop-at.at < length (g.B.BucketRow.fronts c.loop-at.self.buckets) = omega (arith, c.loop-at-test.true, i.count) in
     record {
       adapter = i.adapter;
       slots = i.slots;
       count = ap length c.clear_chain.ensures.empty ∙ length-set (g.B.BucketRow.fronts c.loop-at.self.buckets) c.loop-at.at None ∙ i.count;
       was = i.was;
       rewrites = g.met.B.BucketRow.rewrites_on _ _ _ i.rewrites c.clear_chain.ensures.rewrites;
-      within = omega (arith, c.loop-at-test.true);
-      none = rw c.clear_chain.ensures.empty (none_below c.loop-at.at (g.B.BucketRow.fronts c.loop-at.self.buckets) within i.none);
+      in_bounds = omega (arith, c.loop-at-test.true);
+      none = rw c.clear_chain.ensures.empty (none_below c.loop-at.at (g.B.BucketRow.fronts c.loop-at.self.buckets) in_bounds i.none);
       each = λ s shown.
           let k = i.each s shown in
-          let n = next_chain g.L.SinglyLinkedListOps.successor g.L.LinkOps.table g.L.LinkOps.Trace within k in
+          let n = next_chain g.L.SinglyLinkedListOps.successor g.L.LinkOps.table g.L.LinkOps.Trace in_bounds k in
           rw c.clear_chain.ensures.empty
-          (empties_more g.L.SinglyLinkedListOps.successor g.L.LinkOps.table g.L.LinkOps.Trace within k g.met.L.LinkOps.does_on c.clear_chain.new.links i.none shown.distinct
+          (empties_more g.L.SinglyLinkedListOps.successor g.L.LinkOps.table g.L.LinkOps.Trace in_bounds k g.met.L.LinkOps.does_on c.clear_chain.new.links i.none shown.distinct
           (c.clear_chain.ensures.released n.chain n.shown) (c.clear_chain.ensures.frame n.chain n.shown));
     }
 

@@ -11,7 +11,7 @@ invariant-loop-at g l = record {
   count : length (g.B.BucketRow.fronts l.self.buckets) ≡ l.count;
   was : length (g.B.BucketRow.fronts l.fn.self.buckets) ≡ l.count;
   rewrites : g.B.BucketRow.Rewrites l.fn.self.buckets l.self.buckets;
-  within : l.at ≤ l.count;
+  in_bounds : l.at ≤ l.count;
   none : (j : ℕ) → j < l.at → slice_index_or (g.B.BucketRow.fronts l.self.buckets) j None ≡ None;
   each : (s : List Place) → IsRepresented g.L.SinglyLinkedListOps.successor g.B.BucketRow.fronts (g.L.LinkOps.table l.fn.links) l.fn.self s
       → Empties g.L.SinglyLinkedListOps.successor g.L.LinkOps.table g.L.LinkOps.Trace l.fn.links l.links l.at (g.B.BucketRow.fronts l.self.buckets) s;

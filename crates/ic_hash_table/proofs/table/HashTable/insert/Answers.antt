@@ -5,16 +5,16 @@ use Rattle.ic_hash_table.proofs.table.HashTable.insert.Goals as goal
 
 pub insert_at-requires : goal.insert_at-requires
 insert_at-requires g c =
-    let k = chain_of c.requires.held.1 c.slot_of_object-at.result c.slot_of_object-at.ensures.within in record {
+    let k = chain_of c.requires.held.1 c.slot_of_object-at.result c.slot_of_object-at.ensures.in_bounds in record {
       covered = c.requires.covered;
       held = (g.O.Values.values c.args.objects.now, c.requires.held);
-      within = c.slot_of_object-at.ensures.within;
+      in_bounds = c.slot_of_object-at.ensures.in_bounds;
       gap = (record { front = []; back = k.chain }, k.shown, refl, c.front-front.ensures ∙ k.shown.head);
     }
 
 pub returns-clause-inserted : goal.returns-clause-inserted
 returns-clause-inserted g c s held =
-    let k = chain_of held c.slot_of_object-at.result c.slot_of_object-at.ensures.within in
+    let k = chain_of held c.slot_of_object-at.result c.slot_of_object-at.ensures.in_bounds in
     on_ok c.insert_at.result held_with
     (c.insert_at.ensures.inserted (g.O.Values.values c.args.objects.now) s (record { front = []; back = k.chain }) held c.requires.placed
     (rw c.place.ensures at c.slot_of_object-at.ensures.belongs) k.shown refl (c.front-front.ensures ∙ k.shown.head))

@@ -36,7 +36,7 @@ returns-clause-inserted g c objects s gap held placed belongs was after before =
     let out = chains_free g.L.SinglyLinkedListOps.successor (BelongsIn c.args.self.now.slots (hash c.args.self.now.adapter) objects)
     g.met.L.SinglyLinkedListOps.linked_alike (g.L.LinkOps.table c.args.links.now) 0 (g.B.BucketRow.fronts c.args.self.now.buckets) s c.args.object held.chained off in
     let put = e.inserted gap (rw (c.from_front-chain.ensures, c.front.ensures) was) after before in
-    held_put g.L.SinglyLinkedListOps.successor hash g.B.BucketRow.fronts c.args.object c.set_front.new.self (c.args.self.now.len + 1) c.requires.within c.set_front.ensures.fronts held placed belongs out
+    held_put g.L.SinglyLinkedListOps.successor hash g.B.BucketRow.fronts c.args.object c.set_front.new.self (c.args.self.now.len + 1) c.requires.in_bounds c.set_front.ensures.fronts held placed belongs out
     gap was (rw c.first.ensures (chain_of_list put.shows)) put.frame refl
 
 -- the chain with the inserted object begins with the first member that its bucket stores
@@ -46,7 +46,7 @@ returns-clause-shows g c gap was after before =
     let put = e.inserted gap (rw (c.from_front-chain.ensures, c.front.ensures) was) after before in
     let held = c.requires.held.1.1 in
     let is = ap (λ f. slice_index_or f c.args.at None) c.set_front.ensures.fronts
-    ∙ get_or-set_same (g.B.BucketRow.fronts c.args.self.now.buckets) c.args.at c.first.result None (omega (arith, c.requires.within, held.enough)) in
+    ∙ get_or-set_same (g.B.BucketRow.fronts c.args.self.now.buckets) c.args.at c.first.result None (omega (arith, c.requires.in_bounds, held.enough)) in
     subst (λ f. RepresentsFrom g.L.SinglyLinkedListOps.successor (g.L.LinkOps.table c.insert_between.new.links) f (insert gap c.args.object)) (sym is) (rw c.first.ensures (chain_of_list put.shows))
 
 pub returns-clause-acquired : goal.returns-clause-acquired
@@ -61,7 +61,7 @@ returns-clause-kept g c =
         adapter = refl;
         buckets = keeps_buckets g.met.B.BucketRow.rewrites_count c.set_front.ensures.rewrites;
         frame = λ s shown. subst (λ l. ChangesOnlyIn (g.L.LinkOps.table c.args.links.now) (g.L.LinkOps.table c.insert_between.new.links) (c.args.object ∷ l)) (represented_is_held held shown)
-            (frame_at (chain_of held c.args.at c.requires.within) k.0 k.1
+            (frame_at (chain_of held c.args.at c.requires.in_bounds) k.0 k.1
             (rw c.place.ensures at (c.insert_between.ensures.frame k.0 (rw (c.from_front-chain.ensures, c.front.ensures) k.1) k.2 k.3)));
       };
       slots = refl;

@@ -33,7 +33,7 @@ pub returns : goal.returns
 returns g c gap held at_gap =
     let after = sym c.in-Some.is ∙ at_gap in
     let k = c.slot_of_object-chain.result in
-    let used = c.slot_of_object-chain.ensures.within in
+    let used = c.slot_of_object-chain.ensures.in_bounds in
     let b = stands_in gap held c.in-Some.place after k used c.slot_of_object-chain.ensures.belongs in
     let next : suc k ≡ k + 1 = omega arith in
     c.first_from-2.ensures _ (subst (λ n. AreChained g.L.SinglyLinkedListOps.successor (λ i p. ⊤) (g.L.LinkOps.table c.args.links.now) n (drop n (g.B.BucketRow.fronts c.args.self.now.buckets)) (chain_of held k used).after) next (after_chained held k used))

@@ -15,13 +15,13 @@ set_front-requires-clause-kept g c =
 
 pub overflow_sub-self : goal.overflow_sub-self
 overflow_sub-self g c =
-    let m = c.requires.member in some_counted c.requires.held.1.1 c.args.at c.requires.within m.0 m.1 c.args.place m.2
+    let m = c.requires.member in some_counted c.requires.held.1.1 c.args.at c.requires.in_bounds m.0 m.1 c.args.place m.2
 
 pub returns-clause-removed : goal.returns-clause-removed
 returns-clause-removed g c objects front back held =
     let m = c.requires.member in
-    let some = some_counted c.requires.held.1.1 c.args.at c.requires.within m.0 m.1 c.args.place m.2 in
-    held_taken g.L.SinglyLinkedListOps.successor (number g.A.HashAdapter.key_of g.A.HashAdapter.hash_of) g.B.BucketRow.fronts c.args.place c.set_front.new.self (c.args.self.now.len - 1) c.requires.within c.set_front.ensures.fronts
+    let some = some_counted c.requires.held.1.1 c.args.at c.requires.in_bounds m.0 m.1 c.args.place m.2 in
+    held_taken g.L.SinglyLinkedListOps.successor (number g.A.HashAdapter.key_of g.A.HashAdapter.hash_of) g.B.BucketRow.fronts c.args.place c.set_front.new.self (c.args.self.now.len - 1) c.requires.in_bounds c.set_front.ensures.fronts
     front back held m.0 m.1 m.2 (c.unlink_after-front.ensures.removed m.0 m.1 (rw c.front.ensures m.2) m.3) (c.unlink_after-front.ensures.frame m.0 m.1 (rw c.front.ensures m.2) m.3) (omega (arith, some))
 
 pub returns-clause-kept : goal.returns-clause-kept
@@ -33,7 +33,7 @@ returns-clause-kept g c =
         adapter = refl;
         buckets = keeps_buckets g.met.B.BucketRow.rewrites_count c.set_front.ensures.rewrites;
         frame = λ s shown. subst (ChangesOnlyIn (g.L.LinkOps.table c.args.links.now) (g.L.LinkOps.table c.unlink_after-front.new.links)) (represented_is_held held shown)
-            (frame_taken (chain_of held c.args.at c.requires.within) m.2 (c.unlink_after-front.ensures.frame m.0 m.1 (rw c.front.ensures m.2) m.3));
+            (frame_taken (chain_of held c.args.at c.requires.in_bounds) m.2 (c.unlink_after-front.ensures.frame m.0 m.1 (rw c.front.ensures m.2) m.3));
       };
       slots = refl;
     }

@@ -21,20 +21,20 @@ pub join_chains-front-requires-clause-rest : goal.join_chains-front-requires-cla
 join_chains-front-requires-clause-rest g c =
     let shown = c.requires.shown.1 in
     let split = c.shrunk-slots.ensures.splits in
-    let within : c.shrunk-slots.result.used < length (g.B.BucketRow.fronts c.args.self.now.buckets) = omega (arith, split.used, shown.enough) in
-    let j = joined_chain g.L.SinglyLinkedListOps.successor (λ i p. ⊤) (λ i p. ⊤) c.shrunk-slots.result.used (split_of c.args.self.now.slots c.shrunk-slots.result.used) split.apart (λ j p n b. tt) (λ p b. tt) _ _ _ shown.distinct shown.chained within in
-    let j_represented = joined_represented g.L.SinglyLinkedListOps.successor (λ i p. ⊤) (λ i p. ⊤) c.shrunk-slots.result.used (split_of c.args.self.now.slots c.shrunk-slots.result.used) split.apart (λ j p n b. tt) (λ p b. tt) _ _ _ shown.distinct shown.chained within in
+    let in_bounds : c.shrunk-slots.result.used < length (g.B.BucketRow.fronts c.args.self.now.buckets) = omega (arith, split.used, shown.enough) in
+    let j = joined_chain g.L.SinglyLinkedListOps.successor (λ i p. ⊤) (λ i p. ⊤) c.shrunk-slots.result.used (split_of c.args.self.now.slots c.shrunk-slots.result.used) split.apart (λ j p n b. tt) (λ p b. tt) _ _ _ shown.distinct shown.chained in_bounds in
+    let j_represented = joined_represented g.L.SinglyLinkedListOps.successor (λ i p. ⊤) (λ i p. ⊤) c.shrunk-slots.result.used (split_of c.args.self.now.slots c.shrunk-slots.result.used) split.apart (λ j p n b. tt) (λ p b. tt) _ _ _ shown.distinct shown.chained in_bounds in
     (j.chain, rw (c.front-2.ensures, c.split-to.ensures, c.used-last.ensures) j_represented)
 
 pub set_front-requires-2-clause-kept : goal.set_front-requires-2-clause-kept
 set_front-requires-2-clause-kept g c =
     let shown = c.requires.shown.1 in
     let split = c.shrunk-slots.ensures.splits in
-    let within : c.shrunk-slots.result.used < length (g.B.BucketRow.fronts c.args.self.now.buckets) = omega (arith, split.used, shown.enough) in
-    let l = last_chain g.L.SinglyLinkedListOps.successor (λ i p. ⊤) (λ i p. ⊤) c.shrunk-slots.result.used (split_of c.args.self.now.slots c.shrunk-slots.result.used) split.apart (λ j p n b. tt) (λ p b. tt) _ _ _ shown.distinct shown.chained within in
-    let j = joined_chain g.L.SinglyLinkedListOps.successor (λ i p. ⊤) (λ i p. ⊤) c.shrunk-slots.result.used (split_of c.args.self.now.slots c.shrunk-slots.result.used) split.apart (λ j p n b. tt) (λ p b. tt) _ _ _ shown.distinct shown.chained within in
-    let j_represented = joined_represented g.L.SinglyLinkedListOps.successor (λ i p. ⊤) (λ i p. ⊤) c.shrunk-slots.result.used (split_of c.args.self.now.slots c.shrunk-slots.result.used) split.apart (λ j p n b. tt) (λ p b. tt) _ _ _ shown.distinct shown.chained within in
-    let apart = chains_apart g.L.SinglyLinkedListOps.successor (λ i p. ⊤) (λ i p. ⊤) c.shrunk-slots.result.used (split_of c.args.self.now.slots c.shrunk-slots.result.used) split.apart (λ j p n b. tt) (λ p b. tt) _ _ _ shown.distinct shown.chained within in
+    let in_bounds : c.shrunk-slots.result.used < length (g.B.BucketRow.fronts c.args.self.now.buckets) = omega (arith, split.used, shown.enough) in
+    let l = last_chain g.L.SinglyLinkedListOps.successor (λ i p. ⊤) (λ i p. ⊤) c.shrunk-slots.result.used (split_of c.args.self.now.slots c.shrunk-slots.result.used) split.apart (λ j p n b. tt) (λ p b. tt) _ _ _ shown.distinct shown.chained in_bounds in
+    let j = joined_chain g.L.SinglyLinkedListOps.successor (λ i p. ⊤) (λ i p. ⊤) c.shrunk-slots.result.used (split_of c.args.self.now.slots c.shrunk-slots.result.used) split.apart (λ j p n b. tt) (λ p b. tt) _ _ _ shown.distinct shown.chained in_bounds in
+    let j_represented = joined_represented g.L.SinglyLinkedListOps.successor (λ i p. ⊤) (λ i p. ⊤) c.shrunk-slots.result.used (split_of c.args.self.now.slots c.shrunk-slots.result.used) split.apart (λ j p n b. tt) (λ p b. tt) _ _ _ shown.distinct shown.chained in_bounds in
+    let apart = chains_apart g.L.SinglyLinkedListOps.successor (λ i p. ⊤) (λ i p. ⊤) c.shrunk-slots.result.used (split_of c.args.self.now.slots c.shrunk-slots.result.used) split.apart (λ j p n b. tt) (λ p b. tt) _ _ _ shown.distinct shown.chained in_bounds in
     front_kept g.met.L.SinglyLinkedListOps.linked_alike (λ q l. g.met.B.BucketsFor.keeps_named q (g.met.L.LinkOps.covered_has_name _ q (g.met.L.LinkOps.linked_is_covered _ q l)))
     c.join_chains-front.result (l.chain ++ j.chain)
     (c.join_chains-front.ensures.joined l.chain j.chain (rw (c.front.ensures, c.used-last.ensures) l.shown) (rw (c.front-2.ensures, c.split-to.ensures, c.used-last.ensures) j_represented) apart)
@@ -66,11 +66,11 @@ returns-clause-kept g c = record {
   buckets = keeps_buckets g.met.B.BucketRow.rewrites_count (g.met.B.BucketRow.rewrites_on _ _ _ c.set_front.ensures.rewrites c.set_front-2.ensures.rewrites);
   frame = λ s shown.
       let split = c.shrunk-slots.ensures.splits in
-      let within : c.shrunk-slots.result.used < length (g.B.BucketRow.fronts c.args.self.now.buckets) = omega (arith, split.used, shown.enough) in
-      let l = last_chain g.L.SinglyLinkedListOps.successor (λ i p. ⊤) (λ i p. ⊤) c.shrunk-slots.result.used (split_of c.args.self.now.slots c.shrunk-slots.result.used) split.apart (λ j p n b. tt) (λ p b. tt) _ _ _ shown.distinct shown.chained within in
-      let j = joined_chain g.L.SinglyLinkedListOps.successor (λ i p. ⊤) (λ i p. ⊤) c.shrunk-slots.result.used (split_of c.args.self.now.slots c.shrunk-slots.result.used) split.apart (λ j p n b. tt) (λ p b. tt) _ _ _ shown.distinct shown.chained within in
-      let j_represented = joined_represented g.L.SinglyLinkedListOps.successor (λ i p. ⊤) (λ i p. ⊤) c.shrunk-slots.result.used (split_of c.args.self.now.slots c.shrunk-slots.result.used) split.apart (λ j p n b. tt) (λ p b. tt) _ _ _ shown.distinct shown.chained within in
-      let apart = chains_apart g.L.SinglyLinkedListOps.successor (λ i p. ⊤) (λ i p. ⊤) c.shrunk-slots.result.used (split_of c.args.self.now.slots c.shrunk-slots.result.used) split.apart (λ j p n b. tt) (λ p b. tt) _ _ _ shown.distinct shown.chained within in
-      joined_frame g.L.SinglyLinkedListOps.successor (λ i p. ⊤) (λ i p. ⊤) c.shrunk-slots.result.used (split_of c.args.self.now.slots c.shrunk-slots.result.used) split.apart (λ j p n b. tt) (λ p b. tt) _ _ _ shown.distinct shown.chained within
+      let in_bounds : c.shrunk-slots.result.used < length (g.B.BucketRow.fronts c.args.self.now.buckets) = omega (arith, split.used, shown.enough) in
+      let l = last_chain g.L.SinglyLinkedListOps.successor (λ i p. ⊤) (λ i p. ⊤) c.shrunk-slots.result.used (split_of c.args.self.now.slots c.shrunk-slots.result.used) split.apart (λ j p n b. tt) (λ p b. tt) _ _ _ shown.distinct shown.chained in_bounds in
+      let j = joined_chain g.L.SinglyLinkedListOps.successor (λ i p. ⊤) (λ i p. ⊤) c.shrunk-slots.result.used (split_of c.args.self.now.slots c.shrunk-slots.result.used) split.apart (λ j p n b. tt) (λ p b. tt) _ _ _ shown.distinct shown.chained in_bounds in
+      let j_represented = joined_represented g.L.SinglyLinkedListOps.successor (λ i p. ⊤) (λ i p. ⊤) c.shrunk-slots.result.used (split_of c.args.self.now.slots c.shrunk-slots.result.used) split.apart (λ j p n b. tt) (λ p b. tt) _ _ _ shown.distinct shown.chained in_bounds in
+      let apart = chains_apart g.L.SinglyLinkedListOps.successor (λ i p. ⊤) (λ i p. ⊤) c.shrunk-slots.result.used (split_of c.args.self.now.slots c.shrunk-slots.result.used) split.apart (λ j p n b. tt) (λ p b. tt) _ _ _ shown.distinct shown.chained in_bounds in
+      joined_frame g.L.SinglyLinkedListOps.successor (λ i p. ⊤) (λ i p. ⊤) c.shrunk-slots.result.used (split_of c.args.self.now.slots c.shrunk-slots.result.used) split.apart (λ j p n b. tt) (λ p b. tt) _ _ _ shown.distinct shown.chained in_bounds
       (c.join_chains-front.ensures.frame l.chain j.chain (rw (c.front.ensures, c.used-last.ensures) l.shown) (rw (c.front-2.ensures, c.split-to.ensures, c.used-last.ensures) j_represented) apart);
 }

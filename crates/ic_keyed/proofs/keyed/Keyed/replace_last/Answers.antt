@@ -9,9 +9,9 @@ returns-in_default-clause-empty g c = rw (← c.self.view_is) (refl, no_last (va
 
 pub invariant_of-self : goal.invariant_of-self
 invariant_of-self g c =
-    let e = c.renew.ensures in rw e.renewed.2 (own_replaced g.T.HasKey.key_of e.renewed.1 c.self.invariant c.args.value (rw (← c.self.view_is) at c.requires.new))
+    let e = c.replace_and_touch.ensures in rw e.renewed.2 (own_replaced g.T.HasKey.key_of e.renewed.1 c.self.invariant c.args.value (rw (← c.self.view_is) at c.requires.new))
 
 pub returns-clause-replaced : goal.returns-clause-replaced
 returns-clause-replaced g c =
-    let e = c.renew.ensures in
+    let e = c.replace_and_touch.ensures in
     rw (← c.self.view_is) (e.renewed.0, without_last g.T.HasKey.key_of c.self.invariant e.renewed.1 (sym c.in-Some.ensures.last ∙ e.value), same_values e.parts e.renewed.2)

@@ -7,8 +7,8 @@ use Rattle.ic_link_ops.specs.EntryLaws.{linked_in_range}
 use Rattle.ic_link_ops.proofs.WidthLemmas.{nameable_fits}
 use Rattle.ic_link_ops.proofs.table.PlainTable.slot_of_linked.Goals as goal
 
-pub returns-clause-within : goal.returns-clause-within
-returns-clause-within g c =
+pub returns-clause-in_bounds : goal.returns-clause-in_bounds
+returns-clause-in_bounds g c =
     omega (
       arith,
       c.index.ensures,

@@ -9,6 +9,6 @@ use Rattle.ic_raw.proofs.nodes.RawTable+RawThree.named.Goals.{then-number-self, 
 pub returns : goal.returns
 returns c =
     let places = length (raw_entries c.args.self.now) in elim c.if-number-self.branch [
-      | then-number-self w ↦ c.from_word.ensures ∙ ap place_at w.within-is ∙ number_within places c.args.word w.if-number-self.true
-      | else-number-self w ↦ c.from_word.ensures ∙ ap place_at w.within-is ∙ place_at_word None ∙ number_beyond places c.args.word w.if-number-self.false
+      | then-number-self w ↦ c.from_word.ensures ∙ ap place_at w.word_in_bounds-is ∙ number_within places c.args.word w.if-number-self.true
+      | else-number-self w ↦ c.from_word.ensures ∙ ap place_at w.word_in_bounds-is ∙ place_at_word None ∙ number_beyond places c.args.word w.if-number-self.false
     ]

@@ -6,7 +6,7 @@ use Rattle.ic_raw.specs.Seen.{has_place}
 use Rattle.ic_raw.specs.Tree.{IsInsertPos, lent_table}
 use Rattle.ic_raw.specs.Words.{is_linked_three}
 use Rattle.ic_raw.proofs.Gaps.{not_is}
-use Rattle.ic_raw.proofs.Trees.{hole_stands, hole_empty}
+use Rattle.ic_raw.proofs.Trees.{insert_pos_stands, insert_pos_empty}
 use Rattle.ic_raw.proofs.search.InsertPos.is_open.Goals as goal
 
 pub at-requires : goal.at-requires
@@ -18,9 +18,9 @@ pub returns-in-None : goal.returns-in-None
 returns-in-None c cut shown at =
     let side = c.args.self.now.side in
     let t = lent_table c.args.links.now in
-    let none = c.root.ensures ∙ hole_empty side cut shown (subst (λ o. IsInsertPos side t o cut) (sym c.get.ensures ∙ c.in-None.is) at) in
+    let none = c.root.ensures ∙ insert_pos_empty side cut shown (subst (λ o. IsInsertPos side t o cut) (sym c.get.ensures ∙ c.in-None.is) at) in
     not_is c.is_none.result (sym (ap is_some none) ∙ c.is_none.ensures)
 
 pub returns-in-Some : goal.returns-in-Some
 returns-in-Some c cut shown at =
-    c.is_linked.ensures ∙ (ap is_linked_three c.at.ensures ∙ hole_stands c.args.self.now.side c.args.self.now.parent cut shown at c.in-Some.parent (sym c.get.ensures ∙ c.in-Some.is))
+    c.is_linked.ensures ∙ (ap is_linked_three c.at.ensures ∙ insert_pos_stands c.args.self.now.side c.args.self.now.parent cut shown at c.in-Some.parent (sym c.get.ensures ∙ c.in-Some.is))

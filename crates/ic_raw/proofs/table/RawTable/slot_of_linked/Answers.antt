@@ -4,8 +4,8 @@ use Rattle.ic_raw.specs.Tables.{raw_entries}
 use Rattle.ic_raw.proofs.Entries.{seen_covered}
 use Rattle.ic_raw.proofs.table.RawTable.slot_of_linked.Goals as goal
 
-pub returns-clause-within : goal.returns-clause-within
-returns-clause-within g c =
+pub returns-clause-in_bounds : goal.returns-clause-in_bounds
+returns-clause-in_bounds g c =
     omega (
       arith,
       c.index.ensures.value,

@@ -5,7 +5,7 @@ use Rattle.ic_link_ops.proofs.SequenceLemmas.{some_same}
 use Rattle.ic_link_ops.proofs.RepresentedTrees.{one_sequence}
 use Rattle.ic_rbtree.specs.Borders.{less_at}
 use Rattle.ic_rbtree.specs.Comparing.{compared}
-use Rattle.ic_rbtree.specs.Holes.{less_there, looks_there}
+use Rattle.ic_rbtree.specs.InsertPositions.{less_there, looks_there}
 use Rattle.ic_rbtree.proofs.LookBounds.{last_is_placed, one_look}
 use Rattle.ic_rbtree.proofs.Removing.{spot, spot_linked, represented_of}
 use Rattle.ic_rbtree.proofs.RepresentedClosed.{among, among_there, represented_closed}

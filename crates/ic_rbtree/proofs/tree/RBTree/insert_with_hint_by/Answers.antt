@@ -1,6 +1,6 @@
 use Rattle.std.proofs.Common.{subst}
 use Rattle.ic_rbtree.specs.Comparing.{compared}
-use Rattle.ic_rbtree.specs.Holes.{HintedLooks}
+use Rattle.ic_rbtree.specs.InsertPositions.{HintedLooks}
 use Rattle.ic_rbtree.specs.Kept.{RepresentsKept}
 use Rattle.ic_rbtree.specs.Ordered.{InsertsInOrder}
 use Rattle.ic_rbtree.proofs.InOrder.{still_represented, fits_safe, fitted}

@@ -11,8 +11,8 @@ index-found-requires g c =
 pub is_linked-requires : goal.is_linked-requires
 is_linked-requires g c =
     let fields = c.self.inside.fields in
-    let within = within_by fields.items c.self.invariant c.args.field (subst (λ (w : Family _ _). has_field w c.args.field ≡ true) (sym c.self.view_is) c.requires.there) in
-    record { covered = covers_object fields.items c.self.invariant c.args.field c.index-found.result.now c.args.object within c.index-found.ensures (subst (λ (w : Family _ _). is_placed w c.args.object ≡ true) (sym c.self.view_is) c.requires.placed) }
+    let in_bounds = within_by fields.items c.self.invariant c.args.field (subst (λ (w : Family _ _). has_field w c.args.field ≡ true) (sym c.self.view_is) c.requires.there) in
+    record { covered = covers_object fields.items c.self.invariant c.args.field c.index-found.result.now c.args.object in_bounds c.index-found.ensures (subst (λ (w : Family _ _). is_placed w c.args.object ≡ true) (sym c.self.view_is) c.requires.placed) }
 
 pub returns-then-not-is_linked : goal.returns-then-not-is_linked
 returns-then-not-is_linked g c =
@@ -23,17 +23,17 @@ returns-then-not-is_linked g c =
 pub returns-then-not-found : goal.returns-then-not-found
 returns-then-not-found g c =
     let fields = c.self.inside.fields in
-    let within = within_by fields.items c.self.invariant c.args.field (subst (λ (w : Family _ _). has_field w c.args.field ≡ true) (sym c.self.view_is) c.requires.there) in
+    let in_bounds = within_by fields.items c.self.invariant c.args.field (subst (λ (w : Family _ _). has_field w c.args.field ≡ true) (sym c.self.view_is) c.requires.there) in
     rw c.if-not-found.true (sym (ap (λ w. is_member_in w c.args.field c.args.object) (sym c.self.view_is)
-    ∙ in_some fields.items c.self.inside.collections c.self.invariant c.args.field c.args.object c.index-found.result.now within c.index-found.ensures (sym c.is_linked.ensures ∙ c.if-not-is_linked.false) c.if-not-found.true))
+    ∙ in_some fields.items c.self.inside.collections c.self.invariant c.args.field c.args.object c.index-found.result.now in_bounds c.index-found.ensures (sym c.is_linked.ensures ∙ c.if-not-is_linked.false) c.if-not-found.true))
 
 pub any_contains-requires : goal.any_contains-requires
 any_contains-requires g c =
     let fields = c.self.inside.fields in
-    let within = within_by fields.items c.self.invariant c.args.field (subst (λ (w : Family _ _). has_field w c.args.field ≡ true) (sym c.self.view_is) c.requires.there) in
+    let in_bounds = within_by fields.items c.self.invariant c.args.field (subst (λ (w : Family _ _). has_field w c.args.field ≡ true) (sym c.self.view_is) c.requires.there) in
     record {
       held = λ n k is same. held_read fields.items c.self.inside.collections c.self.invariant c.args.field c.args.object n k c.index-found.result.now is same c.index-found.ensures;
-      covered = covers_object fields.items c.self.invariant c.args.field c.index-found.result.now c.args.object within c.index-found.ensures (subst (λ (w : Family _ _). is_placed w c.args.object ≡ true) (sym c.self.view_is) c.requires.placed);
+      covered = covers_object fields.items c.self.invariant c.args.field c.index-found.result.now c.args.object in_bounds c.index-found.ensures (subst (λ (w : Family _ _). is_placed w c.args.object ≡ true) (sym c.self.view_is) c.requires.placed);
     }
 
 pub returns-else-not-found : goal.returns-else-not-found

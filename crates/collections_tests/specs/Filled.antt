@@ -1,0 +1,22 @@
+-- What the tests know of a tree with counts into which objects are inserted in the order of their places, so that every count of a member stays fresh.
+use Rattle.std.specs.Prelude.{◌≡◌, ◌<◌, ◌≤◌, ℕ, ⊤, Option, None, List}
+use Rattle.ic_link_ops.specs.Prelude.{Place, index_of, Table, IsCovered}
+use Rattle.ic_link_ops.specs.RedBlackTree.{Node}
+use Rattle.ic_link_ops.specs.Times.{times_in}
+use Rattle.ic_augmented.specs.Augmented.{links_of, summaries_of}
+use Rattle.ic_augmented.specs.AugmentedTables.{room_of}
+use Rattle.ic_augmented.specs.Consistent.{RepresentsAugmented}
+use Rattle.ic_augmented.specs.Counts.{counts}
+use Rattle.ic_augmented.specs.declared.augmented.Augmented.{Augmented}
+use Rattle.ic_augmented.specs.declared.augmented_table.AugmentedTable.{AugmentedTable}
+
+module _ {N E A : Type 0} (n : E → Node) (table : N → Table E) where
+  -- THE TREE IS FILLED up to the index k: it is summed, its members are at places with an index below k, and the count of every other place is stale. The
+  -- table covers four places, each with room for a count
+  pub record IsFilled (root : Option Place) (summed : Augmented N (AugmentedTable ⊤ ℕ A)) (k : ℕ) : Type 0 where
+    pub covers : (table (links_of summed)).extent.places ≡ 4
+    pub room : (q : Place) → IsCovered (table (links_of summed)) q → index_of q < room_of (summaries_of summed)
+    pub members : List Place
+    pub below : (q : Place) → 1 ≤ times_in q members → index_of q < k
+    pub shown : RepresentsAugmented n (counts (summaries_of summed)) (table (links_of summed)) root members
+    pub stale : (q : Place) → k ≤ index_of q → (counts (summaries_of summed)).fresh q ≡ None

@@ -1,0 +1,10 @@
+use Rattle.std.proofs.Common.{◌≡◌, ◌<◌, true}
+use Rattle.ic_link_ops.specs.Prelude.{Place, index_of, is_placed}
+use Rattle.structure_tests.specs.TwoRings.{TwoRings}
+use Rattle.structure_tests.proofs.ring.play_rows.Given as goal
+
+abbrev pub invariant-loop-row : goal.invariant-loop-row
+invariant-loop-row g l = record {
+  placed : (q : Place) → index_of q < 8 → is_placed l.objects q ≡ true;
+  two : TwoRings g.L.LinkedListOps.neighbors (g.L.LinkOps.table l.links) l.ring l.other;
+}
