@@ -1,10 +1,10 @@
-/* This library has lists, rings, hash tables and a red-black tree over tables of links in your memory. The lists are doubly linked, singly
- * linked and XOR lists.
+/* This library has doubly linked lists, singly linked lists, XOR lists, rings, hash tables and red-black trees. They link objects that are in your
+ * own arrays.
  *
- * You name an object by its place, which is its index in your own arrays. A table is an array with a link for each place. A link consists of one to
- * three words, which are integers. A place that is in a list or tree is linked, and is a member of the list or tree, and the words of its link lead
- * to other members. A place is in at most one list or tree of a table. To have an object in several lists or trees at once, use a table for each. The
- * library allocates nothing, keeps nothing between calls, and calls no other code.
+ * You name an object by its place, which is the index of the object in your array. The links of the objects are in a second array, the table, which
+ * has one link for each place. A link consists of one to three words, which are integers that name other places. A place that is in a list or tree
+ * is linked, and is a member of this list or tree. A place is in at most one list or tree of a table. To have an object in several lists or trees at
+ * once, use one table for each list or tree. The library allocates no memory, keeps no data between calls, and calls no other code.
  *
  *     struct ic_link2 links[100] = {0};                   // a hundred unlinked places
  *     struct ic_list list = {0};                          // a list with no members
@@ -15,32 +15,33 @@
  *         printf("%u\n", (unsigned)place);
  *     status = ic_list_pop_front(links, 100, &list, &oldest);
  *
- * Every bit pattern is a valid value of each struct. Zeroed memory is a table of unlinked places, an empty list and an empty tree. You can copy a
- * table together with its lists and trees, and use the copy instead of the original.
+ * Every bit pattern is a valid value of each struct. In a table of zero bytes all places are unlinked. A list or a tree of zero bytes has no
+ * members. You can copy a table together with its lists and trees, and use the copy instead of the original.
  *
- * A call requires that `table` points to `places` links, `keys` to `key_count` keys, `hashes` to `hash_count` hashes, `buckets` to `bucket_count`
- * lists, and each other pointer to one value of its type. No two of these arrays and values may overlap. No other thread may access these arrays and
- * values during the call, except that several threads may read an array or a value at once if each of their calls takes it as const. A call requires
- * nothing else, so words, keys, hashes and places may have any values. If you pass a length that is greater than its array, a call may access memory
- * that is not yours. A length that is too small is safe.
+ * A call requires that `table` points to an array of `places` links. In the same way `keys` must point to `key_count` keys, `hashes` to `hash_count`
+ * hashes, `buckets` to `bucket_count` lists, and `sums` to `sum_count` sums. Each other pointer must point to one value of its type. No two of these
+ * arrays and values may overlap. During the call no other thread may write to these arrays and values. Another thread may read an array or value
+ * only if the call takes a const pointer to it. A call requires nothing else, so words, keys, hashes and places may have any values. If you pass a
+ * length that is greater than the length of the array, the call may access memory after the array. A length that is smaller than the length of the
+ * array does no harm.
  *
- * Every call does this, whatever words, keys, hashes and places you pass:
+ * The following is true of every call, whatever words, keys, hashes and places you pass:
  *   - The call returns one of the statuses below.
- *   - The call writes only to what you pass: the first `places` links of the table, the lists, the tree, its ends and sums, the buckets that the
- *     hashes choose, and the out parameter.
- *   - If the status is not IC_OK, the call has changed nothing, and has not set the out parameter. The status says what is wrong with a length or
- *     with a member that you name, or else with the place to insert. If none of these is wrong, there is no member to remove or find (IC_NULL), or
- *     the words contradict each other or do not allow the edit (IC_BROKEN). You may pass IC_NONE for a place if the comment of the call says what
- *     the call then does.
+ *   - The call writes only to the first `places` links of the table, to the lists, trees, ends and sums that you pass, to the buckets that the
+ *     hashes choose, and to the out parameter, such as `popped`.
+ *   - If the status is not IC_OK, the call has changed nothing, and has not set the out parameter. If something is wrong with a length or with a
+ *     member that you name, the status says what. Otherwise, if something is wrong with the place to insert, the status says what. If nothing is
+ *     wrong with any of these, the status is IC_NULL or IC_BROKEN. IC_NULL then means that there is no member to remove or find. IC_BROKEN means
+ *     that the words contradict each other, or do not allow the edit.
  *   - The call takes at most as many steps as its comment says, such as O(1) or O(n), where n is the number of members. If the links form no list or
- *     tree, a call whose cost depends on members takes at most a fixed number of steps for each place of the table, and for each bucket that the call
- *     reads.
+ *     tree, a call whose cost depends on a number of members takes at most a fixed number of steps for each place of the table, and for each bucket
+ *     that the call reads.
  *
- * If the links form the list or tree that you pass, and the members that you name are in it, the call makes the edit that its comment says. Every
- * other list and tree of the table stays as it was. If you name a member of another list of the same table, the call returns IC_BROKEN only if the
- * words of the neighbors show this, as at an end of a doubly linked list. In the middle of a list, in singly linked lists and in trees a call cannot
- * detect a member of another list or tree, and damages both, but writes nothing outside the table. In an XOR list a call cannot always detect a wrong
- * neighbor either, as the part on XOR lists explains.
+ * If the links form the list or tree that you pass, and it has the members that you name, the call makes the edit that its comment describes. Every
+ * other list and tree of the table then stays as it was. Not every call can detect that you name a member of another list or tree of the same table.
+ * At an end of a doubly linked list, the words of the link reveal the mistake, and the call returns IC_BROKEN. In the middle of a doubly linked
+ * list, in a singly linked list and in a tree, the call cannot detect the mistake. It may then damage both lists or trees, but writes nothing
+ * outside the table. In an XOR list a call cannot always detect a wrong neighbor either, as the part on XOR lists explains.
  */
 #ifndef IC_H
 #define IC_H
@@ -53,9 +54,9 @@
 #define IC_VERSION_MINOR 1
 #define IC_VERSION_PATCH 0
 
-/* Code that includes this header refers to the symbol ic_version_.. below, which only a library of the same major and minor version defines. If
- * parts of a program need two versions, the linker refuses the program, because both versions of the library define the same calls. On Linux, GNU
- * ld also refuses to link this code with a library of another version. The reference to the symbol takes no memory when the program runs. */
+/* Code that includes this header refers to the symbol ic_version_0_1, which only a library of the version 0.1 defines. If parts of a program need
+ * two versions, the linker refuses the program, because both versions of the library define the same calls. On Linux, GNU ld also refuses to link
+ * this code with a library of another version. The reference to the symbol takes no memory when the program runs. */
 #if defined(__GNUC__) && defined(__ELF__)
 __asm__(".pushsection .ic_version, \"\"\n\t.long ic_version_0_1\n\t.popsection");
 #elif defined(__GNUC__) && !defined(__wasm__)
@@ -66,9 +67,10 @@ __asm__(".globl ic_version_0_1");
 extern "C" {
 #endif
 
-/* Marks a call that may be refused, so that the compiler warns if you ignore its status. -DIC_NODISCARD= switches the warning off. If the
- * attribute is warn_unused_result, GCC warns even if you write (void) before the call. If the attribute is [[nodiscard]], which GCC has from
- * version 11 on, GCC does not warn of a call with (void). */
+/* IC_NODISCARD marks a call that may be refused, so that the compiler warns if you ignore its status. The compiler option -DIC_NODISCARD= switches
+ * the warning off. IC_NODISCARD is the attribute [[nodiscard]] if the compiler has it, and otherwise the attribute warn_unused_result. With
+ * warn_unused_result, GCC warns even if you write (void) before the call. With [[nodiscard]], which GCC has in C from version 11 on, GCC does not
+ * warn if you write (void) before the call. */
 #ifndef IC_NODISCARD
 #if (defined(__cplusplus) && __cplusplus >= 201703L) || (defined(__STDC_VERSION__) && __STDC_VERSION__ >= 202311L)
 #define IC_NODISCARD [[nodiscard]]
@@ -81,24 +83,25 @@ extern "C" {
 #endif
 #endif
 
-/* ic_length is the type of the length of an array, and has 64 bits on every processor. If size_t has 32 bits, the compiler converts each length
- * that you pass to an ic_length. */
+/* ic_length is the type of the length of an array, and has 64 bits on every processor. If size_t has 32 bits, you may pass a length as a size_t, and
+ * the compiler converts it. */
 #if SIZE_MAX >= UINT64_MAX
 typedef size_t ic_length;
 #else
 typedef uint64_t ic_length;
 #endif
 
-/* IC_NONE names no place. If a call takes IC_NONE in place of a member, its comment says what IC_NONE means, for example the front of the list. */
+/* IC_NONE names no place. If you may pass IC_NONE instead of a member, the comment of the call says what IC_NONE means, for example the front of the
+ * list. If you pass IC_NONE as the place to insert, or as the head that ic_ring_init makes, the call returns IC_OUT_OF_RANGE. */
 #define IC_NONE UINT32_MAX
 
-/* These are the statuses that a call returns. */
+/* The status that a call returns is one of these. */
 enum ic_status {
     IC_OK = 0,           /* the call has done what its comment says */
     IC_OUT_OF_RANGE = 1, /* a place is not below `places`, or there are fewer keys, hashes or sums than places, or there is no bucket */
-    IC_LINKED = 2,       /* the place to insert is in a list or tree of this table */
+    IC_LINKED = 2,       /* the place to insert is in a list or tree of this table already */
     IC_NOT_LINKED = 3,   /* a place that you name as a member is in no list or tree of this table */
-    IC_NULL = 4,         /* you passed IC_NONE for a place that the call needs, or there is no member to remove or find */
+    IC_NULL = 4,         /* you passed IC_NONE for a member or head that the call needs, or there is no member to remove or find */
     IC_BROKEN = 5        /* the words of the table, the list or the tree contradict each other, or do not allow the edit */
 };
 
@@ -123,22 +126,22 @@ static inline void ic_ignore(uint32_t status) {
     (void)status;
 }
 
-/* Each place of a singly linked list, a hash table or an XOR list has a struct ic_link1 as its link. */
+/* A struct ic_link1 is the link of a place in a table for singly linked lists, hash tables or XOR lists. */
 struct ic_link1 {
     uint64_t next;
 };
 
-/* Each place of a doubly linked list or a ring has a struct ic_link2 as its link. */
+/* A struct ic_link2 is the link of a place in a table for doubly linked lists or rings. */
 struct ic_link2 {
     uint64_t next, prev;
 };
 
-/* Each place of a doubly linked list or a ring with words of 4 bytes has a struct ic_link2_32 as its link. */
+/* A struct ic_link2_32 is the link of a place in a table for doubly linked lists or rings with words of 4 bytes. */
 struct ic_link2_32 {
     uint32_t next, prev;
 };
 
-/* Each place of a tree has a struct ic_link3 as its link, which names both children and the parent. */
+/* A struct ic_link3 is the link of a place in a table for trees. It names both children and the parent of the place. */
 struct ic_link3 {
     uint64_t left, right, parent;
 };
@@ -168,26 +171,26 @@ struct ic_tree_ends {
     uint64_t first, last;
 };
 
-/* Each place of a tree with sums has a struct ic_sum, in a second array. You write the value, and calls write the sum. */
+/* For a tree with sums, you pass an array that has a struct ic_sum for each place. You write the value, and calls write the sum. */
 struct ic_sum {
     uint64_t value, sum;
 };
 
 /* ---- Words -------------------------------------------------------------------------------------------------------------------- */
 
-/* Returns the word for a place, which is 8 * (place + 1), or 0 for IC_NONE. Bit 0 of the first word of a link is set if the place of this link is
- * linked, and bit 0 of `parent` is set if the place is black in its tree. */
+/* Returns the word for a place, which is 8 * (place + 1), or 0 for IC_NONE. In a link, bit 0 of the first word is set if the place of this link is
+ * linked. In a struct ic_link3, bit 0 of `parent` is set if the place is black in its tree. */
 static inline uint64_t ic_word(uint32_t place) {
     return (uint64_t)(uint32_t)(place + 1u) * 8;
 }
 
-/* Returns bits 3 to 35 of a word as a number, which is the place that the word names plus 1, or 0 if the word names no place. */
+/* Returns bits 3 to 35 of a word as a number. If the word names a place, the number is this place plus 1. If the number is 0, the word names no
+ * place. */
 static inline uint64_t ic_number(uint64_t word) {
     return word / 8 % (UINT64_C(1) << 33);
 }
 
-/* Returns the place that a word names, or IC_NONE. The function also returns IC_NONE if ic_number returns 2^32 or more, because no place has such
- * a number. */
+/* Returns the place that a word names, or IC_NONE if the word names no place. A word for which ic_number returns 2^32 or more names no place. */
 static inline uint32_t ic_place(uint64_t word) {
     uint64_t number = ic_number(word);
     return number <= UINT32_MAX ? (uint32_t)number - 1u : IC_NONE;
@@ -195,23 +198,24 @@ static inline uint32_t ic_place(uint64_t word) {
 
 /* ---- Reads and loops --------------------------------------------------------------------------------------------------------------
  *
- * An inline function that reads a link takes the table's length, as the calls do. The function returns IC_NONE if the place is out of range or
- * unlinked, and if the word in the link names no place of the table. So the function never reads outside the table, whatever the words are. A
- * function that reads only a list or a tree, such as ic_list_first, takes no length. If the words of the list or tree are wrong, a function without a
- * length may return a place that is out of range.
+ * An inline function that reads a link takes the table and its length, as the calls do. The function returns IC_NONE if the place is out of range or
+ * unlinked, or if the word in the link names no place of the table. So the function never reads outside the table, whatever the words are. A
+ * function that reads only a list or a tree, such as ic_list_first, takes no length. If the words of the list or tree are wrong, a function without
+ * a length may return a place that is out of range.
  *
- * A macro IC_..._FOREACH makes a loop, which runs its body once for each member. You pass names for `place` and for the other variables before
- * `table`, and the macro declares these variables. You can leave the loop with `break`, go on with `continue`, and write one loop inside another.
+ * A macro IC_..._FOREACH makes a loop, which runs its body once for each member. As the arguments `place`, `next`, `prev`, `before`, `after` and
+ * `bucket`, pass names of your choice. The macro declares variables with these names. You can leave the loop with `break`, go on to the next member
+ * with `continue`, and write one loop inside another.
  *
  *     IC_LIST_FOREACH(place, links, 100, &list)
  *         if (place % 2 == 0)
  *             printf("%u\n", (unsigned)place);
  *
  * Whatever the words are, a loop runs its body at most `places` times, each time for a linked place of the table. The loop ends at a word that names
- * no linked place of the table. The loop evaluates `table`, `places` and `list` again in each round.
+ * no linked place of the table. The loop evaluates its arguments `table`, `places` and `list` again in each round.
  *
  * A loop without _SAFE in its name ends early if its body removes the current member. The body of a ..._SAFE loop may remove the current member, and
- * may then insert the place of this member into another list or tree. The body must not move or remove the neighbors of the current member. A
+ * may then insert the place of this member into another list or tree. This body must not move or remove the neighbors of the current member. A
  * ..._FROM loop begins at the member `at`. To begin after a member, pass as `at` what ic_list_next returns for this member.
  *
  * If your objects are in an array, a ..._ENTRY loop gives you a pointer to the object of each member. You declare the pointer, and pass its name to
@@ -226,7 +230,8 @@ static inline uint32_t ic_place(uint64_t word) {
  *         status = ic_list_remove(links, 100, &list, IC_PLACE_OF(job, jobs));
  */
 
-/* Returns how many places a table of this length has, which is `places`, or IC_NONE if `places` is greater, because all places are below IC_NONE. */
+/* Returns the number of places of a table whose length is `places`. This number is `places`, but at most IC_NONE, because every place is below
+ * IC_NONE. */
 static inline uint32_t ic_bound(ic_length places) {
     return places < IC_NONE ? (uint32_t)places : IC_NONE;
 }
@@ -237,16 +242,16 @@ static inline uint32_t ic_place_within(ic_length places, uint64_t word) {
     return place < ic_bound(places) ? place : IC_NONE;
 }
 
-/* Returns the status with which a call refuses `place` as a member. If the place is linked (`is_linked`), its links are wrong, and the status is
- * IC_BROKEN. */
+/* Returns the status with which a call refuses `place` as a member. If `is_linked` is not 0, the place is linked but its links are wrong, and the
+ * status is IC_BROKEN. */
 static inline uint32_t ic_fault_of(ic_length places, uint32_t place, int is_linked) {
     if (place == IC_NONE)
         return IC_NULL;
     return place >= ic_bound(places) ? IC_OUT_OF_RANGE : is_linked ? IC_BROKEN : IC_NOT_LINKED;
 }
 
-/* The loop macros below expand to IC_LOOP or IC_LOOP_SAFE. The loop begins at `first`, runs while the expression `is_member` is true, and goes on
- * from `place` to the value of the expression `next`. */
+/* Many of the loop macros below expand to IC_LOOP or IC_LOOP_SAFE. The loop begins at `first`, and runs while the expression `is_member` is true.
+ * After each round it goes on from `place` to the value of the expression `next`. */
 #define IC_LOOP(place, first, places, is_member, next)                                                       \
     for (uint32_t place = (first), ic_rounds_##place = ic_bound(places); (is_member) && ic_rounds_##place--; \
          place = (next))
@@ -261,7 +266,7 @@ static inline uint32_t ic_fault_of(ic_length places, uint32_t place, int is_link
 #define IC_PLACE_OF(object, objects) ((uint32_t)((object) - (objects)))
 
 /* The macros for ..._ENTRY loops use the three macros below. In each round IC_ENTRY_IF makes `object` point to the object of `place`, and after the
- * last round it makes `object` null. */
+ * last round IC_ENTRY_IF makes `object` null. */
 #define IC_ENTRY_IF(object, objects, place, is_member) ((is_member) ? ((object) = &(objects)[place], 1) : ((object) = NULL, 0))
 #define IC_LOOP_ENTRY(object, objects, place, first, places, is_member, next)              \
     for (uint32_t place = (first), ic_rounds_##place = ic_bound(places);                   \
@@ -270,7 +275,7 @@ static inline uint32_t ic_fault_of(ic_length places, uint32_t place, int is_link
     for (uint32_t place = (first), follower = (next), ic_rounds_##place = ic_bound(places);      \
          IC_ENTRY_IF(object, objects, place, (is_member) && ic_rounds_##place--); place = follower, follower = (next))
 
-/* ---- Doubly linked lists: 16 bytes a place, calls O(1) except to fill, clear, check, sort and merge --------------------------------------
+/* ---- Doubly linked lists: 16 bytes for each place; calls take O(1), except fill, clear, check, sort and merge ----------------------------
  *
  * Doubly linked lists are good for queues, and for caches, where you also remove objects from the middle.
  */
@@ -307,12 +312,12 @@ static inline uint32_t ic_list_prev(const struct ic_link2 *table, ic_length plac
     return ic_list_is_linked(table, places, at) ? ic_place_within(places, table[at].prev) : IC_NONE;
 }
 
-/* Returns the first member, or IC_NONE if there is none or if it is no linked place of the table. */
+/* Returns the first member, or IC_NONE if the list is empty, or if the first member is no linked place of the table. */
 static inline uint32_t ic_list_front(const struct ic_link2 *table, ic_length places, const struct ic_list *list) {
     return ic_list_is_linked(table, places, ic_list_first(list)) ? ic_list_first(list) : IC_NONE;
 }
 
-/* Returns the last member, or IC_NONE if there is none or if it is no linked place of the table. */
+/* Returns the last member, or IC_NONE if the list is empty, or if the last member is no linked place of the table. */
 static inline uint32_t ic_list_back(const struct ic_link2 *table, ic_length places, const struct ic_list *list) {
     return ic_list_is_linked(table, places, ic_list_last(list)) ? ic_list_last(list) : IC_NONE;
 }
@@ -327,13 +332,14 @@ static inline int ic_list_is_last(const struct ic_link2 *table, ic_length places
     return at != IC_NONE && ic_list_back(table, places, list) == at;
 }
 
-/* Returns whether the list has one member and no other. */
+/* Returns whether the list has exactly one member. */
 static inline int ic_list_is_singular(const struct ic_link2 *table, ic_length places, const struct ic_list *list) {
     return ic_list_is_first(table, places, list, ic_list_last(list));
 }
 
-/* The IC_LIST_FOREACH loops go from the first member to the last, and those with REVERSE in the name from the last to the first. `next` is the member
- * after `place`, or IC_NONE at the last member. `prev` is the member before `place`, or IC_NONE at the first member.
+/* An IC_LIST_FOREACH loop goes from the first member to the last, and a loop with REVERSE in its name goes from the last member to the first. In a
+ * ..._SAFE loop `next` is the member after `place`, or IC_NONE if `place` is the last member. In a ..._REVERSE_SAFE loop `prev` is the member before
+ * `place`, or IC_NONE if `place` is the first member.
  *
  *     IC_LIST_FOREACH_SAFE(place, next, links, 100, &list)
  *         if (is_done(place))
@@ -378,94 +384,95 @@ static inline int ic_list_is_singular(const struct ic_link2 *table, ic_length pl
 
 /* Inserts `place` at the front, in O(1).
  * IC_OUT_OF_RANGE: `place` is not below `places`. IC_LINKED: `place` is linked already. IC_BROKEN: the first member is not linked in this
- * table, or its link names a member before it. */
+ * table, or has a link to a member before it. */
 IC_NODISCARD
 uint32_t ic_list_push_front(struct ic_link2 *table, ic_length places, struct ic_list *list, uint32_t place);
 
 /* Inserts `place` at the back, in O(1).
  * IC_OUT_OF_RANGE: `place` is not below `places`. IC_LINKED: `place` is linked already. IC_BROKEN: the last member is not linked in this
- * table, or its link names a member after it. */
+ * table, or has a link to a member after it. */
 IC_NODISCARD
 uint32_t ic_list_push_back(struct ic_link2 *table, ic_length places, struct ic_list *list, uint32_t place);
 
-/* Removes the first member, and sets *popped to it, in O(1).
- * IC_NULL: the list is empty. IC_BROKEN: the first member is not linked in this table, or its link names a member before it, or the second
- * member's link does not name the first. */
+/* Removes the first member, and sets *popped to this member, in O(1).
+ * IC_NULL: the list is empty. IC_BROKEN: the first member is not linked in this table, or has a link to a member before it, or the second
+ * member has no link back to the first. */
 IC_NODISCARD
 uint32_t ic_list_pop_front(struct ic_link2 *table, ic_length places, struct ic_list *list, uint32_t *popped);
 
-/* Removes the last member, and sets *popped to it, in O(1).
- * IC_NULL: the list is empty. IC_BROKEN: the last member is not linked in this table, or its link names a member after it, or the link of
- * the last member but one does not name the last. */
+/* Removes the last member, and sets *popped to this member, in O(1).
+ * IC_NULL: the list is empty. IC_BROKEN: the last member is not linked in this table, or has a link to a member after it, or the second-to-
+ * last member has no link to the last. */
 IC_NODISCARD
 uint32_t ic_list_pop_back(struct ic_link2 *table, ic_length places, struct ic_list *list, uint32_t *popped);
 
 /* Inserts `place` after the member `at`, or at the front if `at` is IC_NONE, in O(1).
  * IC_OUT_OF_RANGE: `at` or `place` is not below `places`. IC_LINKED: `place` is linked already. IC_NOT_LINKED: the place `at` is not
- * linked. IC_BROKEN: `at` is no member of the list. */
+ * linked. IC_BROKEN: `at` is no member of the list according to its links. */
 IC_NODISCARD
 uint32_t ic_list_insert_after(struct ic_link2 *table, ic_length places, struct ic_list *list, uint32_t at, uint32_t place);
 
 /* Inserts `place` before the member `at`, or at the back if `at` is IC_NONE, in O(1).
  * IC_OUT_OF_RANGE: `at` or `place` is not below `places`. IC_LINKED: `place` is linked already. IC_NOT_LINKED: the place `at` is not
- * linked. IC_BROKEN: `at` is no member of the list. */
+ * linked. IC_BROKEN: `at` is no member of the list according to its links. */
 IC_NODISCARD
 uint32_t ic_list_insert_before(struct ic_link2 *table, ic_length places, struct ic_list *list, uint32_t at, uint32_t place);
 
 /* Removes the member `at`, in O(1).
  * IC_NULL: the place `at` is IC_NONE. IC_OUT_OF_RANGE: the place `at` is not below `places`. IC_NOT_LINKED: the place `at` is not linked.
- * IC_BROKEN: `at` is no member of the list. */
+ * IC_BROKEN: `at` is no member of the list according to its links. */
 IC_NODISCARD
 uint32_t ic_list_remove(struct ic_link2 *table, ic_length places, struct ic_list *list, uint32_t at);
 
-/* Removes the member `at`, and inserts `place` where it was, in O(1).
+/* Removes the member `at`, and inserts `place` where `at` was, in O(1).
  * IC_NULL: the place `at` is IC_NONE. IC_OUT_OF_RANGE: `at` or `place` is not below `places`. IC_LINKED: `place` is linked already, or is
- * `at` itself. IC_NOT_LINKED: the place `at` is not linked. IC_BROKEN: `at` is no member of the list. */
+ * `at` itself. IC_NOT_LINKED: the place `at` is not linked. IC_BROKEN: `at` is no member of the list according to its links. */
 IC_NODISCARD
 uint32_t ic_list_replace(struct ic_link2 *table, ic_length places, struct ic_list *list, uint32_t at, uint32_t place);
 
 /* Moves the member `place` after the member `at`, or to the front if `at` is IC_NONE, in O(1). `place` stays linked during the call.
- * Nothing changes if `place` is there already, or if `at` and `place` are the same.
+ * Nothing changes if `place` is at this position already, or if `at` and `place` are the same place.
  * IC_NULL: `place` is IC_NONE. IC_OUT_OF_RANGE: `at` or `place` is not below `places`. IC_NOT_LINKED: `at` or `place` is not linked.
- * IC_BROKEN: `at` or `place` is no member of the list. */
+ * IC_BROKEN: `at` or `place` is no member of the list according to their links. */
 IC_NODISCARD
 uint32_t ic_list_move_after(struct ic_link2 *table, ic_length places, struct ic_list *list, uint32_t at, uint32_t place);
 
 /* Moves the member `place` before the member `at`, or to the back if `at` is IC_NONE, in O(1). `place` stays linked during the call.
- * Nothing changes if `place` is there already, or if `at` and `place` are the same.
+ * Nothing changes if `place` is at this position already, or if `at` and `place` are the same place.
  * IC_NULL: `place` is IC_NONE. IC_OUT_OF_RANGE: `at` or `place` is not below `places`. IC_NOT_LINKED: `at` or `place` is not linked.
- * IC_BROKEN: `at` or `place` is no member of the list. */
+ * IC_BROKEN: `at` or `place` is no member of the list according to their links. */
 IC_NODISCARD
 uint32_t ic_list_move_before(struct ic_link2 *table, ic_length places, struct ic_list *list, uint32_t at, uint32_t place);
 
-/* Moves the member `place` to the front, as a cache does with the object that it used last, in O(1). `place` stays linked during the call.
+/* Moves the member `place` to the front, as a cache does with an object that it has just used, in O(1). `place` stays linked during the
+ * call.
  * IC_NULL: `place` is IC_NONE. IC_OUT_OF_RANGE: `place` is not below `places`. IC_NOT_LINKED: `place` is not linked. IC_BROKEN: `place` is
- * no member of the list, or the first member is not linked in this table, or its link names a member before it. */
+ * no member of the list according to its links, or the first member is not linked in this table, or has a link to a member before it. */
 IC_NODISCARD
 uint32_t ic_list_move_to_front(struct ic_link2 *table, ic_length places, struct ic_list *list, uint32_t place);
 
 /* Moves the member `place` to the back, in O(1). `place` stays linked during the call.
  * IC_NULL: `place` is IC_NONE. IC_OUT_OF_RANGE: `place` is not below `places`. IC_NOT_LINKED: `place` is not linked. IC_BROKEN: `place` is
- * no member of the list, or the last member is not linked in this table, or its link names a member after it. */
+ * no member of the list according to its links, or the last member is not linked in this table, or has a link to a member after it. */
 IC_NODISCARD
 uint32_t ic_list_move_to_back(struct ic_link2 *table, ic_length places, struct ic_list *list, uint32_t place);
 
 /* Moves all members of `given`, in their order, after the member `at`, or to the front if `at` is IC_NONE, and leaves `given` empty, in
  * O(1).
  * IC_OUT_OF_RANGE: the place `at` is not below `places`. IC_NOT_LINKED: the place `at` is not linked. IC_BROKEN: `at` is no member of the
- * list, or `given` is no list of this table, or both lists begin with the same member, as a list and its copy do. */
+ * list according to its links, or `given` is no list of this table, or both lists begin with the same member, as a list and its copy do. */
 IC_NODISCARD
 uint32_t ic_list_splice_after(struct ic_link2 *table, ic_length places, struct ic_list *list, uint32_t at, struct ic_list *given);
 
 /* Moves all members of `given`, in their order, before the member `at`, or to the back if `at` is IC_NONE, and leaves `given` empty, in
  * O(1).
  * IC_OUT_OF_RANGE: the place `at` is not below `places`. IC_NOT_LINKED: the place `at` is not linked. IC_BROKEN: `at` is no member of the
- * list, or `given` is no list of this table, or both lists begin with the same member, as a list and its copy do. */
+ * list according to its links, or `given` is no list of this table, or both lists begin with the same member, as a list and its copy do. */
 IC_NODISCARD
 uint32_t ic_list_splice_before(struct ic_link2 *table, ic_length places, struct ic_list *list, uint32_t at, struct ic_list *given);
 
 /* Moves all members of `given`, in their order, to the back, and leaves `given` empty, in O(1).
- * IC_BROKEN: the last member is not linked in this table, or its link names a member after it, or `given` is no list of this table, or both
+ * IC_BROKEN: the last member is not linked in this table, or has a link to a member after it, or `given` is no list of this table, or both
  * lists begin with the same member, as a list and its copy do. */
 IC_NODISCARD
 uint32_t ic_list_append(struct ic_link2 *table, ic_length places, struct ic_list *list, struct ic_list *given);
@@ -473,30 +480,30 @@ uint32_t ic_list_append(struct ic_link2 *table, ic_length places, struct ic_list
 /* Inserts the `count` places `first`, `first` + 1 and so on at the back, in rising order, in O(count). If `count` is 0, the call changes
  * nothing.
  * IC_OUT_OF_RANGE: none of these places is linked, but one is not below `places`. IC_LINKED: one of these places is linked already.
- * IC_BROKEN: the last member is not linked in this table, or its link names a member after it. */
+ * IC_BROKEN: the last member is not linked in this table, or has a link to a member after it. */
 IC_NODISCARD
 uint32_t ic_list_fill(struct ic_link2 *table, ic_length places, struct ic_list *list, uint32_t first, uint32_t count);
 
 /* Removes all members, in O(n).
- * IC_BROKEN: the links do not lead from the first member to the last, or the links of two neighbors do not name each other. */
+ * IC_BROKEN: the links do not lead from the first member to the last, or two neighbors do not have links to each other. */
 IC_NODISCARD
 uint32_t ic_list_clear(struct ic_link2 *table, ic_length places, struct ic_list *list);
 
 /* Moves the members after the member `at`, or all members if `at` is IC_NONE, to `rest`, which has to be empty, in O(1).
  * IC_OUT_OF_RANGE: the place `at` is not below `places`. IC_NOT_LINKED: the place `at` is not linked. IC_BROKEN: `at` is no member of the
- * list, or `rest` has members. */
+ * list according to its links, or `rest` has members. */
 IC_NODISCARD
 uint32_t ic_list_split_after(struct ic_link2 *table, ic_length places, struct ic_list *list, uint32_t at, struct ic_list *rest);
 
 /* Moves the members before the member `at`, or all members if `at` is IC_NONE, to `rest`, which has to be empty, in O(1).
  * IC_OUT_OF_RANGE: the place `at` is not below `places`. IC_NOT_LINKED: the place `at` is not linked. IC_BROKEN: `at` is no member of the
- * list, or `rest` has members. */
+ * list according to its links, or `rest` has members. */
 IC_NODISCARD
 uint32_t ic_list_split_before(struct ic_link2 *table, ic_length places, struct ic_list *list, uint32_t at, struct ic_list *rest);
 
-/* Counts the members, and sets *members to how many there are, in O(n). Make this call if the words come from a file, or from memory that
- * others write. If the status is IC_OK, every other call on this list does what its own comment says.
- * IC_BROKEN: the links do not lead from the first member to the last, or the links of two neighbors do not name each other. */
+/* Counts the members, and sets *members to their number, in O(n). Make this call if the words come from a file, or from memory to which
+ * other programs write. If the status is IC_OK, all other calls on this list do what their comments say.
+ * IC_BROKEN: the links do not lead from the first member to the last, or two neighbors do not have links to each other. */
 IC_NODISCARD
 uint32_t ic_list_check(const struct ic_link2 *table, ic_length places, const struct ic_list *list, uint64_t *members);
 
@@ -504,30 +511,30 @@ uint32_t ic_list_check(const struct ic_link2 *table, ic_length places, const str
 
 /* ---- Lists by keys ----
  *
- * A key is a number, and a smaller key comes before a greater one. The key of `place` is keys[place], so there must be a key for each place, but the
- * calls read only the keys of members. A sort and a merge check the lists before they change anything, so a refused call has changed nothing. A sort
- * is recursive, to a depth of at most 33 calls.
+ * A key is a number, and a member with a smaller key comes before a member with a greater key. The key of `place` is keys[place]. The array `keys`
+ * must have a key for each place, but the calls read only the keys of members. A sort and a merge check the lists before they change a link, so a
+ * refused call has changed nothing. A sort is recursive, to a depth of at most 33 calls.
  */
 
 /* Made by tools/c-calls --write: list-keys */
 
 /* Sorts the members by their keys, in O(n log n). Members with equal keys keep their order.
- * IC_OUT_OF_RANGE: there are fewer keys than places. IC_BROKEN: the links do not lead from the first member to the last, or the links of
- * two neighbors do not name each other. */
+ * IC_OUT_OF_RANGE: there are fewer keys than places. IC_BROKEN: the links do not lead from the first member to the last, or two neighbors
+ * do not have links to each other. */
 IC_NODISCARD
 uint32_t ic_list_sort(struct ic_link2 *table, ic_length places, const uint64_t *keys, ic_length key_count, struct ic_list *list);
 
-/* Moves all members of `given` into `list`, which the call leaves sorted by keys if both lists were sorted by keys, in O(n). Of members
- * with equal keys, those of `list` come first. Afterwards `given` is empty.
+/* Moves all members of `given` into `list`, in O(n). If both lists were sorted by keys, `list` is sorted by keys after the call. Of members
+ * with equal keys, those that were in `list` come first. After the call `given` is empty.
  * IC_OUT_OF_RANGE: there are fewer keys than places. IC_BROKEN: the links of one of the lists do not lead from its first member to its
- * last, or the links of two neighbors do not name each other, or both lists begin with the same member, as a list and its copy do. */
+ * last, or two neighbors do not have links to each other, or both lists begin with the same member, as a list and its copy do. */
 IC_NODISCARD
 uint32_t ic_list_merge(struct ic_link2 *table, ic_length places, const uint64_t *keys, ic_length key_count, struct ic_list *list,
                        struct ic_list *given);
 
 /* to here */
 
-/* ---- Members that go from list to list ----
+/* ---- Transfers: a member moves to another list ----
  *
  * A transfer moves one member from one list to another list of the same table, as a scheduler does with a task that no longer waits:
  *
@@ -542,8 +549,8 @@ uint32_t ic_list_merge(struct ic_link2 *table, ic_length places, const uint64_t 
 /* Moves the member `place` of `given` after the member `at`, or to the front if `at` is IC_NONE, in O(1). `place` stays linked during the
  * call.
  * IC_NULL: `place` is IC_NONE. IC_OUT_OF_RANGE: `at` or `place` is not below `places`. IC_NOT_LINKED: `at` or `place` is not linked.
- * IC_BROKEN: `at` is no member of the list, or `place` is no member of `given`, or both lists begin with the same member, as a list and its
- * copy do. */
+ * IC_BROKEN: according to their links `at` is no member of the list or `place` is no member of `given`, or both lists begin with the same
+ * member, as a list and its copy do. */
 IC_NODISCARD
 uint32_t ic_list_transfer_after(struct ic_link2 *table, ic_length places, struct ic_list *list, uint32_t at, struct ic_list *given,
                                 uint32_t place);
@@ -551,20 +558,20 @@ uint32_t ic_list_transfer_after(struct ic_link2 *table, ic_length places, struct
 /* Moves the member `place` of `given` before the member `at`, or to the back if `at` is IC_NONE, in O(1). `place` stays linked during the
  * call.
  * IC_NULL: `place` is IC_NONE. IC_OUT_OF_RANGE: `at` or `place` is not below `places`. IC_NOT_LINKED: `at` or `place` is not linked.
- * IC_BROKEN: `at` is no member of the list, or `place` is no member of `given`, or both lists begin with the same member, as a list and its
- * copy do. */
+ * IC_BROKEN: according to their links `at` is no member of the list or `place` is no member of `given`, or both lists begin with the same
+ * member, as a list and its copy do. */
 IC_NODISCARD
 uint32_t ic_list_transfer_before(struct ic_link2 *table, ic_length places, struct ic_list *list, uint32_t at, struct ic_list *given,
                                  uint32_t place);
 
 /* to here */
 
-/* ---- Doubly linked lists with words of 4 bytes: 8 bytes a place, calls O(1) except to clear and check ---------------------------------------
+/* ---- Doubly linked lists with words of 4 bytes: 8 bytes for each place; calls take O(1), except clear and check -----------------------------
  *
- * Words of 4 bytes take half the memory of the words of 8 bytes that other lists have. A word of 4 bytes is the lower half of the word of 8 bytes
- * for the same place, so a word of 4 bytes can name only places below 536,870,911. Calls treat all other places as out of range. A list with words
- * of 4 bytes is a struct ic_list, too. Each call, read and loop does the same as the call, read or loop without 32 in its name. There is no fill,
- * sort or merge for lists with words of 4 bytes.
+ * In a table for these lists, links have words of 4 bytes, which take half the memory of words of 8 bytes. A word of 4 bytes is the lower half of
+ * the word of 8 bytes for the same place. So a word of 4 bytes can name only places below 536,870,911, and calls treat all other places as out of
+ * range. The list itself is a struct ic_list, like a list with words of 8 bytes. Each call, read and loop does the same as the call, read or loop
+ * without 32 in its name. There is no fill, sort or merge for lists with words of 4 bytes.
  *
  *     struct ic_link2_32 links[100] = {0};               // 100 unlinked places
  *     struct ic_list list = {0};                         // a list with no members
@@ -572,7 +579,7 @@ uint32_t ic_list_transfer_before(struct ic_link2 *table, ic_length places, struc
  *     IC_LIST32_FOREACH(place, links, 100, &list)        // reads the members from the first to the last
  */
 
-/* Returns how many places a table of links with words of 4 bytes has, which is `places`, but at most 536,870,911. */
+/* Returns the number of places of a table whose links have words of 4 bytes. This number is `places`, but at most 536,870,911. */
 static inline ic_length ic_places_32(ic_length places) {
     return places < 536870911 ? places : 536870911;
 }
@@ -581,127 +588,132 @@ static inline ic_length ic_places_32(ic_length places) {
 
 /* Inserts `place` at the front, in O(1).
  * IC_OUT_OF_RANGE: `place` is not below `places`, or is 536,870,911 or more. IC_LINKED: `place` is linked already. IC_BROKEN: the first
- * member is not linked in this table, or its link names a member before it. */
+ * member is not linked in this table, or has a link to a member before it. */
 IC_NODISCARD
 uint32_t ic_list32_push_front(struct ic_link2_32 *table, ic_length places, struct ic_list *list, uint32_t place);
 
 /* Inserts `place` at the back, in O(1).
  * IC_OUT_OF_RANGE: `place` is not below `places`, or is 536,870,911 or more. IC_LINKED: `place` is linked already. IC_BROKEN: the last
- * member is not linked in this table, or its link names a member after it. */
+ * member is not linked in this table, or has a link to a member after it. */
 IC_NODISCARD
 uint32_t ic_list32_push_back(struct ic_link2_32 *table, ic_length places, struct ic_list *list, uint32_t place);
 
-/* Removes the first member, and sets *popped to it, in O(1).
- * IC_NULL: the list is empty. IC_BROKEN: the first member is not linked in this table, or its link names a member before it, or the second
- * member's link does not name the first. */
+/* Removes the first member, and sets *popped to this member, in O(1).
+ * IC_NULL: the list is empty. IC_BROKEN: the first member is not linked in this table, or has a link to a member before it, or the second
+ * member has no link back to the first. */
 IC_NODISCARD
 uint32_t ic_list32_pop_front(struct ic_link2_32 *table, ic_length places, struct ic_list *list, uint32_t *popped);
 
-/* Removes the last member, and sets *popped to it, in O(1).
- * IC_NULL: the list is empty. IC_BROKEN: the last member is not linked in this table, or its link names a member after it, or the link of
- * the last member but one does not name the last. */
+/* Removes the last member, and sets *popped to this member, in O(1).
+ * IC_NULL: the list is empty. IC_BROKEN: the last member is not linked in this table, or has a link to a member after it, or the second-to-
+ * last member has no link to the last. */
 IC_NODISCARD
 uint32_t ic_list32_pop_back(struct ic_link2_32 *table, ic_length places, struct ic_list *list, uint32_t *popped);
 
 /* Inserts `place` after the member `at`, or at the front if `at` is IC_NONE, in O(1).
  * IC_OUT_OF_RANGE: `at` or `place` is not below `places`, or is 536,870,911 or more. IC_LINKED: `place` is linked already. IC_NOT_LINKED:
- * the place `at` is not linked. IC_BROKEN: `at` is no member of the list. */
+ * the place `at` is not linked. IC_BROKEN: `at` is no member of the list according to its links. */
 IC_NODISCARD
 uint32_t ic_list32_insert_after(struct ic_link2_32 *table, ic_length places, struct ic_list *list, uint32_t at, uint32_t place);
 
 /* Inserts `place` before the member `at`, or at the back if `at` is IC_NONE, in O(1).
  * IC_OUT_OF_RANGE: `at` or `place` is not below `places`, or is 536,870,911 or more. IC_LINKED: `place` is linked already. IC_NOT_LINKED:
- * the place `at` is not linked. IC_BROKEN: `at` is no member of the list. */
+ * the place `at` is not linked. IC_BROKEN: `at` is no member of the list according to its links. */
 IC_NODISCARD
 uint32_t ic_list32_insert_before(struct ic_link2_32 *table, ic_length places, struct ic_list *list, uint32_t at, uint32_t place);
 
 /* Removes the member `at`, in O(1).
  * IC_NULL: the place `at` is IC_NONE. IC_OUT_OF_RANGE: the place `at` is not below `places`, or is 536,870,911 or more. IC_NOT_LINKED: the
- * place `at` is not linked. IC_BROKEN: `at` is no member of the list. */
+ * place `at` is not linked. IC_BROKEN: `at` is no member of the list according to its links. */
 IC_NODISCARD
 uint32_t ic_list32_remove(struct ic_link2_32 *table, ic_length places, struct ic_list *list, uint32_t at);
 
-/* Removes the member `at`, and inserts `place` where it was, in O(1).
+/* Removes the member `at`, and inserts `place` where `at` was, in O(1).
  * IC_NULL: the place `at` is IC_NONE. IC_OUT_OF_RANGE: `at` or `place` is not below `places`, or is 536,870,911 or more. IC_LINKED: `place`
- * is linked already, or is `at` itself. IC_NOT_LINKED: the place `at` is not linked. IC_BROKEN: `at` is no member of the list. */
+ * is linked already, or is `at` itself. IC_NOT_LINKED: the place `at` is not linked. IC_BROKEN: `at` is no member of the list according to
+ * its links. */
 IC_NODISCARD
 uint32_t ic_list32_replace(struct ic_link2_32 *table, ic_length places, struct ic_list *list, uint32_t at, uint32_t place);
 
 /* Moves the member `place` after the member `at`, or to the front if `at` is IC_NONE, in O(1). `place` stays linked during the call.
- * Nothing changes if `place` is there already, or if `at` and `place` are the same.
+ * Nothing changes if `place` is at this position already, or if `at` and `place` are the same place.
  * IC_NULL: `place` is IC_NONE. IC_OUT_OF_RANGE: `at` or `place` is not below `places`, or is 536,870,911 or more. IC_NOT_LINKED: `at` or
- * `place` is not linked. IC_BROKEN: `at` or `place` is no member of the list. */
+ * `place` is not linked. IC_BROKEN: `at` or `place` is no member of the list according to their links. */
 IC_NODISCARD
 uint32_t ic_list32_move_after(struct ic_link2_32 *table, ic_length places, struct ic_list *list, uint32_t at, uint32_t place);
 
 /* Moves the member `place` before the member `at`, or to the back if `at` is IC_NONE, in O(1). `place` stays linked during the call.
- * Nothing changes if `place` is there already, or if `at` and `place` are the same.
+ * Nothing changes if `place` is at this position already, or if `at` and `place` are the same place.
  * IC_NULL: `place` is IC_NONE. IC_OUT_OF_RANGE: `at` or `place` is not below `places`, or is 536,870,911 or more. IC_NOT_LINKED: `at` or
- * `place` is not linked. IC_BROKEN: `at` or `place` is no member of the list. */
+ * `place` is not linked. IC_BROKEN: `at` or `place` is no member of the list according to their links. */
 IC_NODISCARD
 uint32_t ic_list32_move_before(struct ic_link2_32 *table, ic_length places, struct ic_list *list, uint32_t at, uint32_t place);
 
-/* Moves the member `place` to the front, as a cache does with the object that it used last, in O(1). `place` stays linked during the call.
+/* Moves the member `place` to the front, as a cache does with an object that it has just used, in O(1). `place` stays linked during the
+ * call.
  * IC_NULL: `place` is IC_NONE. IC_OUT_OF_RANGE: `place` is not below `places`, or is 536,870,911 or more. IC_NOT_LINKED: `place` is not
- * linked. IC_BROKEN: `place` is no member of the list, or the first member is not linked in this table, or its link names a member before
- * it. */
+ * linked. IC_BROKEN: `place` is no member of the list according to its links, or the first member is not linked in this table, or has a
+ * link to a member before it. */
 IC_NODISCARD
 uint32_t ic_list32_move_to_front(struct ic_link2_32 *table, ic_length places, struct ic_list *list, uint32_t place);
 
 /* Moves the member `place` to the back, in O(1). `place` stays linked during the call.
  * IC_NULL: `place` is IC_NONE. IC_OUT_OF_RANGE: `place` is not below `places`, or is 536,870,911 or more. IC_NOT_LINKED: `place` is not
- * linked. IC_BROKEN: `place` is no member of the list, or the last member is not linked in this table, or its link names a member after it. */
+ * linked. IC_BROKEN: `place` is no member of the list according to its links, or the last member is not linked in this table, or has a link
+ * to a member after it. */
 IC_NODISCARD
 uint32_t ic_list32_move_to_back(struct ic_link2_32 *table, ic_length places, struct ic_list *list, uint32_t place);
 
 /* Moves all members of `given`, in their order, after the member `at`, or to the front if `at` is IC_NONE, and leaves `given` empty, in
  * O(1).
  * IC_OUT_OF_RANGE: the place `at` is not below `places`, or is 536,870,911 or more. IC_NOT_LINKED: the place `at` is not linked. IC_BROKEN:
- * `at` is no member of the list, or `given` is no list of this table, or both lists begin with the same member, as a list and its copy do. */
+ * `at` is no member of the list according to its links, or `given` is no list of this table, or both lists begin with the same member, as a
+ * list and its copy do. */
 IC_NODISCARD
 uint32_t ic_list32_splice_after(struct ic_link2_32 *table, ic_length places, struct ic_list *list, uint32_t at, struct ic_list *given);
 
 /* Moves all members of `given`, in their order, before the member `at`, or to the back if `at` is IC_NONE, and leaves `given` empty, in
  * O(1).
  * IC_OUT_OF_RANGE: the place `at` is not below `places`, or is 536,870,911 or more. IC_NOT_LINKED: the place `at` is not linked. IC_BROKEN:
- * `at` is no member of the list, or `given` is no list of this table, or both lists begin with the same member, as a list and its copy do. */
+ * `at` is no member of the list according to its links, or `given` is no list of this table, or both lists begin with the same member, as a
+ * list and its copy do. */
 IC_NODISCARD
 uint32_t ic_list32_splice_before(struct ic_link2_32 *table, ic_length places, struct ic_list *list, uint32_t at, struct ic_list *given);
 
 /* Moves all members of `given`, in their order, to the back, and leaves `given` empty, in O(1).
- * IC_BROKEN: the last member is not linked in this table, or its link names a member after it, or `given` is no list of this table, or both
+ * IC_BROKEN: the last member is not linked in this table, or has a link to a member after it, or `given` is no list of this table, or both
  * lists begin with the same member, as a list and its copy do. */
 IC_NODISCARD
 uint32_t ic_list32_append(struct ic_link2_32 *table, ic_length places, struct ic_list *list, struct ic_list *given);
 
 /* Removes all members, in O(n).
- * IC_BROKEN: the links do not lead from the first member to the last, or the links of two neighbors do not name each other. */
+ * IC_BROKEN: the links do not lead from the first member to the last, or two neighbors do not have links to each other. */
 IC_NODISCARD
 uint32_t ic_list32_clear(struct ic_link2_32 *table, ic_length places, struct ic_list *list);
 
 /* Moves the members after the member `at`, or all members if `at` is IC_NONE, to `rest`, which has to be empty, in O(1).
  * IC_OUT_OF_RANGE: the place `at` is not below `places`, or is 536,870,911 or more. IC_NOT_LINKED: the place `at` is not linked. IC_BROKEN:
- * `at` is no member of the list, or `rest` has members. */
+ * `at` is no member of the list according to its links, or `rest` has members. */
 IC_NODISCARD
 uint32_t ic_list32_split_after(struct ic_link2_32 *table, ic_length places, struct ic_list *list, uint32_t at, struct ic_list *rest);
 
 /* Moves the members before the member `at`, or all members if `at` is IC_NONE, to `rest`, which has to be empty, in O(1).
  * IC_OUT_OF_RANGE: the place `at` is not below `places`, or is 536,870,911 or more. IC_NOT_LINKED: the place `at` is not linked. IC_BROKEN:
- * `at` is no member of the list, or `rest` has members. */
+ * `at` is no member of the list according to its links, or `rest` has members. */
 IC_NODISCARD
 uint32_t ic_list32_split_before(struct ic_link2_32 *table, ic_length places, struct ic_list *list, uint32_t at, struct ic_list *rest);
 
-/* Counts the members, and sets *members to how many there are, in O(n). Make this call if the words come from a file, or from memory that
- * others write. If the status is IC_OK, every other call on this list does what its own comment says.
- * IC_BROKEN: the links do not lead from the first member to the last, or the links of two neighbors do not name each other. */
+/* Counts the members, and sets *members to their number, in O(n). Make this call if the words come from a file, or from memory to which
+ * other programs write. If the status is IC_OK, all other calls on this list do what their comments say.
+ * IC_BROKEN: the links do not lead from the first member to the last, or two neighbors do not have links to each other. */
 IC_NODISCARD
 uint32_t ic_list32_check(const struct ic_link2_32 *table, ic_length places, const struct ic_list *list, uint64_t *members);
 
 /* Moves the member `place` of `given` after the member `at`, or to the front if `at` is IC_NONE, in O(1). `place` stays linked during the
  * call.
  * IC_NULL: `place` is IC_NONE. IC_OUT_OF_RANGE: `at` or `place` is not below `places`, or is 536,870,911 or more. IC_NOT_LINKED: `at` or
- * `place` is not linked. IC_BROKEN: `at` is no member of the list, or `place` is no member of `given`, or both lists begin with the same
- * member, as a list and its copy do. */
+ * `place` is not linked. IC_BROKEN: according to their links `at` is no member of the list or `place` is no member of `given`, or both
+ * lists begin with the same member, as a list and its copy do. */
 IC_NODISCARD
 uint32_t ic_list32_transfer_after(struct ic_link2_32 *table, ic_length places, struct ic_list *list, uint32_t at, struct ic_list *given,
                                   uint32_t place);
@@ -709,8 +721,8 @@ uint32_t ic_list32_transfer_after(struct ic_link2_32 *table, ic_length places, s
 /* Moves the member `place` of `given` before the member `at`, or to the back if `at` is IC_NONE, in O(1). `place` stays linked during the
  * call.
  * IC_NULL: `place` is IC_NONE. IC_OUT_OF_RANGE: `at` or `place` is not below `places`, or is 536,870,911 or more. IC_NOT_LINKED: `at` or
- * `place` is not linked. IC_BROKEN: `at` is no member of the list, or `place` is no member of `given`, or both lists begin with the same
- * member, as a list and its copy do. */
+ * `place` is not linked. IC_BROKEN: according to their links `at` is no member of the list or `place` is no member of `given`, or both
+ * lists begin with the same member, as a list and its copy do. */
 IC_NODISCARD
 uint32_t ic_list32_transfer_before(struct ic_link2_32 *table, ic_length places, struct ic_list *list, uint32_t at, struct ic_list *given,
                                    uint32_t place);
@@ -749,12 +761,12 @@ static inline uint32_t ic_list32_prev(const struct ic_link2_32 *table, ic_length
     return ic_list32_is_linked(table, places, at) ? ic_place_within(places, table[at].prev) : IC_NONE;
 }
 
-/* Returns the first member, or IC_NONE if there is none or if it is no linked place of the table. */
+/* Returns the first member, or IC_NONE if the list is empty, or if the first member is no linked place of the table. */
 static inline uint32_t ic_list32_front(const struct ic_link2_32 *table, ic_length places, const struct ic_list *list) {
     return ic_list32_is_linked(table, places, ic_list32_first(list)) ? ic_list32_first(list) : IC_NONE;
 }
 
-/* Returns the last member, or IC_NONE if there is none or if it is no linked place of the table. */
+/* Returns the last member, or IC_NONE if the list is empty, or if the last member is no linked place of the table. */
 static inline uint32_t ic_list32_back(const struct ic_link2_32 *table, ic_length places, const struct ic_list *list) {
     return ic_list32_is_linked(table, places, ic_list32_last(list)) ? ic_list32_last(list) : IC_NONE;
 }
@@ -769,13 +781,14 @@ static inline int ic_list32_is_last(const struct ic_link2_32 *table, ic_length p
     return at != IC_NONE && ic_list32_back(table, places, list) == at;
 }
 
-/* Returns whether the list has one member and no other. */
+/* Returns whether the list has exactly one member. */
 static inline int ic_list32_is_singular(const struct ic_link2_32 *table, ic_length places, const struct ic_list *list) {
     return ic_list32_is_first(table, places, list, ic_list32_last(list));
 }
 
-/* The IC_LIST32_FOREACH loops go from the first member to the last, and those with REVERSE in the name from the last to the first. `next` is the member
- * after `place`, or IC_NONE at the last member. `prev` is the member before `place`, or IC_NONE at the first member.
+/* An IC_LIST32_FOREACH loop goes from the first member to the last, and a loop with REVERSE in its name goes from the last member to the first. In a
+ * ..._SAFE loop `next` is the member after `place`, or IC_NONE if `place` is the last member. In a ..._REVERSE_SAFE loop `prev` is the member before
+ * `place`, or IC_NONE if `place` is the first member.
  *
  *     IC_LIST32_FOREACH_SAFE(place, next, links, 100, &list)
  *         if (is_done(place))
@@ -816,12 +829,12 @@ static inline int ic_list32_is_singular(const struct ic_link2_32 *table, ic_leng
 
 /* to here */
 
-/* ---- Rings: 16 bytes a place, calls O(1) except to check and sort -----------------------------------------------------------------------
+/* ---- Rings: 16 bytes for each place; calls take O(1), except check, sort and merge ------------------------------------------------------
  *
- * A ring is a doubly linked list that you name by its head, which is a place of the table and no member. The head and the members of a ring form a
- * circle. To remove a member, or to insert a place beside a member, you do not name the ring. So rings are good if the code that removes an object
- * does not know which queue has the object. Rings are like the lists of Linux (list.h). Rings and lists may be in one table. Use places without an
- * object as the heads of rings.
+ * A ring is a circular, doubly linked list of a head and members. The head is a place of the table, and you name a ring by its head. To remove a
+ * member, or to insert a place beside a member, you do not name the ring. So rings are good if the code that removes an object does not know which
+ * queue contains the object. Rings are like the lists of Linux (list.h). Rings and lists may be in one table. Use places without an object as the
+ * heads of rings.
  *
  *     struct ic_link2 links[65] = {0};               // 64 objects, and a head at 64
  *     status = ic_ring_init(links, 65, 64);          // a ring with no members
@@ -829,7 +842,7 @@ static inline int ic_list32_is_singular(const struct ic_link2_32 *table, ic_leng
  *     status = ic_ring_remove(links, 65, 7);         // from whichever ring it is in
  *
  * Each call tests the links of the places that you name and of their neighbors. A member in the middle of a doubly linked list passes these tests,
- * too, and a call treats such a member as a member of a ring, which does no harm. No call can detect whether two places are in one ring or in two.
+ * too. A call edits such a list as if it were a ring, and the list stays a list. No call can detect whether two places are in one ring or in two.
  */
 
 /* ---- Rings: functions for links of 8-byte and of 4-byte words ---- */
@@ -855,13 +868,15 @@ static inline int ic_ring_is_empty(const struct ic_link2 *table, ic_length place
     return ic_ring_is_linked(table, places, head) && ic_ring_next(table, places, head) == head;
 }
 
-/* Returns the first member of the ring with the head `head`, or IC_NONE if there is none or if it is no linked place of the table. */
+/* Returns the first member of the ring with the head `head`, or IC_NONE if the ring has no members, or if the first member is no linked place of the
+ * table. */
 static inline uint32_t ic_ring_front(const struct ic_link2 *table, ic_length places, uint32_t head) {
     uint32_t place = ic_ring_next(table, places, head);
     return place != head && ic_ring_is_linked(table, places, place) ? place : IC_NONE;
 }
 
-/* Returns the last member of the ring with the head `head`, or IC_NONE if there is none or if it is no linked place of the table. */
+/* Returns the last member of the ring with the head `head`, or IC_NONE if the ring has no members, or if the last member is no linked place of the
+ * table. */
 static inline uint32_t ic_ring_back(const struct ic_link2 *table, ic_length places, uint32_t head) {
     uint32_t place = ic_ring_prev(table, places, head);
     return place != head && ic_ring_is_linked(table, places, place) ? place : IC_NONE;
@@ -877,14 +892,14 @@ static inline int ic_ring_is_last(const struct ic_link2 *table, ic_length places
     return at != IC_NONE && ic_ring_back(table, places, head) == at;
 }
 
-/* Returns whether the ring with the head `head` has one member and no other. */
+/* Returns whether the ring with the head `head` has exactly one member. */
 static inline int ic_ring_is_singular(const struct ic_link2 *table, ic_length places, uint32_t head) {
     return ic_ring_is_first(table, places, head, ic_ring_back(table, places, head));
 }
 
-/* The IC_RING_FOREACH loops go from the first member of the ring with the head `head` to the last, and those with REVERSE in the name from the
- * last to the first. `next` is the place after `place`, or the head if `place` is the last member. `prev` is the place before `place`, or the head
- * if `place` is the first member. */
+/* An IC_RING_FOREACH loop goes from the first member of the ring with the head `head` to the last member, and a loop with REVERSE in its name goes
+ * from the last member to the first. In a ..._SAFE loop `next` is the place after `place`, or the head if `place` is the last member. In a
+ * ..._REVERSE_SAFE loop `prev` is the place before `place`, or the head if `place` is the first member. */
 #define IC_RING_FOREACH(place, table, places, head)                                                                                   \
     IC_LOOP(place, ic_ring_next(table, places, head), places, place != (head) && ic_ring_is_linked(table, places, place),             \
             ic_ring_next(table, places, place))
@@ -929,21 +944,22 @@ static inline int ic_ring_is_singular(const struct ic_link2 *table, ic_length pl
 IC_NODISCARD
 uint32_t ic_ring_init(struct ic_link2 *table, ic_length places, uint32_t head);
 
-/* Inserts `place` after the place `at` of a ring, as list_add of Linux does, in O(1). If `at` is a head, `place` becomes the first member.
+/* Inserts `place` after the place `at` of a ring, as list_add of Linux does, in O(1). If `at` is the head of a ring, `place` becomes the
+ * first member of this ring.
  * IC_NULL: the place `at` is IC_NONE. IC_OUT_OF_RANGE: `at` or `place` is not below `places`. IC_LINKED: `place` is linked already, or is
  * `at` itself. IC_NOT_LINKED: the place `at` is not linked. IC_BROKEN: `at` is in no ring. */
 IC_NODISCARD
 uint32_t ic_ring_insert_after(struct ic_link2 *table, ic_length places, uint32_t at, uint32_t place);
 
-/* Inserts `place` before the place `at` of a ring, as list_add_tail of Linux does, in O(1). If `at` is a head, `place` becomes the last
- * member.
+/* Inserts `place` before the place `at` of a ring, as list_add_tail of Linux does, in O(1). If `at` is the head of a ring, `place` becomes
+ * the last member of this ring.
  * IC_NULL: the place `at` is IC_NONE. IC_OUT_OF_RANGE: `at` or `place` is not below `places`. IC_LINKED: `place` is linked already, or is
  * `at` itself. IC_NOT_LINKED: the place `at` is not linked. IC_BROKEN: `at` is in no ring. */
 IC_NODISCARD
 uint32_t ic_ring_insert_before(struct ic_link2 *table, ic_length places, uint32_t at, uint32_t place);
 
-/* Removes `place` from its ring, which you do not name, as list_del of Linux does, in O(1). If `place` is a head without members, the ring
- * no longer exists after the call.
+/* Removes `place` from its ring, which you do not name, as list_del of Linux does, in O(1). If `place` is the head of a ring without
+ * members, this ring ceases to exist.
  * IC_NULL: `place` is IC_NONE. IC_OUT_OF_RANGE: `place` is not below `places`. IC_NOT_LINKED: `place` is not linked. IC_BROKEN: `place` is
  * in no ring. */
 IC_NODISCARD
@@ -951,69 +967,71 @@ uint32_t ic_ring_remove(struct ic_link2 *table, ic_length places, uint32_t place
 
 /* Makes the place after `one` follow `other`, and the place after `other` follow `one`, in O(1). `one` and `other` must be in rings. If
  * `one` and `other` are in two rings, the call joins the rings. If `one` and `other` are different places of one ring, the call splits this
- * ring into two. A second call with the same places undoes the first call. If `one` is the last member of a ring, and `other` is the head
- * of another ring, all members of the other ring then follow `one`, and `other` follows these members.
+ * ring into two. A second call with the same places undoes the first call. For example, let `one` be the last member of a ring, and `other`
+ * the head of another ring. After the call the members of the other ring follow `one`, and `other` follows these members.
  * IC_NULL: `one` or `other` is IC_NONE. IC_OUT_OF_RANGE: `one` or `other` is not below `places`. IC_NOT_LINKED: `one` or `other` is not
  * linked. IC_BROKEN: `one` or `other` is in no ring. */
 IC_NODISCARD
 uint32_t ic_ring_exchange(struct ic_link2 *table, ic_length places, uint32_t one, uint32_t other);
 
-/* Removes the first member of the ring with the head `head`, and sets *popped to it, in O(1).
+/* Removes the first member of the ring with the head `head`, and sets *popped to this member, in O(1).
  * IC_NULL: `head` is IC_NONE, or the ring has no members. IC_OUT_OF_RANGE: `head` is not below `places`. IC_NOT_LINKED: `head` is not
  * linked. IC_BROKEN: `head` or its first member is in no ring. */
 IC_NODISCARD
 uint32_t ic_ring_pop_front(struct ic_link2 *table, ic_length places, uint32_t head, uint32_t *popped);
 
-/* Removes the last member of the ring with the head `head`, and sets *popped to it, in O(1).
+/* Removes the last member of the ring with the head `head`, and sets *popped to this member, in O(1).
  * IC_NULL: `head` is IC_NONE, or the ring has no members. IC_OUT_OF_RANGE: `head` is not below `places`. IC_NOT_LINKED: `head` is not
  * linked. IC_BROKEN: `head` or its last member is in no ring. */
 IC_NODISCARD
 uint32_t ic_ring_pop_back(struct ic_link2 *table, ic_length places, uint32_t head, uint32_t *popped);
 
-/* Removes the place `at` from its ring, and inserts `place` where it was, as list_replace of Linux does, in O(1).
+/* Removes the place `at` from its ring, and inserts `place` where `at` was, as list_replace of Linux does, in O(1).
  * IC_NULL: the place `at` is IC_NONE. IC_OUT_OF_RANGE: `at` or `place` is not below `places`. IC_LINKED: `place` is linked already, or is
  * `at` itself. IC_NOT_LINKED: the place `at` is not linked. IC_BROKEN: `at` is in no ring. */
 IC_NODISCARD
 uint32_t ic_ring_replace(struct ic_link2 *table, ic_length places, uint32_t at, uint32_t place);
 
-/* Moves `place` after the place `at` of the same ring or of another ring, as list_move of Linux does, in O(1). If `at` is a head, `place`
- * becomes the first member. `place` stays linked during the call. Nothing changes if `at` and `place` are the same.
+/* Moves `place` after the place `at` of the same ring or of another ring, as list_move of Linux does, in O(1). If `at` is the head of a
+ * ring, `place` becomes the first member of this ring. `place` stays linked during the call. Nothing changes if `at` and `place` are the
+ * same place.
  * IC_NULL: `at` or `place` is IC_NONE. IC_OUT_OF_RANGE: `at` or `place` is not below `places`. IC_NOT_LINKED: `at` or `place` is not
  * linked. IC_BROKEN: `at` or `place` is in no ring. */
 IC_NODISCARD
 uint32_t ic_ring_move_after(struct ic_link2 *table, ic_length places, uint32_t at, uint32_t place);
 
-/* Moves `place` before the place `at` of the same ring or of another ring, as list_move_tail of Linux does, in O(1). If `at` is a head,
- * `place` becomes the last member. `place` stays linked during the call. Nothing changes if `at` and `place` are the same.
+/* Moves `place` before the place `at` of the same ring or of another ring, as list_move_tail of Linux does, in O(1). If `at` is the head of
+ * a ring, `place` becomes the last member of this ring. `place` stays linked during the call. Nothing changes if `at` and `place` are the
+ * same place.
  * IC_NULL: `at` or `place` is IC_NONE. IC_OUT_OF_RANGE: `at` or `place` is not below `places`. IC_NOT_LINKED: `at` or `place` is not
  * linked. IC_BROKEN: `at` or `place` is in no ring. */
 IC_NODISCARD
 uint32_t ic_ring_move_before(struct ic_link2 *table, ic_length places, uint32_t at, uint32_t place);
 
 /* Moves all members of the ring with the head `head`, in their order, after the place `at` of another ring, as list_splice_init of Linux
- * does, in O(1). Afterwards `head` is the head of a ring with no members.
+ * does, in O(1). After the call `head` is the head of a ring with no members.
  * IC_NULL: `at` or `head` is IC_NONE. IC_OUT_OF_RANGE: `at` or `head` is not below `places`. IC_NOT_LINKED: `at` or `head` is not linked.
  * IC_BROKEN: `at` or `head` is in no ring, or `at` is `head` or the last member of the ring with the head `head`. */
 IC_NODISCARD
 uint32_t ic_ring_splice_after(struct ic_link2 *table, ic_length places, uint32_t at, uint32_t head);
 
 /* Moves all members of the ring with the head `head`, in their order, before the place `at` of another ring, as list_splice_tail_init of
- * Linux does, in O(1). Afterwards `head` is the head of a ring with no members.
+ * Linux does, in O(1). After the call `head` is the head of a ring with no members.
  * IC_NULL: `at` or `head` is IC_NONE. IC_OUT_OF_RANGE: `at` or `head` is not below `places`. IC_NOT_LINKED: `at` or `head` is not linked.
  * IC_BROKEN: `at` or `head` is in no ring, or `at` is `head` or the first member of the ring with the head `head`. */
 IC_NODISCARD
 uint32_t ic_ring_splice_before(struct ic_link2 *table, ic_length places, uint32_t at, uint32_t head);
 
-/* Counts the members of the ring with the head `head`, and sets *members to how many there are, in O(n). Make this call if the words come
- * from a file, or from memory that others write. If the status is IC_OK, every other call on this ring does what its own comment says.
+/* Counts the members of the ring with the head `head`, and sets *members to their number, in O(n). Make this call if the words come from a
+ * file, or from memory to which other programs write. If the status is IC_OK, all other calls on this ring do what their comments say.
  * IC_NULL: `head` is IC_NONE. IC_OUT_OF_RANGE: `head` is not below `places`. IC_NOT_LINKED: `head` is not linked. IC_BROKEN: the links do
- * not lead from `head` around a ring and back to `head`, or the links of two neighbors do not name each other. */
+ * not lead from `head` around a ring and back to `head`, or two neighbors do not have links to each other. */
 IC_NODISCARD
 uint32_t ic_ring_check(const struct ic_link2 *table, ic_length places, uint32_t head, uint64_t *members);
 
 /* to here */
 
-/* The next two functions insert a member at an end of a ring, and have the names that the same calls of lists have. */
+/* The next two functions insert a place at an end of a ring. Their names are like those of the calls that insert a place at an end of a list. */
 
 /* Inserts `place` as the first member of the ring with the head `head`, and returns the status of ic_ring_insert_after. */
 IC_NODISCARD
@@ -1028,15 +1046,15 @@ static inline uint32_t ic_ring_push_back(struct ic_link2 *table, ic_length place
 }
 
 /* Each of the functions ic_ring_swap, ic_ring_move_range_after and ic_ring_move_range_before makes two calls. Before the first call, the function
- * also tests the links that the second call tests, so a refused edit has changed nothing. */
+ * tests the links that the second call will test, so a refused edit has changed nothing. */
 
 /* Returns whether `after` is the place after `before` in a ring, and the link of `after` names `before`. */
 static inline int ic_ring_is_gap(const struct ic_link2 *table, ic_length places, uint32_t before, uint32_t after) {
     return before != IC_NONE && ic_ring_next(table, places, before) == after && ic_ring_prev(table, places, after) == before;
 }
 
-/* Exchanges the positions of the places `one` and `other`, of one ring or of two, as list_swap of Linux does, in O(1). Nothing changes if `one` and
- * `other` are the same place.
+/* Exchanges the positions of the places `one` and `other`, as list_swap of Linux does, in O(1). The two places may be in one ring or in two. Nothing
+ * changes if `one` and `other` are the same place.
  * IC_NULL: `one` or `other` is IC_NONE. IC_OUT_OF_RANGE: `one` or `other` is not below `places`. IC_NOT_LINKED: `one` or `other` is not
  * linked. IC_BROKEN: `one` or `other` is in no ring. */
 IC_NODISCARD
@@ -1051,12 +1069,12 @@ static inline uint32_t ic_ring_swap(struct ic_link2 *table, ic_length places, ui
     return status == IC_OK ? ic_ring_exchange(table, places, one, other) : status;
 }
 
-/* Moves the places from `first` to `last` of a ring, in their order, after the place `at` of any ring, in O(1). If `first` is the first member of a
- * ring, and `at` is the head of another ring, the members from `first` to `last` become the first members of this other ring, as with
+/* Moves the places from `first` to `last` of a ring, in their order, after the place `at` of the same ring or of another ring, in O(1). If `first`
+ * is the first member of a ring, and `at` is the head of another ring, the moved members become the first members of the other ring, as with
  * list_cut_position of Linux. Nothing changes if the places are already right after `at`, or if `at` is `last`. If `at` is between `first` and
- * `last`, or if `last` comes before `first`, the call can't detect this, and leaves places in circles without a head.
+ * `last`, or if `last` comes before `first`, the call cannot detect this mistake, and leaves places in circles without a head.
  * IC_NULL: `at`, `first` or `last` is IC_NONE. IC_OUT_OF_RANGE: `at`, `first` or `last` is not below `places`. IC_NOT_LINKED: `at`, `first` or
- * `last` is not linked. IC_BROKEN: `at`, `first` or `last` is in no ring, or `at` is `first`, and `last` is another place. */
+ * `last` is not linked. IC_BROKEN: `at`, `first` or `last` is in no ring, or `at` is `first` but not `last`. */
 IC_NODISCARD
 static inline uint32_t ic_ring_move_range_after(struct ic_link2 *table, ic_length places, uint32_t at, uint32_t first, uint32_t last) {
     const uint32_t before_first = ic_ring_prev(table, places, first);
@@ -1073,12 +1091,12 @@ static inline uint32_t ic_ring_move_range_after(struct ic_link2 *table, ic_lengt
     return status == IC_OK ? ic_ring_exchange(table, places, at, last) : status;
 }
 
-/* Moves the places from `first` to `last` of a ring, in their order, before the place `at` of any ring, in O(1). If `at` is a head, the places become
- * the last members of its ring, as with list_bulk_move_tail of Linux. Nothing changes if the places are already right before `at`, or if `at` is
- * `first`. If `at` is between `first` and `last`, or if `last` comes before `first`, the call can't detect this, and leaves places in circles without
- * a head.
+/* Moves the places from `first` to `last` of a ring, in their order, before the place `at` of the same ring or of another ring, in O(1). If `at` is
+ * the head of a ring, the moved places become the last members of this ring, as with list_bulk_move_tail of Linux. Nothing changes if the places are
+ * already right before `at`, or if `at` is `first`. If `at` is between `first` and `last`, or if `last` comes before `first`, the call cannot detect
+ * this mistake, and leaves places in circles without a head.
  * IC_NULL: `at`, `first` or `last` is IC_NONE. IC_OUT_OF_RANGE: `at`, `first` or `last` is not below `places`. IC_NOT_LINKED: `at`, `first` or
- * `last` is not linked. IC_BROKEN: `at`, `first` or `last` is in no ring, or `at` is `last`, and `first` is another place. */
+ * `last` is not linked. IC_BROKEN: `at`, `first` or `last` is in no ring, or `at` is `last` but not `first`. */
 IC_NODISCARD
 static inline uint32_t ic_ring_move_range_before(struct ic_link2 *table, ic_length places, uint32_t at, uint32_t first, uint32_t last) {
     const uint32_t before_at = ic_ring_prev(table, places, at);
@@ -1093,9 +1111,9 @@ static inline uint32_t ic_ring_move_range_before(struct ic_link2 *table, ic_leng
 
 /* ---- Rings by keys ----
  *
- * A key is a number, and a smaller key comes before a greater one. The key of `place` is keys[place], so there must be a key for each place. A sort
- * and a merge check the rings before they change anything, so a refused call has changed nothing. A sort is recursive, to a depth of at most 33
- * calls.
+ * A key is a number, and a member with a smaller key comes before a member with a greater key. The key of `place` is keys[place], so the array
+ * `keys` must have a key for each place. A sort and a merge check the rings before they change a link, so a refused call has changed nothing. A sort
+ * is recursive, to a depth of at most 33 calls.
  */
 
 /* Made by tools/c-calls --write: ring-keys */
@@ -1103,27 +1121,27 @@ static inline uint32_t ic_ring_move_range_before(struct ic_link2 *table, ic_leng
 /* Sorts the members of the ring with the head `head` by their keys, as list_sort of Linux does, in O(n log n). Members with equal keys keep
  * their order.
  * IC_NULL: `head` is IC_NONE. IC_OUT_OF_RANGE: there are fewer keys than places, or `head` is not below `places`. IC_NOT_LINKED: `head` is
- * not linked. IC_BROKEN: the links do not lead from `head` around a ring and back to `head`, or the links of two neighbors do not name each
+ * not linked. IC_BROKEN: the links do not lead from `head` around a ring and back to `head`, or two neighbors do not have links to each
  * other. */
 IC_NODISCARD
 uint32_t ic_ring_sort(struct ic_link2 *table, ic_length places, const uint64_t *keys, ic_length key_count, uint32_t head);
 
-/* Moves all members of the ring with the head `given` into the ring with the head `head`, which the call leaves sorted by keys if both
- * rings were sorted by keys, in O(n). Of members with equal keys, those that were in the ring with the head `head` come first. Afterwards
- * `given` is the head of a ring with no members.
+/* Moves all members of the ring with the head `given` into the ring with the head `head`, in O(n). If both rings were sorted by keys, the
+ * ring with the head `head` is sorted by keys after the call. Of members with equal keys, those that were in the ring with the head `head`
+ * come first. After the call `given` is the head of a ring with no members.
  * IC_NULL: `head` or `given` is IC_NONE. IC_OUT_OF_RANGE: there are fewer keys than places, or `head` or `given` is not below `places`.
  * IC_NOT_LINKED: `head` or `given` is not linked. IC_BROKEN: the links do not lead from `head` or from `given` around a ring and back to
- * the same place, or the links of two neighbors do not name each other, or `head` and `given` are in one ring. */
+ * this place, or two neighbors do not have links to each other, or `head` and `given` are in one ring. */
 IC_NODISCARD
 uint32_t ic_ring_merge(struct ic_link2 *table, ic_length places, const uint64_t *keys, ic_length key_count, uint32_t head, uint32_t given);
 
 /* to here */
 
-/* ---- Rings with words of 4 bytes: 8 bytes a place, calls O(1) ----------------------------------------------------------------------------
+/* ---- Rings with words of 4 bytes: 8 bytes for each place; calls take O(1) ----------------------------------------------------------------
  *
- * Rings with words of 4 bytes take half the memory of rings with words of 8 bytes. Their links are struct ic_link2_32, as for lists with words of 4
- * bytes. Rings and lists with words of 4 bytes may be in one table. Each call, read and loop does the same as the call, read or loop without 32 in
- * its name.
+ * Rings with words of 4 bytes take half the memory of rings with words of 8 bytes. Each of their links is a struct ic_link2_32, as for lists with
+ * words of 4 bytes. Rings and lists with words of 4 bytes may be in one table. Each call, read and loop does the same as the call, read or loop
+ * without 32 in its name.
  *
  *     struct ic_link2_32 links[65] = {0};             // 64 objects, and a head at 64
  *     status = ic_ring32_init(links, 65, 64);         // a ring with no members
@@ -1138,21 +1156,22 @@ uint32_t ic_ring_merge(struct ic_link2 *table, ic_length places, const uint64_t 
 IC_NODISCARD
 uint32_t ic_ring32_init(struct ic_link2_32 *table, ic_length places, uint32_t head);
 
-/* Inserts `place` after the place `at` of a ring, as list_add of Linux does, in O(1). If `at` is a head, `place` becomes the first member.
+/* Inserts `place` after the place `at` of a ring, as list_add of Linux does, in O(1). If `at` is the head of a ring, `place` becomes the
+ * first member of this ring.
  * IC_NULL: the place `at` is IC_NONE. IC_OUT_OF_RANGE: `at` or `place` is not below `places`, or is 536,870,911 or more. IC_LINKED: `place`
  * is linked already, or is `at` itself. IC_NOT_LINKED: the place `at` is not linked. IC_BROKEN: `at` is in no ring. */
 IC_NODISCARD
 uint32_t ic_ring32_insert_after(struct ic_link2_32 *table, ic_length places, uint32_t at, uint32_t place);
 
-/* Inserts `place` before the place `at` of a ring, as list_add_tail of Linux does, in O(1). If `at` is a head, `place` becomes the last
- * member.
+/* Inserts `place` before the place `at` of a ring, as list_add_tail of Linux does, in O(1). If `at` is the head of a ring, `place` becomes
+ * the last member of this ring.
  * IC_NULL: the place `at` is IC_NONE. IC_OUT_OF_RANGE: `at` or `place` is not below `places`, or is 536,870,911 or more. IC_LINKED: `place`
  * is linked already, or is `at` itself. IC_NOT_LINKED: the place `at` is not linked. IC_BROKEN: `at` is in no ring. */
 IC_NODISCARD
 uint32_t ic_ring32_insert_before(struct ic_link2_32 *table, ic_length places, uint32_t at, uint32_t place);
 
-/* Removes `place` from its ring, which you do not name, as list_del of Linux does, in O(1). If `place` is a head without members, the ring
- * no longer exists after the call.
+/* Removes `place` from its ring, which you do not name, as list_del of Linux does, in O(1). If `place` is the head of a ring without
+ * members, this ring ceases to exist.
  * IC_NULL: `place` is IC_NONE. IC_OUT_OF_RANGE: `place` is not below `places`, or is 536,870,911 or more. IC_NOT_LINKED: `place` is not
  * linked. IC_BROKEN: `place` is in no ring. */
 IC_NODISCARD
@@ -1160,54 +1179,56 @@ uint32_t ic_ring32_remove(struct ic_link2_32 *table, ic_length places, uint32_t 
 
 /* Makes the place after `one` follow `other`, and the place after `other` follow `one`, in O(1). `one` and `other` must be in rings. If
  * `one` and `other` are in two rings, the call joins the rings. If `one` and `other` are different places of one ring, the call splits this
- * ring into two. A second call with the same places undoes the first call. If `one` is the last member of a ring, and `other` is the head
- * of another ring, all members of the other ring then follow `one`, and `other` follows these members.
+ * ring into two. A second call with the same places undoes the first call. For example, let `one` be the last member of a ring, and `other`
+ * the head of another ring. After the call the members of the other ring follow `one`, and `other` follows these members.
  * IC_NULL: `one` or `other` is IC_NONE. IC_OUT_OF_RANGE: `one` or `other` is not below `places`, or is 536,870,911 or more. IC_NOT_LINKED:
  * `one` or `other` is not linked. IC_BROKEN: `one` or `other` is in no ring. */
 IC_NODISCARD
 uint32_t ic_ring32_exchange(struct ic_link2_32 *table, ic_length places, uint32_t one, uint32_t other);
 
-/* Removes the first member of the ring with the head `head`, and sets *popped to it, in O(1).
+/* Removes the first member of the ring with the head `head`, and sets *popped to this member, in O(1).
  * IC_NULL: `head` is IC_NONE, or the ring has no members. IC_OUT_OF_RANGE: `head` is not below `places`, or is 536,870,911 or more.
  * IC_NOT_LINKED: `head` is not linked. IC_BROKEN: `head` or its first member is in no ring. */
 IC_NODISCARD
 uint32_t ic_ring32_pop_front(struct ic_link2_32 *table, ic_length places, uint32_t head, uint32_t *popped);
 
-/* Removes the last member of the ring with the head `head`, and sets *popped to it, in O(1).
+/* Removes the last member of the ring with the head `head`, and sets *popped to this member, in O(1).
  * IC_NULL: `head` is IC_NONE, or the ring has no members. IC_OUT_OF_RANGE: `head` is not below `places`, or is 536,870,911 or more.
  * IC_NOT_LINKED: `head` is not linked. IC_BROKEN: `head` or its last member is in no ring. */
 IC_NODISCARD
 uint32_t ic_ring32_pop_back(struct ic_link2_32 *table, ic_length places, uint32_t head, uint32_t *popped);
 
-/* Removes the place `at` from its ring, and inserts `place` where it was, as list_replace of Linux does, in O(1).
+/* Removes the place `at` from its ring, and inserts `place` where `at` was, as list_replace of Linux does, in O(1).
  * IC_NULL: the place `at` is IC_NONE. IC_OUT_OF_RANGE: `at` or `place` is not below `places`, or is 536,870,911 or more. IC_LINKED: `place`
  * is linked already, or is `at` itself. IC_NOT_LINKED: the place `at` is not linked. IC_BROKEN: `at` is in no ring. */
 IC_NODISCARD
 uint32_t ic_ring32_replace(struct ic_link2_32 *table, ic_length places, uint32_t at, uint32_t place);
 
-/* Moves `place` after the place `at` of the same ring or of another ring, as list_move of Linux does, in O(1). If `at` is a head, `place`
- * becomes the first member. `place` stays linked during the call. Nothing changes if `at` and `place` are the same.
+/* Moves `place` after the place `at` of the same ring or of another ring, as list_move of Linux does, in O(1). If `at` is the head of a
+ * ring, `place` becomes the first member of this ring. `place` stays linked during the call. Nothing changes if `at` and `place` are the
+ * same place.
  * IC_NULL: `at` or `place` is IC_NONE. IC_OUT_OF_RANGE: `at` or `place` is not below `places`, or is 536,870,911 or more. IC_NOT_LINKED:
  * `at` or `place` is not linked. IC_BROKEN: `at` or `place` is in no ring. */
 IC_NODISCARD
 uint32_t ic_ring32_move_after(struct ic_link2_32 *table, ic_length places, uint32_t at, uint32_t place);
 
-/* Moves `place` before the place `at` of the same ring or of another ring, as list_move_tail of Linux does, in O(1). If `at` is a head,
- * `place` becomes the last member. `place` stays linked during the call. Nothing changes if `at` and `place` are the same.
+/* Moves `place` before the place `at` of the same ring or of another ring, as list_move_tail of Linux does, in O(1). If `at` is the head of
+ * a ring, `place` becomes the last member of this ring. `place` stays linked during the call. Nothing changes if `at` and `place` are the
+ * same place.
  * IC_NULL: `at` or `place` is IC_NONE. IC_OUT_OF_RANGE: `at` or `place` is not below `places`, or is 536,870,911 or more. IC_NOT_LINKED:
  * `at` or `place` is not linked. IC_BROKEN: `at` or `place` is in no ring. */
 IC_NODISCARD
 uint32_t ic_ring32_move_before(struct ic_link2_32 *table, ic_length places, uint32_t at, uint32_t place);
 
 /* Moves all members of the ring with the head `head`, in their order, after the place `at` of another ring, as list_splice_init of Linux
- * does, in O(1). Afterwards `head` is the head of a ring with no members.
+ * does, in O(1). After the call `head` is the head of a ring with no members.
  * IC_NULL: `at` or `head` is IC_NONE. IC_OUT_OF_RANGE: `at` or `head` is not below `places`, or is 536,870,911 or more. IC_NOT_LINKED: `at`
  * or `head` is not linked. IC_BROKEN: `at` or `head` is in no ring, or `at` is `head` or the last member of the ring with the head `head`. */
 IC_NODISCARD
 uint32_t ic_ring32_splice_after(struct ic_link2_32 *table, ic_length places, uint32_t at, uint32_t head);
 
 /* Moves all members of the ring with the head `head`, in their order, before the place `at` of another ring, as list_splice_tail_init of
- * Linux does, in O(1). Afterwards `head` is the head of a ring with no members.
+ * Linux does, in O(1). After the call `head` is the head of a ring with no members.
  * IC_NULL: `at` or `head` is IC_NONE. IC_OUT_OF_RANGE: `at` or `head` is not below `places`, or is 536,870,911 or more. IC_NOT_LINKED: `at`
  * or `head` is not linked. IC_BROKEN: `at` or `head` is in no ring, or `at` is `head` or the first member of the ring with the head `head`. */
 IC_NODISCARD
@@ -1238,13 +1259,15 @@ static inline int ic_ring32_is_empty(const struct ic_link2_32 *table, ic_length 
     return ic_ring32_is_linked(table, places, head) && ic_ring32_next(table, places, head) == head;
 }
 
-/* Returns the first member of the ring with the head `head`, or IC_NONE if there is none or if it is no linked place of the table. */
+/* Returns the first member of the ring with the head `head`, or IC_NONE if the ring has no members, or if the first member is no linked place of the
+ * table. */
 static inline uint32_t ic_ring32_front(const struct ic_link2_32 *table, ic_length places, uint32_t head) {
     uint32_t place = ic_ring32_next(table, places, head);
     return place != head && ic_ring32_is_linked(table, places, place) ? place : IC_NONE;
 }
 
-/* Returns the last member of the ring with the head `head`, or IC_NONE if there is none or if it is no linked place of the table. */
+/* Returns the last member of the ring with the head `head`, or IC_NONE if the ring has no members, or if the last member is no linked place of the
+ * table. */
 static inline uint32_t ic_ring32_back(const struct ic_link2_32 *table, ic_length places, uint32_t head) {
     uint32_t place = ic_ring32_prev(table, places, head);
     return place != head && ic_ring32_is_linked(table, places, place) ? place : IC_NONE;
@@ -1260,14 +1283,14 @@ static inline int ic_ring32_is_last(const struct ic_link2_32 *table, ic_length p
     return at != IC_NONE && ic_ring32_back(table, places, head) == at;
 }
 
-/* Returns whether the ring with the head `head` has one member and no other. */
+/* Returns whether the ring with the head `head` has exactly one member. */
 static inline int ic_ring32_is_singular(const struct ic_link2_32 *table, ic_length places, uint32_t head) {
     return ic_ring32_is_first(table, places, head, ic_ring32_back(table, places, head));
 }
 
-/* The IC_RING32_FOREACH loops go from the first member of the ring with the head `head` to the last, and those with REVERSE in the name from the
- * last to the first. `next` is the place after `place`, or the head if `place` is the last member. `prev` is the place before `place`, or the head
- * if `place` is the first member. */
+/* An IC_RING32_FOREACH loop goes from the first member of the ring with the head `head` to the last member, and a loop with REVERSE in its name goes
+ * from the last member to the first. In a ..._SAFE loop `next` is the place after `place`, or the head if `place` is the last member. In a
+ * ..._REVERSE_SAFE loop `prev` is the place before `place`, or the head if `place` is the first member. */
 #define IC_RING32_FOREACH(place, table, places, head)                                                                         \
     IC_LOOP(place, ic_ring32_next(table, places, head), places, place != (head) && ic_ring32_is_linked(table, places, place), \
             ic_ring32_next(table, places, place))
@@ -1305,7 +1328,7 @@ static inline int ic_ring32_is_singular(const struct ic_link2_32 *table, ic_leng
     IC_LOOP_ENTRY_SAFE(object, objects, ic_at_##object, ic_next_##object, at, places, \
                        ic_at_##object != (head) && ic_ring32_is_linked(table, places, ic_at_##object), ic_ring32_next(table, places, ic_at_##object))
 
-/* The next two functions insert a member at an end of a ring, and have the names that the same calls of lists have. */
+/* The next two functions insert a place at an end of a ring. Their names are like those of the calls that insert a place at an end of a list. */
 
 /* Inserts `place` as the first member of the ring with the head `head`, and returns the status of ic_ring32_insert_after. */
 IC_NODISCARD
@@ -1320,15 +1343,15 @@ static inline uint32_t ic_ring32_push_back(struct ic_link2_32 *table, ic_length 
 }
 
 /* Each of the functions ic_ring32_swap, ic_ring32_move_range_after and ic_ring32_move_range_before makes two calls. Before the first call, the function
- * also tests the links that the second call tests, so a refused edit has changed nothing. */
+ * tests the links that the second call will test, so a refused edit has changed nothing. */
 
 /* Returns whether `after` is the place after `before` in a ring, and the link of `after` names `before`. */
 static inline int ic_ring32_is_gap(const struct ic_link2_32 *table, ic_length places, uint32_t before, uint32_t after) {
     return before != IC_NONE && ic_ring32_next(table, places, before) == after && ic_ring32_prev(table, places, after) == before;
 }
 
-/* Exchanges the positions of the places `one` and `other`, of one ring or of two, as list_swap of Linux does, in O(1). Nothing changes if `one` and
- * `other` are the same place.
+/* Exchanges the positions of the places `one` and `other`, as list_swap of Linux does, in O(1). The two places may be in one ring or in two. Nothing
+ * changes if `one` and `other` are the same place.
  * IC_NULL: `one` or `other` is IC_NONE. IC_OUT_OF_RANGE: `one` or `other` is not below `places`. IC_NOT_LINKED: `one` or `other` is not
  * linked. IC_BROKEN: `one` or `other` is in no ring. */
 IC_NODISCARD
@@ -1343,12 +1366,12 @@ static inline uint32_t ic_ring32_swap(struct ic_link2_32 *table, ic_length place
     return status == IC_OK ? ic_ring32_exchange(table, places, one, other) : status;
 }
 
-/* Moves the places from `first` to `last` of a ring, in their order, after the place `at` of any ring, in O(1). If `first` is the first member of a
- * ring, and `at` is the head of another ring, the members from `first` to `last` become the first members of this other ring, as with
+/* Moves the places from `first` to `last` of a ring, in their order, after the place `at` of the same ring or of another ring, in O(1). If `first`
+ * is the first member of a ring, and `at` is the head of another ring, the moved members become the first members of the other ring, as with
  * list_cut_position of Linux. Nothing changes if the places are already right after `at`, or if `at` is `last`. If `at` is between `first` and
- * `last`, or if `last` comes before `first`, the call can't detect this, and leaves places in circles without a head.
+ * `last`, or if `last` comes before `first`, the call cannot detect this mistake, and leaves places in circles without a head.
  * IC_NULL: `at`, `first` or `last` is IC_NONE. IC_OUT_OF_RANGE: `at`, `first` or `last` is not below `places`. IC_NOT_LINKED: `at`, `first` or
- * `last` is not linked. IC_BROKEN: `at`, `first` or `last` is in no ring, or `at` is `first`, and `last` is another place. */
+ * `last` is not linked. IC_BROKEN: `at`, `first` or `last` is in no ring, or `at` is `first` but not `last`. */
 IC_NODISCARD
 static inline uint32_t ic_ring32_move_range_after(struct ic_link2_32 *table, ic_length places, uint32_t at, uint32_t first, uint32_t last) {
     const uint32_t before_first = ic_ring32_prev(table, places, first);
@@ -1365,12 +1388,12 @@ static inline uint32_t ic_ring32_move_range_after(struct ic_link2_32 *table, ic_
     return status == IC_OK ? ic_ring32_exchange(table, places, at, last) : status;
 }
 
-/* Moves the places from `first` to `last` of a ring, in their order, before the place `at` of any ring, in O(1). If `at` is a head, the places become
- * the last members of its ring, as with list_bulk_move_tail of Linux. Nothing changes if the places are already right before `at`, or if `at` is
- * `first`. If `at` is between `first` and `last`, or if `last` comes before `first`, the call can't detect this, and leaves places in circles without
- * a head.
+/* Moves the places from `first` to `last` of a ring, in their order, before the place `at` of the same ring or of another ring, in O(1). If `at` is
+ * the head of a ring, the moved places become the last members of this ring, as with list_bulk_move_tail of Linux. Nothing changes if the places are
+ * already right before `at`, or if `at` is `first`. If `at` is between `first` and `last`, or if `last` comes before `first`, the call cannot detect
+ * this mistake, and leaves places in circles without a head.
  * IC_NULL: `at`, `first` or `last` is IC_NONE. IC_OUT_OF_RANGE: `at`, `first` or `last` is not below `places`. IC_NOT_LINKED: `at`, `first` or
- * `last` is not linked. IC_BROKEN: `at`, `first` or `last` is in no ring, or `at` is `last`, and `first` is another place. */
+ * `last` is not linked. IC_BROKEN: `at`, `first` or `last` is in no ring, or `at` is `last` but not `first`. */
 IC_NODISCARD
 static inline uint32_t ic_ring32_move_range_before(struct ic_link2_32 *table, ic_length places, uint32_t at, uint32_t first, uint32_t last) {
     const uint32_t before_at = ic_ring32_prev(table, places, at);
@@ -1383,7 +1406,7 @@ static inline uint32_t ic_ring32_move_range_before(struct ic_link2_32 *table, ic
 
 /* to here */
 
-/* ---- Singly linked lists: 8 bytes a place, calls O(1) except ic_stack_splice_after, and to fill, clear, check, sort and merge -----------
+/* ---- Singly linked lists: 8 bytes for each place; calls take O(1), except splice, remove, fill, clear, check, sort and merge ------------
  *
  * Singly linked lists are good for stacks and free lists. Calls edit a singly linked list after the member `at`, or at the front if `at` is IC_NONE.
  * If you store the last member in a variable of your own, you can use the list as a queue: insert after the last member, and remove the first.
@@ -1409,7 +1432,7 @@ static inline uint32_t ic_stack_next(const struct ic_link1 *table, ic_length pla
     return ic_stack_is_linked(table, places, at) ? ic_place_within(places, table[at].next) : IC_NONE;
 }
 
-/* Returns the first member, or IC_NONE if there is none or if it is no linked place of the table. */
+/* Returns the first member, or IC_NONE if the list is empty, or if the first member is no linked place of the table. */
 static inline uint32_t ic_stack_front(const struct ic_link1 *table, ic_length places, const struct ic_stack *list) {
     return ic_stack_is_linked(table, places, ic_stack_first(list)) ? ic_stack_first(list) : IC_NONE;
 }
@@ -1424,14 +1447,14 @@ static inline int ic_stack_is_last(const struct ic_link1 *table, ic_length place
     return ic_stack_is_linked(table, places, at) && ic_stack_next(table, places, at) == IC_NONE;
 }
 
-/* Returns whether the list has one member and no other. */
+/* Returns whether the list has exactly one member. */
 static inline int ic_stack_is_singular(const struct ic_link1 *table, ic_length places, const struct ic_stack *list) {
     return ic_stack_is_last(table, places, ic_stack_first(list));
 }
 
 /* Returns the next member for a loop that is at `place` and may have removed `place`. *before is the member before `place`, or IC_NONE if `place`
- * was first. If `place` is still after *before, the function sets *before to `place`, and returns the member after `place`. Otherwise the function
- * returns the member that is now after *before. */
+ * was the first member. If `place` is still the member after *before, the function sets *before to `place`, and returns the member after `place`. If
+ * the body of the loop has removed `place`, the function returns the present member after *before. */
 static inline uint32_t ic_stack_go_on(const struct ic_link1 *table, ic_length places, const struct ic_stack *list, uint32_t *before,
                                       uint32_t place) {
     uint32_t after = *before == IC_NONE ? ic_stack_first(list) : ic_stack_next(table, places, *before);
@@ -1441,8 +1464,8 @@ static inline uint32_t ic_stack_go_on(const struct ic_link1 *table, ic_length pl
     return ic_stack_next(table, places, place);
 }
 
-/* The IC_STACK_FOREACH loops go from the first member to the last. In a ..._SAFE loop `before` is the member before `place`, or IC_NONE at the first
- * member. Pass `before` to the calls that edit the list:
+/* An IC_STACK_FOREACH loop goes from the first member to the last. In a ..._SAFE loop `before` is the member before `place`, or IC_NONE if `place`
+ * is the first member. Pass `before` to the calls that edit the list:
  *
  *     IC_STACK_FOREACH_SAFE(before, place, links, 100, &list)
  *         if (is_done(place))
@@ -1475,7 +1498,7 @@ static inline uint32_t ic_stack_go_on(const struct ic_link1 *table, ic_length pl
 IC_NODISCARD
 uint32_t ic_stack_push_front(struct ic_link1 *table, ic_length places, struct ic_stack *list, uint32_t place);
 
-/* Removes the first member, and sets *popped to it, in O(1).
+/* Removes the first member, and sets *popped to this member, in O(1).
  * IC_NULL: the list is empty. IC_BROKEN: the first member is not linked in this table. */
 IC_NODISCARD
 uint32_t ic_stack_pop_front(struct ic_link1 *table, ic_length places, struct ic_stack *list, uint32_t *popped);
@@ -1486,14 +1509,14 @@ uint32_t ic_stack_pop_front(struct ic_link1 *table, ic_length places, struct ic_
 IC_NODISCARD
 uint32_t ic_stack_insert_after(struct ic_link1 *table, ic_length places, struct ic_stack *list, uint32_t at, uint32_t place);
 
-/* Removes the member after the member `at`, or the first member if `at` is IC_NONE, and sets *removed to it, in O(1).
+/* Removes the member after the member `at`, or the first member if `at` is IC_NONE, and sets *removed to this member, in O(1).
  * IC_NULL: `at` is the last member, or the list is empty. IC_OUT_OF_RANGE: the place `at` is not below `places`. IC_NOT_LINKED: the place
  * `at` is not linked. IC_BROKEN: the member to remove is not linked in this table. */
 IC_NODISCARD
 uint32_t ic_stack_remove_after(struct ic_link1 *table, ic_length places, struct ic_stack *list, uint32_t at, uint32_t *removed);
 
-/* Removes the member after the member `at`, or the first member if `at` is IC_NONE, inserts `place` where it was, and sets *replaced to the
- * removed member, in O(1).
+/* Removes the member after the member `at`, or the first member if `at` is IC_NONE, inserts `place` in its position, and sets *replaced to
+ * the removed member, in O(1).
  * IC_NULL: `at` is the last member, or the list is empty. IC_OUT_OF_RANGE: `at` or `place` is not below `places`. IC_LINKED: `place` is
  * linked already. IC_NOT_LINKED: the place `at` is not linked. IC_BROKEN: the member to remove is not linked in this table. */
 IC_NODISCARD
@@ -1525,8 +1548,8 @@ uint32_t ic_stack_fill(struct ic_link1 *table, ic_length places, struct ic_stack
 IC_NODISCARD
 uint32_t ic_stack_clear(struct ic_link1 *table, ic_length places, struct ic_stack *list);
 
-/* Counts the members, and sets *members to how many there are, in O(n). Make this call if the words come from a file, or from memory that
- * others write. If the status is IC_OK, every other call on this list does what its own comment says.
+/* Counts the members, and sets *members to their number, in O(n). Make this call if the words come from a file, or from memory to which
+ * other programs write. If the status is IC_OK, all other calls on this list do what their comments say.
  * IC_BROKEN: the links from the first member on run in a circle, or lead to a place that is not linked in this table. */
 IC_NODISCARD
 uint32_t ic_stack_check(const struct ic_link1 *table, ic_length places, const struct ic_stack *list, uint64_t *members);
@@ -1535,9 +1558,9 @@ uint32_t ic_stack_check(const struct ic_link1 *table, ic_length places, const st
 
 /* ---- Singly linked lists by keys ----
  *
- * A key is a number, and a smaller key comes before a greater one. The key of `place` is keys[place], so there must be a key for each place. A sort
- * and a merge check the lists before they change anything, so a refused call has changed nothing. A sort is recursive, to a depth of at most 33
- * calls.
+ * A key is a number, and a member with a smaller key comes before a member with a greater key. The key of `place` is keys[place], so the array
+ * `keys` must have a key for each place. A sort and a merge check the lists before they change a link, so a refused call has changed nothing. A sort
+ * is recursive, to a depth of at most 33 calls.
  */
 
 /* Made by tools/c-calls --write: stack-keys */
@@ -1548,8 +1571,8 @@ uint32_t ic_stack_check(const struct ic_link1 *table, ic_length places, const st
 IC_NODISCARD
 uint32_t ic_stack_sort(struct ic_link1 *table, ic_length places, const uint64_t *keys, ic_length key_count, struct ic_stack *list);
 
-/* Moves all members of `given` into `list`, which the call leaves sorted by keys if both lists were sorted by keys, in O(n). Of members
- * with equal keys, those of `list` come first. Afterwards `given` is empty.
+/* Moves all members of `given` into `list`, in O(n). If both lists were sorted by keys, `list` is sorted by keys after the call. Of members
+ * with equal keys, those that were in `list` come first. After the call `given` is empty.
  * IC_OUT_OF_RANGE: there are fewer keys than places. IC_BROKEN: the links of one of the lists run in a circle, or lead to a place that is
  * not linked in this table, or both lists have the same last member, as lists with a common member do. */
 IC_NODISCARD
@@ -1558,12 +1581,12 @@ uint32_t ic_stack_merge(struct ic_link1 *table, ic_length places, const uint64_t
 
 /* to here */
 
-/* ---- Hash tables: 8 bytes a place and 8 a bucket ---------------------------------------------------------------------------------------
+/* ---- Hash tables: 8 bytes for each place, and 8 for each bucket ------------------------------------------------------------------------
  *
  * Hash tables are good for finding objects by a key, if you need no order. A hash table is an array of buckets. Each bucket is a singly linked list,
- * which is called a chain, and a bucket {0} has no members. Your hash function computes a number, the hash, from each key. The chain of a hash is the
- * bucket whose index is hash % bucket_count, and a member is in the chain of its hash. So pass the same hash in each call for one object. If there
- * are about as many buckets as members, chains are short.
+ * which is called a chain, and a bucket {0} has no members. Your hash function computes a number, the hash, from the key of each object. The chain
+ * of a hash is the bucket with the index hash % bucket_count. The place of an object is in the chain of the object's hash, so pass the same hash
+ * whenever you name this object. If there are about as many buckets as members, chains are short.
  *
  *     struct ic_link1 links[100] = {0};
  *     struct ic_stack buckets[64] = {0};
@@ -1578,12 +1601,12 @@ uint32_t ic_stack_merge(struct ic_link1 *table, ic_length places, const uint64_t
  *         if (strcmp(names[place], name) == 0)
  *             break;
  *
- * IC_HASH_FOREACH_ALL goes over all members. You can pass a bucket to each call for singly linked lists, too: ic_stack_clear empties a bucket. A
- * place is in at most one chain or list of a table. The places that are in no chain can be in a list of the same table, for example a list of free
- * places.
+ * IC_HASH_FOREACH_ALL goes over all members. You can pass a bucket to each call for singly linked lists, too. For example, ic_stack_clear empties a
+ * bucket. A place is in at most one chain or list of a table. A place that is in no chain can be in a list of the same table, for example in a list
+ * of free places.
  *
- * To grow or shrink a hash table, make another array of buckets, and call ic_hash_move_chain for each bucket of the old array, at once or over time.
- * In the following loop `more` is the array of 128 new buckets, and `hashes` has a hash for each place:
+ * To grow or shrink a hash table, make another array of buckets, and call ic_hash_move_chain for each bucket of the old array, all at once or over
+ * time. In the following loop `more` is the array of 128 new buckets, and `hashes` has a hash for each place:
  *
  *     for (uint32_t i = 0; i < 64; i++)
  *         status = ic_hash_move_chain(links, 100, hashes, 100, &buckets[i], more, 128);
@@ -1594,7 +1617,7 @@ static inline uint32_t ic_hash_first(const struct ic_stack *buckets, ic_length b
     return bucket_count ? ic_stack_first(&buckets[hash % bucket_count]) : IC_NONE;
 }
 
-/* The IC_HASH_FOREACH loops go over the members of the chain of a hash. The body of a loop must not move or remove members. */
+/* An IC_HASH_FOREACH loop goes over the members of the chain of a hash. The body of such a loop must not move or remove members. */
 #define IC_HASH_FOREACH(place, table, places, buckets, bucket_count, hash)                                                              \
     IC_LOOP(place, ic_hash_first(buckets, bucket_count, hash), places, ic_stack_is_linked(table, places, place),                        \
             ic_stack_next(table, places, place))
@@ -1602,8 +1625,9 @@ static inline uint32_t ic_hash_first(const struct ic_stack *buckets, ic_length b
     IC_LOOP_ENTRY(object, objects, ic_at_##object, ic_hash_first(buckets, bucket_count, hash), places,         \
                   ic_stack_is_linked(table, places, ic_at_##object), ic_stack_next(table, places, ic_at_##object))
 
-/* Returns `place` if it is linked. Otherwise the function returns the first member of the next chain after *bucket that has one, or IC_NONE, and
- * sets *bucket to the index of this chain. If *bucket is (ic_length)-1, the function begins at the first chain. */
+/* Returns `place` if it is linked. If `place` is not linked, the function goes on from the chain with the index *bucket to the next chain that has a
+ * member. It sets *bucket to the index of this next chain, and returns its first member. If there is no such chain, the function returns IC_NONE. If
+ * *bucket is (ic_length)-1, the function begins at the first chain. */
 static inline uint32_t ic_hash_go_on(const struct ic_link1 *table, ic_length places, const struct ic_stack *buckets, ic_length bucket_count,
                                      ic_length *bucket, uint32_t place) {
     while (!ic_stack_is_linked(table, places, place) && ++*bucket < bucket_count)
@@ -1623,9 +1647,10 @@ static inline uint32_t ic_hash_safe_go_on(const struct ic_link1 *table, ic_lengt
     return found;
 }
 
-/* The IC_HASH_FOREACH_ALL loops go over all members, chain by chain, in O(buckets + n). Whatever the words are, a loop runs its body at most `places`
- * times, and `break` leaves the whole loop. In a ..._SAFE loop `bucket` is the index of the chain, and `before` is the member before `place` in the
- * chain, or IC_NONE. The body of a ..._SAFE loop may remove `place`, and may then insert `place` into another array of buckets:
+/* An IC_HASH_FOREACH_ALL loop goes over all members, chain by chain, in O(buckets + n). Whatever the words are, the loop runs its body at most
+ * `places` times. `break` leaves the loop over all chains. In a ..._SAFE loop `bucket` is the index of the chain of `place`, and `before` is the
+ * member before `place` in this chain, or IC_NONE if `place` is the first member of the chain. The body of a ..._SAFE loop may remove `place`, and
+ * may then insert `place` into another array of buckets:
  *
  *     IC_HASH_FOREACH_ALL_SAFE(bucket, before, place, links, 100, buckets, 64)
  *         if (is_done(place))
@@ -1665,21 +1690,21 @@ uint32_t ic_hash_insert(struct ic_link1 *table, ic_length places, struct ic_stac
 
 /* Removes `place` from any position in the chain of `hash`, in O(members of the chain).
  * IC_NULL: `place` is IC_NONE. IC_OUT_OF_RANGE: there is no bucket, or `place` is not below `places`. IC_NOT_LINKED: `place` is not linked.
- * IC_BROKEN: `place` is linked, for example in the chain of another hash, but the links of this chain do not lead to `place`. */
+ * IC_BROKEN: `place` is linked, for example in the chain of another hash, but the links of the chain of `hash` do not lead to `place`. */
 IC_NODISCARD
 uint32_t ic_hash_remove(struct ic_link1 *table, ic_length places, struct ic_stack *buckets, ic_length bucket_count, uint64_t hash,
                         uint32_t place);
 
-/* Finds the first member of the chain of `hash` whose key is `key`, and sets *found to it, in O(members of the chain). If several members
- * have this key, the first of them is the one that was inserted last.
+/* Finds the first member with the key `key` in the chain of `hash`, and sets *found to this member, in O(members of the chain). If several
+ * members have this key, the first of them is the one that you inserted last.
  * IC_NULL: no member of the chain has this key. IC_OUT_OF_RANGE: there are fewer keys than places, or there is no bucket. IC_BROKEN: the
  * links of the chain run in a circle, or lead to a place that is not linked in this table. */
 IC_NODISCARD
 uint32_t ic_hash_find(const struct ic_link1 *table, ic_length places, const uint64_t *keys, ic_length key_count,
                       const struct ic_stack *buckets, ic_length bucket_count, uint64_t hash, uint64_t key, uint32_t *found);
 
-/* Finds the first member after the member `at` in the same chain that has the same key as `at`, and sets *found to it, in O(members of the
- * chain).
+/* Finds the next member after the member `at` that is in the same chain as `at` and has the same key as `at`, and sets *found to this
+ * member, in O(members of the chain).
  * IC_NULL: the place `at` is IC_NONE, or no later member of the chain has this key. IC_OUT_OF_RANGE: there are fewer keys than places, or
  * the place `at` is not below `places`. IC_NOT_LINKED: the place `at` is not linked. IC_BROKEN: the links of the chain run in a circle, or
  * lead to a place that is not linked in this table. */
@@ -1687,9 +1712,9 @@ IC_NODISCARD
 uint32_t ic_hash_next_equal(const struct ic_link1 *table, ic_length places, const uint64_t *keys, ic_length key_count, uint32_t at,
                             uint32_t *found);
 
-/* Counts the members of all chains, and sets *members to how many there are, in O(buckets + n). `hashes` has the hash of each place. Make
- * this call if the words come from a file, or from memory that others write. If the status is IC_OK, each member is in the chain of its
- * hash and in no other chain, and every other call on this hash table does what its own comment says.
+/* Counts the members of all chains, and sets *members to their number, in O(buckets + n). `hashes` has the hash of each place. Make this
+ * call if the words come from a file, or from memory to which other programs write. If the status is IC_OK, each member is in the chain of
+ * its hash and in no other chain, and all other calls on this hash table do what their comments say.
  * IC_OUT_OF_RANGE: there are fewer hashes than places, or there is no bucket. IC_BROKEN: the links of a chain run in a circle, or lead to a
  * place that is not linked in this table, or to a member whose hash chooses another bucket. */
 IC_NODISCARD
@@ -1698,8 +1723,9 @@ uint32_t ic_hash_check(const struct ic_link1 *table, ic_length places, const uin
 
 /* Moves each member of `chain`, a bucket of another array, to the chain of its hash, and leaves `chain` empty, in O(members of the chain).
  * `hashes` has the hash of each place. Members that move to the same bucket keep their order, and come before the members that were in this
- * bucket. So if several of the moved members have one key, a search still finds the one that was inserted last. Each place stays linked
- * during the call. To grow or shrink a hash table, make another array of buckets, and make this call for each bucket of the old array.
+ * bucket before. So if several of the moved members have the same key, a search still finds the one that you inserted last. Each place
+ * stays linked during the call. To grow or shrink a hash table, make another array of buckets, and make this call for each bucket of the
+ * old array.
  * IC_OUT_OF_RANGE: there are fewer hashes than places, or there is no bucket. IC_BROKEN: the links of `chain` run in a circle, or lead to a
  * place that is not linked in this table, or the first member of a bucket to which a member moves is not linked in this table. */
 IC_NODISCARD
@@ -1716,7 +1742,7 @@ static inline uint32_t ic_stack_remove(struct ic_link1 *table, ic_length places,
     return ic_hash_remove(table, places, list, 1, 0, place);
 }
 
-/* ---- XOR lists: 8 bytes a place, calls O(1) except ic_xor_fill and ic_xor_clear -----------------------------------------------------
+/* ---- XOR lists: 8 bytes for each place; calls take O(1), except fill and clear ------------------------------------------------------
  *
  * XOR lists are good if you use a list at both ends and walk in both directions, and memory is scarce. Calls insert into a gap, which is the position
  * between two neighbors or at an end of the list. The link of a member does not name its two neighbors separately, so you name a gap by the members
@@ -1724,12 +1750,13 @@ static inline uint32_t ic_stack_remove(struct ic_link1 *table, ic_length places,
  * the back. In an empty list `before` and `after` are IC_NONE.
  *
  * A call at a gap tests that `before` and `after` are linked. For each of these two members, the call computes the neighbor on the side opposite to
- * the gap, and tests that this neighbor is linked, or that the member is an end of the list and has no such neighbor. If `before` is IC_NONE, the
- * call refuses an `after` that is not the first member. If `after` is IC_NONE, the call refuses a `before` that is not the last member. If few
- * places are linked, the call also refuses most pairs of members that are not neighbors. Two neighbors in the wrong order pass the tests if neither
- * is an end of the list. If most places of the table are linked, most of the other wrong pairs pass, too. In the list of the places 0 to 6, in their
- * order, 26 of the 36 wrong pairs pass, and in the list of the places 0 to 99, 8,871 of 9,801. If a wrong pair passes, the call damages the list,
- * but writes nothing outside the table. So name members that you know to be neighbors.
+ * the gap. The call tests that this neighbor is linked, or that the member is an end of the list and has no such neighbor. If `before` is IC_NONE,
+ * the call refuses an `after` that is not the first member. If `after` is IC_NONE, the call refuses a `before` that is not the last member. A pair
+ * of members is wrong if `after` is not the next member after `before`. If few places of the table are linked, the call refuses most wrong pairs. If
+ * most places of the table are linked, most wrong pairs pass the tests. In a table of 7 places whose list has the places 0 to 6, in this order, 26
+ * of the 36 wrong pairs pass. In a table of 100 places whose list has the places 0 to 99, 8,871 of the 9,801 wrong pairs pass. Two neighbors in the
+ * wrong order pass in every table, if neither is an end of the list. If a wrong pair passes, the call damages the list, but writes nothing outside
+ * the table. So name members that you know to be neighbors.
  */
 
 /* Returns whether a place is in a list of the table. */
@@ -1752,19 +1779,19 @@ static inline uint32_t ic_xor_last(const struct ic_xor_list *list) {
     return ic_place(list->tail);
 }
 
-/* Returns the neighbor of the member `at` that is not its neighbor `from`, or IC_NONE if there is no such neighbor. If `at` is the first or the
- * last member, pass IC_NONE as `from` to get the only neighbor of `at`. If `from` is no neighbor of `at`, the function returns some place of the
- * table or IC_NONE. */
+/* Returns the other neighbor of the member `at`, the one that is not its neighbor `from`, or IC_NONE if there is no other neighbor. If `at` is the
+ * first or the last member, pass IC_NONE as `from` to get the only neighbor of `at`. If `from` is no neighbor of `at`, the function may return any
+ * place of the table or IC_NONE. */
 static inline uint32_t ic_xor_step(const struct ic_link1 *table, ic_length places, uint32_t from, uint32_t at) {
     return ic_xor_is_linked(table, places, at) ? ic_place_within(places, table[at].next ^ ic_word(from)) : IC_NONE;
 }
 
-/* Returns the first member, or IC_NONE if there is none or if it is no linked place of the table. */
+/* Returns the first member, or IC_NONE if the list is empty, or if the first member is no linked place of the table. */
 static inline uint32_t ic_xor_front(const struct ic_link1 *table, ic_length places, const struct ic_xor_list *list) {
     return ic_xor_is_linked(table, places, ic_xor_first(list)) ? ic_xor_first(list) : IC_NONE;
 }
 
-/* Returns the last member, or IC_NONE if there is none or if it is no linked place of the table. */
+/* Returns the last member, or IC_NONE if the list is empty, or if the last member is no linked place of the table. */
 static inline uint32_t ic_xor_back(const struct ic_link1 *table, ic_length places, const struct ic_xor_list *list) {
     return ic_xor_is_linked(table, places, ic_xor_last(list)) ? ic_xor_last(list) : IC_NONE;
 }
@@ -1779,7 +1806,7 @@ static inline int ic_xor_is_last(const struct ic_link1 *table, ic_length places,
     return at != IC_NONE && ic_xor_back(table, places, list) == at;
 }
 
-/* Returns whether the list has one member and no other. */
+/* Returns whether the list has exactly one member. */
 static inline int ic_xor_is_singular(const struct ic_link1 *table, ic_length places, const struct ic_xor_list *list) {
     return ic_xor_is_first(table, places, list, ic_xor_last(list));
 }
@@ -1791,15 +1818,15 @@ static inline uint32_t ic_xor_go_on(const struct ic_link1 *table, ic_length plac
     return next;
 }
 
-/* IC_XOR_FOREACH goes from the first member of an XOR list to the last member, and IC_XOR_FOREACH_REVERSE from the last member to the first. In the
- * ..._SAFE loops of both directions, `before` is the member before `place` in the list, or IC_NONE if `place` is the first member. `after` is the
+/* IC_XOR_FOREACH goes from the first member of an XOR list to the last member, and IC_XOR_FOREACH_REVERSE from the last member to the first. In a
+ * ..._SAFE loop of either direction, `before` is the member before `place` in the list, or IC_NONE if `place` is the first member. `after` is the
  * member after `place` in the list, or IC_NONE if `place` is the last member.
  *
  *     IC_XOR_FOREACH_SAFE(before, place, after, links, 100, &list)
  *         if (is_done(place))
  *             status = ic_xor_remove(links, 100, &list, before, place);
  *
- * The body must not move or remove the two members to which the loop goes next.
+ * The body of a ..._SAFE loop must not move or remove the next two members of the loop.
  */
 #define IC_XOR_FOREACH(place, table, places, list) IC_XOR_LOOP(place, ic_xor_first(list), table, places)
 #define IC_XOR_FOREACH_REVERSE(place, table, places, list) IC_XOR_LOOP(place, ic_xor_last(list), table, places)
@@ -1816,9 +1843,9 @@ static inline uint32_t ic_xor_go_on(const struct ic_link1 *table, ic_length plac
 #define IC_XOR_FOREACH_ENTRY_REVERSE_SAFE(before, object, objects, after, table, places, list) \
     IC_XOR_LOOP_ENTRY_SAFE(object, objects, after, ic_at_##object, before, ic_xor_last(list), table, places)
 
-/* IC_XOR_WALK and IC_XOR_WALK_SAFE make loops in both directions, which run while the expression `is_member` is true. Before the body runs,
- * IC_XOR_WALK_SAFE finds the member that the loop visits after `next`. After the body has run, the loop computes from this member the other neighbor
- * of `next`, which is `place`, or `from` if the body has removed `place`. */
+/* IC_XOR_WALK and IC_XOR_WALK_SAFE make a loop in either direction, which runs while the expression `is_member` is true. The loop visits `next`
+ * after `place`. Before the body runs, IC_XOR_WALK_SAFE also finds the member that the loop visits after `next`. After the body has run, the loop
+ * computes from this member the other neighbor of `next`, which is `place`, or `from` if the body has removed `place`. */
 #define IC_XOR_WALK(place, first, table, places, is_member)                                                  \
     for (uint32_t place = (first), ic_from_##place = IC_NONE, ic_rounds_##place = ic_bound(places); is_member; \
          place = ic_xor_go_on(table, places, &ic_from_##place, place))
@@ -1851,43 +1878,43 @@ uint32_t ic_xor_push_front(struct ic_link1 *table, ic_length places, struct ic_x
 IC_NODISCARD
 uint32_t ic_xor_push_back(struct ic_link1 *table, ic_length places, struct ic_xor_list *list, uint32_t place);
 
-/* Removes the first member, and sets *popped to it, in O(1).
+/* Removes the first member, and sets *popped to this member, in O(1).
  * IC_NULL: the list is empty. IC_BROKEN: the first member or one of the two members after it is not linked in this table. */
 IC_NODISCARD
 uint32_t ic_xor_pop_front(struct ic_link1 *table, ic_length places, struct ic_xor_list *list, uint32_t *popped);
 
-/* Removes the last member, and sets *popped to it, in O(1).
+/* Removes the last member, and sets *popped to this member, in O(1).
  * IC_NULL: the list is empty. IC_BROKEN: the last member or one of the two members before it is not linked in this table. */
 IC_NODISCARD
 uint32_t ic_xor_pop_back(struct ic_link1 *table, ic_length places, struct ic_xor_list *list, uint32_t *popped);
 
 /* Inserts `place` between the neighbors `before` and `after`, in O(1). Pass IC_NONE as `before` to insert before the first member, and
- * IC_NONE as `after` to insert after the last.
+ * IC_NONE as `after` to insert after the last member.
  * IC_OUT_OF_RANGE: `before`, `place` or `after` is not below `places`. IC_LINKED: `place` is linked already. IC_NOT_LINKED: `before` or
- * `after` is not linked. IC_BROKEN: by their links, `before` and `after` are not neighbors. */
+ * `after` is not linked. IC_BROKEN: `before` and `after` are not neighbors according to their links. */
 IC_NODISCARD
 uint32_t ic_xor_insert_between(struct ic_link1 *table, ic_length places, struct ic_xor_list *list, uint32_t before, uint32_t place,
                                uint32_t after);
 
 /* Removes the member `at`, in O(1). Pass as `before` the member before `at`, or IC_NONE if `at` is the first member.
  * IC_NULL: the place `at` is IC_NONE. IC_OUT_OF_RANGE: `before` or `at` is not below `places`. IC_NOT_LINKED: `before` or `at` is not
- * linked. IC_BROKEN: `at` is no member of the list, or `before` is not the member before `at`. */
+ * linked. IC_BROKEN: according to their links `at` is no member of the list or `before` is not the member before `at`. */
 IC_NODISCARD
 uint32_t ic_xor_remove(struct ic_link1 *table, ic_length places, struct ic_xor_list *list, uint32_t before, uint32_t at);
 
-/* Removes the member `at`, and inserts `place` where it was, in O(1). Pass as `before` the member before `at`, or IC_NONE if `at` is the
+/* Removes the member `at`, and inserts `place` where `at` was, in O(1). Pass as `before` the member before `at`, or IC_NONE if `at` is the
  * first member.
  * IC_NULL: the place `at` is IC_NONE. IC_OUT_OF_RANGE: `before`, `at` or `place` is not below `places`. IC_LINKED: `place` is linked
- * already, or is `at` itself. IC_NOT_LINKED: `before` or `at` is not linked. IC_BROKEN: `at` is no member of the list, or `before` is not
- * the member before `at`. */
+ * already, or is `at` itself. IC_NOT_LINKED: `before` or `at` is not linked. IC_BROKEN: according to their links `at` is no member of the
+ * list or `before` is not the member before `at`. */
 IC_NODISCARD
 uint32_t ic_xor_replace(struct ic_link1 *table, ic_length places, struct ic_xor_list *list, uint32_t before, uint32_t at, uint32_t place);
 
 /* Moves all members of `given`, in their order, between the neighbors `before` and `after`, and leaves `given` empty, in O(1). Pass IC_NONE
  * as `before` to move the members to the front, and IC_NONE as `after` to move the members to the back.
- * IC_OUT_OF_RANGE: `before` or `after` is not below `places`. IC_NOT_LINKED: `before` or `after` is not linked. IC_BROKEN: by their links,
- * `before` and `after` are not neighbors, or `given` is no list of this table, or both lists begin with the same member, as a list and its
- * copy do. */
+ * IC_OUT_OF_RANGE: `before` or `after` is not below `places`. IC_NOT_LINKED: `before` or `after` is not linked. IC_BROKEN: `before` and
+ * `after` are not neighbors according to their links, or `given` is no list of this table, or both lists begin with the same member, as a
+ * list and its copy do. */
 IC_NODISCARD
 uint32_t ic_xor_splice_between(struct ic_link1 *table, ic_length places, struct ic_xor_list *list, uint32_t before, struct ic_xor_list *given,
                                uint32_t after);
@@ -1910,10 +1937,10 @@ uint32_t ic_xor_fill(struct ic_link1 *table, ic_length places, struct ic_xor_lis
 IC_NODISCARD
 uint32_t ic_xor_clear(struct ic_link1 *table, ic_length places, struct ic_xor_list *list);
 
-/* Moves the member `after` and all members after it to `rest`, which has to be empty, so that its neighbor `before` becomes the last
- * member, in O(1). If `before` is IC_NONE, all members move. If `after` is IC_NONE, no member moves.
- * IC_OUT_OF_RANGE: `before` or `after` is not below `places`. IC_NOT_LINKED: `before` or `after` is not linked. IC_BROKEN: by their links,
- * `before` and `after` are not neighbors, or `rest` has members. */
+/* Moves the member `after` and all members after it to `rest`, which has to be empty, in O(1). `before` must be the member before `after`,
+ * and becomes the last member of `list`. If `before` is IC_NONE, all members move. If `after` is IC_NONE, no member moves.
+ * IC_OUT_OF_RANGE: `before` or `after` is not below `places`. IC_NOT_LINKED: `before` or `after` is not linked. IC_BROKEN: `before` and
+ * `after` are not neighbors according to their links, or `rest` has members. */
 IC_NODISCARD
 uint32_t ic_xor_split_between(struct ic_link1 *table, ic_length places, struct ic_xor_list *list, uint32_t before, uint32_t after,
                               struct ic_xor_list *rest);
@@ -1923,21 +1950,22 @@ uint32_t ic_xor_reverse(struct ic_xor_list *list);
 
 /* to here */
 
-/* ---- Red-black trees: 24 bytes a place, calls O(log n) except those that clear, check, append, join and split -----------------------
+/* ---- Red-black trees: 24 bytes for each place; calls take O(log n), except clear, check, append, join and split ---------------------
  *
- * Trees are good for timers, priorities and indices. Their members have an order, and you can insert, remove and find a member anywhere in it. You
- * order the members in one of two ways:
+ * Trees are good for timers, priorities and maps. The members of a tree have an order, and you can insert, remove and find a member at any position.
+ * You order the members in one of two ways:
  *
  *   - You give each place a number as its key, in an array of your own, where the key of `place` is keys[place]. ic_tree_insert inserts a place in
  *     the order of the keys, and ic_tree_find, ic_tree_lower_bound and ic_tree_upper_bound search by keys. To change a member's key, remove the
  *     member, change the key, and insert the member again.
- *   - You write a comparison of your own, as with sys/tree.h or the rb_link_node of Linux. In the comparison `at` is the member to compare with:
+ *   - You write a comparison of your own, as with sys/tree.h or the rb_link_node of Linux. The comparison compares the key that you insert or search
+ *     for with the key of the member `at`:
  *
  *         IC_TREE_INSERT_BY(status, at, links, 100, &tree, place, strcmp(names[place], names[at]));
  *         IC_TREE_FIND_BY(at, links, 100, &tree, strcmp("oak", names[at]));
  *
- * The calls that remove a member or find the next or the previous member compare no keys. The calls that make one tree of two, or two trees of one,
- * compare no keys either, but first check in O(n) whether the links form the trees.
+ * The calls that remove a member, or find the next or the previous member, compare no keys. The calls ic_tree_append, ic_tree_join and ic_tree_split
+ * make one tree of two, or two trees of one. They compare no keys either, but first check in O(n) whether the links form the trees.
  */
 
 /* Returns whether a place is in a tree of the table. */
@@ -1955,12 +1983,12 @@ static inline uint32_t ic_tree_root(const struct ic_tree *tree) {
     return ic_place(tree->root);
 }
 
-/* Returns the left child of the member `at`, or IC_NONE if there is none. The left child and the members under it come before `at`. */
+/* Returns the left child of the member `at`, or IC_NONE if there is none. The left child and all members below it come before `at`. */
 static inline uint32_t ic_tree_left(const struct ic_link3 *table, ic_length places, uint32_t at) {
     return ic_tree_is_linked(table, places, at) ? ic_place_within(places, table[at].left) : IC_NONE;
 }
 
-/* Returns the right child of the member `at`, or IC_NONE if there is none. The right child and the members under it come after `at`. */
+/* Returns the right child of the member `at`, or IC_NONE if there is none. The right child and all members below it come after `at`. */
 static inline uint32_t ic_tree_right(const struct ic_link3 *table, ic_length places, uint32_t at) {
     return ic_tree_is_linked(table, places, at) ? ic_place_within(places, table[at].right) : IC_NONE;
 }
@@ -1992,7 +2020,7 @@ uint32_t ic_tree_insert_right(struct ic_link3 *table, ic_length places, struct i
 IC_NODISCARD
 uint32_t ic_tree_remove(struct ic_link3 *table, ic_length places, struct ic_tree *tree, uint32_t at);
 
-/* Removes the member `at`, and inserts `place` where it was, in O(1). The call compares no keys, so pass a place that comes between the
+/* Removes the member `at`, and inserts `place` where `at` was, in O(1). The call compares no keys, so pass a place that comes between the
  * neighbors of `at` in the order of the keys.
  * IC_NULL: the place `at` is IC_NONE. IC_OUT_OF_RANGE: `at` or `place` is not below `places`. IC_LINKED: `place` is linked already, or is
  * `at` itself. IC_NOT_LINKED: the place `at` is not linked. IC_BROKEN: the root is not linked in this table, or `at` is the root of another
@@ -2000,16 +2028,16 @@ uint32_t ic_tree_remove(struct ic_link3 *table, ic_length places, struct ic_tree
 IC_NODISCARD
 uint32_t ic_tree_replace(struct ic_link3 *table, ic_length places, struct ic_tree *tree, uint32_t at, uint32_t place);
 
-/* Moves all members of `given`, in their order, after the members of this tree, and leaves `given` empty, in O(n). The call compares no
- * keys, so pass as `given` a tree whose keys all come after the keys of this tree. The call takes O(n) because it checks both trees first.
- * In Rattle, the language of this library, types guarantee that the links form a tree, and the same call takes O(log n).
+/* Moves all members of `given`, in their order, after the members of `tree`, and leaves `given` empty, in O(n). The call compares no keys,
+ * so pass as `given` a tree whose keys all come after the keys of `tree`. The call takes O(n) because it checks both trees first. In
+ * Rattle, the language in which the library is written, types guarantee that the links form a tree, so the same call takes O(log n).
  * IC_BROKEN: the links below one of the two roots form no red-black tree, or both trees have the same root. */
 IC_NODISCARD
 uint32_t ic_tree_append(struct ic_link3 *table, ic_length places, struct ic_tree *tree, struct ic_tree *given);
 
-/* Inserts `place` after all members of this tree, moves all members of `given`, in their order, after `place`, and leaves `given` empty, in
- * O(n). The call compares no keys. The call takes O(n) because it checks both trees first. In Rattle, the language of this library, types
- * guarantee that the links form a tree, and the same call takes O(log n).
+/* Inserts `place` after all members of `tree`, moves all members of `given`, in their order, after `place`, and leaves `given` empty, in
+ * O(n). The call compares no keys. The call takes O(n) because it checks both trees first. In Rattle, the language in which the library is
+ * written, types guarantee that the links form a tree, so the same call takes O(log n).
  * IC_OUT_OF_RANGE: `place` is not below `places`. IC_LINKED: `place` is linked already. IC_BROKEN: the links below one of the two roots
  * form no red-black tree, or both trees have the same root. */
 IC_NODISCARD
@@ -2022,14 +2050,15 @@ IC_NODISCARD
 uint32_t ic_tree_clear(struct ic_link3 *table, ic_length places, struct ic_tree *tree);
 
 /* Moves the member `at` and all members after it to `rest`, which has to be empty, in O(n). The call takes O(n) because it checks the tree
- * first. In Rattle, the language of this library, types guarantee that the links form a tree, and the same call takes O(log n).
+ * first. In Rattle, the language in which the library is written, types guarantee that the links form a tree, so the same call takes O(log
+ * n).
  * IC_NULL: the place `at` is IC_NONE. IC_OUT_OF_RANGE: the place `at` is not below `places`. IC_NOT_LINKED: the place `at` is not linked.
  * IC_BROKEN: the links below the root form no red-black tree, or `at` is no member of the tree, or `rest` has members. */
 IC_NODISCARD
 uint32_t ic_tree_split(struct ic_link3 *table, ic_length places, struct ic_tree *tree, uint32_t at, struct ic_tree *rest);
 
-/* Counts the members, and sets *members to how many there are, in O(n). Make this call if the words come from a file, or from memory that
- * others write. If the status is IC_OK, every other call on this tree does what its own comment says. The call reads no keys, and is
+/* Counts the members, and sets *members to their number, in O(n). Make this call if the words come from a file, or from memory to which
+ * other programs write. If the status is IC_OK, all other calls on this tree do what their comments say. The check reads no keys. It is
  * recursive, to a depth of at most 67 calls.
  * IC_BROKEN: the links below the root form no red-black tree, because a parent, a color or a child is wrong. */
 IC_NODISCARD
@@ -2039,9 +2068,9 @@ uint32_t ic_tree_check(const struct ic_link3 *table, ic_length places, const str
 
 /* ---- Trees by keys ----
  *
- * A key is a number, and a smaller key comes before a greater one. The key of `place` is keys[place], so there must be a key for each place, but the
- * calls read only the keys of members and of the place to insert. A search requires a tree whose members are sorted by keys. In another tree a search
- * may find a wrong member or none.
+ * A key is a number, and a member with a smaller key comes before a member with a greater key. The key of `place` is keys[place]. The array `keys`
+ * must have a key for each place, but the calls read only the keys of members and of the place to insert. If the members of the tree are not sorted
+ * by keys, a search may find a wrong member or none.
  */
 
 /* Made by tools/c-calls --write: tree-keys */
@@ -2053,30 +2082,33 @@ IC_NODISCARD
 uint32_t ic_tree_insert(struct ic_link3 *table, ic_length places, const uint64_t *keys, ic_length key_count, struct ic_tree *tree,
                         uint32_t place);
 
-/* Finds the first member whose key is `key`, and sets *found to it, in O(log n).
+/* Finds the first member whose key is `key`, and sets *found to this member, in O(log n).
  * IC_NULL: no member has this key. IC_OUT_OF_RANGE: there are fewer keys than places. IC_BROKEN: the root is not linked in this table. */
 IC_NODISCARD
 uint32_t ic_tree_find(const struct ic_link3 *table, ic_length places, const uint64_t *keys, ic_length key_count, const struct ic_tree *tree,
                       uint64_t key, uint32_t *found);
 
-/* Finds the first member whose key is not less than `key`, and sets *found to it, in O(log n).
- * IC_NULL: no member has such a key. IC_OUT_OF_RANGE: there are fewer keys than places. IC_BROKEN: the root is not linked in this table. */
+/* Finds the first member whose key is not less than `key`, and sets *found to this member, in O(log n).
+ * IC_NULL: every member's key is less than `key`. IC_OUT_OF_RANGE: there are fewer keys than places. IC_BROKEN: the root is not linked in
+ * this table. */
 IC_NODISCARD
 uint32_t ic_tree_lower_bound(const struct ic_link3 *table, ic_length places, const uint64_t *keys, ic_length key_count,
                              const struct ic_tree *tree, uint64_t key, uint32_t *found);
 
-/* Finds the LAST member whose key is NOT GREATER than `key`, and sets *found to it, in O(log n). The upper_bound of C++ finds another
- * member, the first one whose key is greater. The lower and the upper bound have their names from the Rust crate intrusive-collections. If
- * members have keys from `low` to `high`, the lower bound of `low` is the first of these members, and the upper bound of `high` is the
- * last.
- * IC_NULL: no member has such a key. IC_OUT_OF_RANGE: there are fewer keys than places. IC_BROKEN: the root is not linked in this table. */
+/* Finds the LAST member whose key is NOT GREATER than `key`, and sets *found to this member, in O(log n). The upper_bound of C++ finds
+ * another member, the first one whose key is greater than `key`. The names of the lower and the upper bound come from the Rust crate
+ * intrusive-collections. If members have keys from `low` to `high`, the lower bound of `low` is the first of these members, and the upper
+ * bound of `high` is the last.
+ * IC_NULL: every member's key is greater than `key`. IC_OUT_OF_RANGE: there are fewer keys than places. IC_BROKEN: the root is not linked
+ * in this table. */
 IC_NODISCARD
 uint32_t ic_tree_upper_bound(const struct ic_link3 *table, ic_length places, const uint64_t *keys, ic_length key_count,
                              const struct ic_tree *tree, uint64_t key, uint32_t *found);
 
 /* to here */
 
-/* Inserts `place` by its key if no member has this key, and sets *found to the first member with this key, which may be `place`, in O(log n).
+/* Inserts `place` by its key if no member has this key. Sets *found to the first member with this key, which is `place` if the function has inserted
+ * it. The function takes O(log n).
  * IC_OUT_OF_RANGE: there are fewer keys than places, or `place` is not below `places`. IC_LINKED: `place` is linked already. IC_BROKEN: the root
  * is not linked in this table. */
 IC_NODISCARD
@@ -2095,10 +2127,10 @@ static inline uint32_t ic_tree_insert_unique(struct ic_link3 *table, ic_length p
 
 /* ---- Trees by a comparison ----
  *
- * The IC_TREE_..._BY macros search a tree by a comparison that you write, for example if the keys are no numbers, in O(log n). Each macro is a
- * statement. `at` is the name of a uint32_t variable of yours, and `comparison` is an expression in which `at` is the member to compare with. The
- * value of `comparison` is negative if the key that you look for comes before the key of `at`, 0 if the two keys are equal, and positive otherwise,
- * as with strcmp.
+ * The macros IC_TREE_..._BY search a tree, or insert into a tree, by a comparison that you write, in O(log n). Use them, for example, if your keys
+ * are no numbers. Each macro is a statement. `at` is the name of a uint32_t variable of yours. `comparison` is an expression that compares your key,
+ * which you insert or search for, with the key of the member `at`. Its value must be negative if your key comes before the key of `at`, 0 if the two
+ * keys are equal, and positive if your key comes after the key of `at`, as with strcmp.
  *
  *     const char *names[100];
  *     uint32_t at, status;
@@ -2110,16 +2142,17 @@ static inline uint32_t ic_tree_insert_unique(struct ic_link3 *table, ic_length p
  * `tree` and `place` several times.
  */
 
-/* Returns the left child of the member `at` if `is_left` is not 0, or else the right child, or IC_NONE if there is no child on this side. */
+/* Returns the right child of the member `at` if `is_left` is 0, and otherwise the left child. The function returns IC_NONE if `at` has no such
+ * child. */
 static inline uint32_t ic_tree_child(const struct ic_link3 *table, ic_length places, uint32_t at, int is_left) {
     if (!ic_tree_is_linked(table, places, at))
         return IC_NONE;
     return ic_place_within(places, is_left ? table[at].left : table[at].right);
 }
 
-/* The three macros below that search by a comparison expand to IC_SEARCH_BY. At each member the search goes to the left child if `comparison
- * goes_left 0` is true, and else to the right child. `at` becomes the last member on this way for which `comparison is_found 0` is true. `goes_left`
- * and `is_found` are operators such as <=. */
+/* The three macros below that search by a comparison expand to IC_SEARCH_BY. Its arguments `is_found` and `goes_left` are operators such as <=. At
+ * each member the search goes to the left child if `comparison goes_left 0` is true, and otherwise to the right child. Of the members on this way,
+ * `at` becomes the last one for which `comparison is_found 0` is true. */
 #define IC_SEARCH_BY(at, table, places, tree, comparison, is_found, goes_left)                  \
     do {                                                                                        \
         uint32_t ic_found_##at = IC_NONE, ic_rounds_##at = ic_bound(places);                    \
@@ -2142,8 +2175,8 @@ static inline uint32_t ic_tree_child(const struct ic_link3 *table, ic_length pla
 /* Sets `at` to the last member for which the comparison is 0 or greater, or to IC_NONE if there is none. */
 #define IC_TREE_UPPER_BOUND_BY(at, table, places, tree, comparison) IC_SEARCH_BY(at, table, places, tree, comparison, >=, <)
 
-/* The two macros below that insert expand to IC_DESCEND_AND_INSERT. If `place` is out of range or linked already, the macro makes no comparison,
- * and sets `status` to why. */
+/* The two macros below that insert expand to IC_DESCEND_AND_INSERT. If `place` is out of range or linked already, the macro makes no comparison, and
+ * sets `status` to IC_OUT_OF_RANGE or IC_LINKED. */
 #define IC_DESCEND_AND_INSERT(status, at, table, places, tree, place, comparison, is_unique)                                    \
     do {                                                                                                                        \
         uint32_t ic_under_##at = IC_NONE, ic_same_##at = IC_NONE, ic_rounds_##at = ic_bound(places);                            \
@@ -2165,16 +2198,15 @@ static inline uint32_t ic_tree_child(const struct ic_link3 *table, ic_length pla
         at = status != IC_OK ? IC_NONE : ic_same_##at != IC_NONE ? ic_same_##at : (place);                                      \
     } while (0)
 
-/* Inserts `place` after all members for which the comparison is 0 or greater. Sets `status` to IC_OK and `at` to `place`, or, if the insertion is
- * refused, `status` to the reason and `at` to IC_NONE.
+/* Inserts `place` after all members for which the comparison is 0 or greater, and sets `status` to IC_OK and `at` to `place`. If the insertion is
+ * refused, the macro sets `status` to one of the statuses below, and `at` to IC_NONE.
  * IC_OUT_OF_RANGE: `place` is not below `places`. IC_LINKED: `place` is linked already. IC_BROKEN: the root is not linked in this table, or the
  * links below the root form no tree. */
 #define IC_TREE_INSERT_BY(status, at, table, places, tree, place, comparison) \
     IC_DESCEND_AND_INSERT(status, at, table, places, tree, place, comparison, 0)
 
-/* Inserts `place` if there is no member for which the comparison is 0. Sets `at` to a member for which the comparison is 0, or to `place` if the
- * macro has inserted `place`, or to IC_NONE if the insertion is refused. Sets `status` to IC_OK, or to the reason for which IC_TREE_INSERT_BY
- * would refuse the insertion. */
+/* Inserts `place` as IC_TREE_INSERT_BY does, if there is no member for which the comparison is 0. If there is such a member, the macro sets `status`
+ * to IC_OK and `at` to this member. If `place` is out of range or linked already, the macro does not search, and refuses the insertion. */
 #define IC_TREE_INSERT_UNIQUE_BY(status, at, table, places, tree, place, comparison) \
     IC_DESCEND_AND_INSERT(status, at, table, places, tree, place, comparison, 1)
 
@@ -2188,13 +2220,13 @@ static inline uint32_t ic_tree_child(const struct ic_link3 *table, ic_length pla
 
 /* Made by tools/c-calls --write: tree-steps */
 
-/* Finds the member after the member `at`, or the first member if `at` is IC_NONE, and sets *found to it, in O(log n).
+/* Finds the member after the member `at`, or the first member if `at` is IC_NONE, and sets *found to this member, in O(log n).
  * IC_NULL: `at` is the last member, or the tree is empty. IC_OUT_OF_RANGE: the place `at` is not below `places`. IC_NOT_LINKED: the place
  * `at` is not linked. IC_BROKEN: the root is not linked in this table. */
 IC_NODISCARD
 uint32_t ic_tree_next(const struct ic_link3 *table, ic_length places, const struct ic_tree *tree, uint32_t at, uint32_t *found);
 
-/* Finds the member before the member `at`, or the last member if `at` is IC_NONE, and sets *found to it, in O(log n).
+/* Finds the member before the member `at`, or the last member if `at` is IC_NONE, and sets *found to this member, in O(log n).
  * IC_NULL: `at` is the first member, or the tree is empty. IC_OUT_OF_RANGE: the place `at` is not below `places`. IC_NOT_LINKED: the place
  * `at` is not linked. IC_BROKEN: the root is not linked in this table. */
 IC_NODISCARD
@@ -2214,20 +2246,23 @@ static inline uint32_t ic_tree_last(const struct ic_link3 *table, ic_length plac
     return ic_tree_prev(table, places, tree, IC_NONE, found);
 }
 
-/* Returns the member after the member `at`, or the first member if `at` is IC_NONE, or IC_NONE if there is none. */
+/* Returns the member after the member `at`, or the first member if `at` is IC_NONE. The function returns IC_NONE if there is no such member, or if
+ * ic_tree_next refuses the step. */
 static inline uint32_t ic_tree_after(const struct ic_link3 *table, ic_length places, const struct ic_tree *tree, uint32_t at) {
     uint32_t found;
     return ic_tree_next(table, places, tree, at, &found) == IC_OK ? found : IC_NONE;
 }
 
-/* Returns the member before the member `at`, or the last member if `at` is IC_NONE, or IC_NONE if there is none. */
+/* Returns the member before the member `at`, or the last member if `at` is IC_NONE. The function returns IC_NONE if there is no such member, or if
+ * ic_tree_prev refuses the step. */
 static inline uint32_t ic_tree_before(const struct ic_link3 *table, ic_length places, const struct ic_tree *tree, uint32_t at) {
     uint32_t found;
     return ic_tree_prev(table, places, tree, at, &found) == IC_OK ? found : IC_NONE;
 }
 
-/* The IC_TREE_FOREACH loops go from the first member to the last, and those with REVERSE in the name from the last to the first. `next` is the
- * member after `place`, or IC_NONE at the last member. `prev` is the member before `place`, or IC_NONE at the first member. */
+/* An IC_TREE_FOREACH loop goes from the first member to the last, and a loop with REVERSE in its name goes from the last member to the first. In a
+ * ..._SAFE loop `next` is the member after `place`, or IC_NONE if `place` is the last member. In a ..._REVERSE_SAFE loop `prev` is the member before
+ * `place`, or IC_NONE if `place` is the first member. */
 #define IC_TREE_FOREACH(place, table, places, tree) \
     IC_LOOP(place, ic_tree_after(table, places, tree, IC_NONE), places, place != IC_NONE, ic_tree_after(table, places, tree, place))
 #define IC_TREE_FOREACH_REVERSE(place, table, places, tree) \
@@ -2265,11 +2300,11 @@ static inline uint32_t ic_tree_before(const struct ic_link3 *table, ic_length pl
 
 /* ---- Trees that keep their first and last member ----
  *
- * The ends of a tree are a struct ic_tree_ends, which has the words for the first and the last member, so that you find the first member, such as the
- * next timer, in O(1). The ends of an empty tree are {0}. To insert, remove or replace a member, make only the calls ic_tree_ends_..., which update
- * the ends. No other call changes the ends. So after ic_tree_clear set the ends to {0}. After ic_tree_append, ic_tree_join or ic_tree_split, set the
- * ends of each empty tree to {0}. For each other tree set ends.first to ic_word of the member that ic_tree_first finds, and ends.last to ic_word of
- * the member that ic_tree_last finds.
+ * The ends of a tree are a struct ic_tree_ends, which has the words for the first and the last member. With the ends you find the first member, such
+ * as the next timer, in O(1). The ends of an empty tree are {0}. To insert, remove or replace a member of a tree with ends, make only the calls
+ * ic_tree_ends_..., which update the ends. No other call changes the ends. So after ic_tree_clear set the ends to {0}. After ic_tree_append,
+ * ic_tree_join or ic_tree_split, set the ends of each tree that is empty to {0}. If a tree has members, set ends.first to ic_word of the member that
+ * ic_tree_first finds, and ends.last to ic_word of the member that ic_tree_last finds.
  *
  *     struct ic_tree_ends ends = {0};
  *     status = ic_tree_ends_insert(links, 100, keys, 100, &tree, &ends, 7);
@@ -2313,15 +2348,16 @@ IC_NODISCARD
 uint32_t ic_tree_ends_insert_right(struct ic_link3 *table, ic_length places, struct ic_tree *tree, struct ic_tree_ends *ends, uint32_t at,
                                    uint32_t place);
 
-/* Removes the member `at`, in O(log n). If `at` is the first or the last member, the ends of the tree then name its neighbor instead.
+/* Removes the member `at`, in O(log n). If `at` is the first or the last member, the call sets this end of the tree to the neighbor of
+ * `at`.
  * IC_NULL: the place `at` is IC_NONE. IC_OUT_OF_RANGE: the place `at` is not below `places`. IC_NOT_LINKED: the place `at` is not linked.
  * IC_BROKEN: the root is not linked in this table, or `at` is the root of another tree, or `at` is an end, and the links lead from `at` to
  * a place that is not linked, or back to `at`. */
 IC_NODISCARD
 uint32_t ic_tree_ends_remove(struct ic_link3 *table, ic_length places, struct ic_tree *tree, struct ic_tree_ends *ends, uint32_t at);
 
-/* Removes the member `at`, and inserts `place` where it was, in O(1). If `at` is the first or the last member, the ends of the tree then
- * name `place` instead. The call compares no keys, so pass a place that comes between the neighbors of `at` in the order of the keys.
+/* Removes the member `at`, and inserts `place` where `at` was, in O(1). If `at` is the first or the last member, the call sets this end of
+ * the tree to `place`. The call compares no keys, so pass a place that comes between the neighbors of `at` in the order of the keys.
  * IC_NULL: the place `at` is IC_NONE. IC_OUT_OF_RANGE: `at` or `place` is not below `places`. IC_LINKED: `place` is linked already, or is
  * `at` itself. IC_NOT_LINKED: the place `at` is not linked. IC_BROKEN: the root is not linked in this table, or `at` is the root of another
  * tree. */
@@ -2329,8 +2365,8 @@ IC_NODISCARD
 uint32_t ic_tree_ends_replace(struct ic_link3 *table, ic_length places, struct ic_tree *tree, struct ic_tree_ends *ends, uint32_t at,
                               uint32_t place);
 
-/* Removes the first member, and sets *popped to it, in O(log n). The call reads this member from `ends`, and finds the next member in O(1)
- * on average, which is good for timers and schedulers.
+/* Removes the first member, and sets *popped to this member, in O(log n). The call reads this member from `ends`, and finds the next
+ * member, which becomes the first one, in O(1) on average.
  * IC_NULL: `ends` names no first member. IC_BROKEN: the root or the first member is not linked in this table, or the links lead from the
  * first member to a place that is not linked, or back to the first member. */
 IC_NODISCARD
@@ -2340,10 +2376,10 @@ uint32_t ic_tree_ends_pop_first(struct ic_link3 *table, ic_length places, struct
 
 /* ---- Trees with sums ----
  *
- * An array of your own has a value and a sum for each place. You write the values, and pass IC_SUM or IC_GREATEST as `kind` to each call. The
- * combined value of several members is with IC_SUM the total of their values, but at most UINT64_MAX, and with IC_GREATEST the greatest of their
- * values. The sum at a member is the combined value of this member and all members below it in the tree. If each value is 1, the sum with IC_SUM is
- * the number of these members.
+ * An array of your own has a value and a sum for each place. You write the values, and pass IC_SUM or IC_GREATEST as `kind` to each call. With
+ * IC_SUM, the combined value of several members is the total of their values, but at most UINT64_MAX. With IC_GREATEST, the combined value is the
+ * greatest of their values. The sum at a member is the combined value of this member and all members below it in the tree. If each value is 1, the
+ * sum with IC_SUM is the number of these members.
  *
  *     struct ic_sum counts[100];                                             // with the value 1 at each place
  *     status = ic_tree_sums_renew(links, 100, counts, 100, IC_SUM, IC_NONE); // makes all sums right
@@ -2351,10 +2387,10 @@ uint32_t ic_tree_ends_pop_first(struct ic_link3 *table, ic_length places, struct
  *     status = ic_tree_sums_find(links, 100, counts, 100, IC_SUM, &tree, IC_NONE, 3, &found); // the member at position 3, from 0 on
  *     status = ic_tree_sums_before(links, 100, counts, 100, IC_SUM, found, &position);        // which is 3
  *
- * The sums of a tree are right if the array has for each member the sum at this member. The calls ic_tree_sums_insert... and ic_tree_sums_remove
- * edit the tree as the calls without sums_ in their names do, and keep the sums right, in O(log n). The calls without sums_ leave the sums as they
- * are. After an edit by such a call, call ic_tree_sums_renew with IC_NONE, which makes all sums right. After you have changed the value of one
- * member, call ic_tree_sums_renew with this member. The sums of an empty tree are right.
+ * The sums of a tree are right if the array has, for each member, the sum at this member. The sums of an empty tree are right. The calls
+ * ic_tree_sums_insert... and ic_tree_sums_remove edit the tree as the calls without sums_ in their names do, and keep the sums right, in O(log n).
+ * The calls without sums_ in their names do not update the sums. After such a call has edited the tree, pass IC_NONE to ic_tree_sums_renew, which
+ * makes all sums right. After you have changed the value of one member, pass this member to ic_tree_sums_renew.
  *
  * If the values are the lengths of lines, ic_tree_sums_find finds the line at an offset, and ic_tree_sums_before finds where a line begins. With
  * IC_GREATEST, ic_tree_sums_find finds the first member whose value is greater than a bound, for example the first region that is long enough. If the
@@ -2362,12 +2398,12 @@ uint32_t ic_tree_ends_pop_first(struct ic_link3 *table, ic_length places, struct
  * given interval.
  */
 
-/* With IC_SUM a sum is the total of values, and with IC_GREATEST the greatest of these values. If you pass any other number as `kind`, a call
- * takes it as IC_GREATEST. */
+/* With IC_SUM, a sum is the total of values, and with IC_GREATEST, a sum is the greatest of these values. If you pass any other number as `kind`, it
+ * means IC_GREATEST. */
 enum { IC_SUM = 0, IC_GREATEST = 1 };
 
-/* Returns the sum at the root, in O(1), which is the combined value of all members if the sums of the tree are right. Returns 0 if the tree is
- * empty. */
+/* Returns the sum at the root, in O(1). If the sums of the tree are right, this is the combined value of all members. The function returns 0 if the
+ * tree is empty. */
 static inline uint64_t ic_tree_sums_total(const struct ic_sum *sums, ic_length sum_count, const struct ic_tree *tree) {
     uint32_t root = ic_tree_root(tree);
     return root < ic_bound(sum_count) ? sums[root].sum : 0;
@@ -2408,35 +2444,37 @@ uint32_t ic_tree_sums_remove(struct ic_link3 *table, ic_length places, struct ic
                              struct ic_tree *tree, uint32_t at);
 
 /* Computes the sum at the member `at` again, and then the sums at the members above `at`, until a sum does not change, in O(log n). Make
- * this call after you have changed the value of `at`. If `at` is IC_NONE, the call computes all sums of the table, for every tree in the
- * table, in O(p log p) for p places. The call writes only sums.
+ * this call after you have changed the value of `at`. If `at` is IC_NONE, the call computes the sums of all trees in the table, in O(p log
+ * p) for a table of p places. The call writes only sums.
  * IC_OUT_OF_RANGE: there are fewer sums than places, or the place `at` is not below `places`. IC_NOT_LINKED: the place `at` is not linked. */
 IC_NODISCARD
 uint32_t ic_tree_sums_renew(const struct ic_link3 *table, ic_length places, struct ic_sum *sums, ic_length sum_count, uint32_t kind,
                             uint32_t at);
 
-/* Combines the values of the members after the member `at`, or of all members if `at` is IC_NONE, in their order, finds the first member at
- * which the combined value is greater than `bound`, and sets *found to it, in O(log n). The call writes nothing else.
- * IC_NULL: the combined value of all these members is not greater than `bound`. IC_OUT_OF_RANGE: there are fewer sums than places, or the
+/* Finds the first member at which the combined value becomes greater than `bound`, and sets *found to this member, in O(log n). The call
+ * combines the values of the members one after the other, in their order. It begins with the member after the member `at`, or with the
+ * first member if `at` is IC_NONE. The call changes no sum.
+ * IC_NULL: the combined value does not become greater than `bound` at any member. IC_OUT_OF_RANGE: there are fewer sums than places, or the
  * place `at` is not below `places`. IC_NOT_LINKED: the place `at` is not linked. IC_BROKEN: the sums of the tree are wrong, or the root is
  * not linked in this table. */
 IC_NODISCARD
 uint32_t ic_tree_sums_find(const struct ic_link3 *table, ic_length places, const struct ic_sum *sums, ic_length sum_count, uint32_t kind,
                            const struct ic_tree *tree, uint32_t at, uint64_t bound, uint32_t *found);
 
-/* Finds the combined value of the members before the member `at`, and sets *sum to it, in O(log n). The call writes nothing else.
+/* Computes the combined value of the members before the member `at`, and sets *sum to this value, in O(log n). The call changes no sum.
  * IC_NULL: the place `at` is IC_NONE. IC_OUT_OF_RANGE: there are fewer sums than places, or the place `at` is not below `places`.
  * IC_NOT_LINKED: the place `at` is not linked. IC_BROKEN: the links from `at` upwards lead to no root. */
 IC_NODISCARD
 uint32_t ic_tree_sums_before(const struct ic_link3 *table, ic_length places, const struct ic_sum *sums, ic_length sum_count, uint32_t kind,
                              uint32_t at, uint64_t *sum);
 
-/* Finds the first member after the member `at`, or the first of all members if `at` is IC_NONE, whose interval overlaps the interval that
- * begins at `from` and ends before `to`, and sets *found to it, in O(log n). The interval of a member begins at its key and ends before its
- * value. The sums must have been made with IC_GREATEST, and the members must be sorted by keys. The call writes nothing else.
- * IC_NULL: none of these members has such an interval. IC_OUT_OF_RANGE: there are fewer keys than places, or there are fewer sums than
- * places, or the place `at` is not below `places`. IC_NOT_LINKED: the place `at` is not linked. IC_BROKEN: the sums of the tree are wrong,
- * or the root is not linked in this table. */
+/* Finds the first member whose interval overlaps the interval that begins at `from` and ends before `to`, and sets *found to this member,
+ * in O(log n). The search begins after the member `at`, or at the first member if `at` is IC_NONE. The interval of a member begins at its
+ * key and ends before its value. The sums must be computed with IC_GREATEST, and the members must be sorted by keys. The call changes no
+ * sum.
+ * IC_NULL: there is no such member. IC_OUT_OF_RANGE: there are fewer keys than places, or there are fewer sums than places, or the place
+ * `at` is not below `places`. IC_NOT_LINKED: the place `at` is not linked. IC_BROKEN: the sums of the tree are wrong, or the root is not
+ * linked in this table. */
 IC_NODISCARD
 uint32_t ic_tree_sums_overlap(const struct ic_link3 *table, ic_length places, const uint64_t *keys, ic_length key_count,
                               const struct ic_sum *sums, ic_length sum_count, const struct ic_tree *tree, uint32_t at, uint64_t from,

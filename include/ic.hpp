@@ -1,5 +1,5 @@
-// This header has views of the lists, rings, hash tables and trees of ic.h for C++17. A view has iterators, and returns places as std::optional. If
-// you ignore the status of a call, the compiler warns.
+// This header for C++17 has a view for each list, ring, hash table and tree of ic.h. A view has iterators. A call that may find no member returns its
+// result as a std::optional. If you ignore the status of a call, the compiler warns.
 //
 //     std::vector<ic_link2> links(100);                 // a hundred unlinked places
 //     ic_list head{};                                   // a list with no members
@@ -10,15 +10,15 @@
 //     std::optional<std::uint32_t> oldest = list.pop_front();
 //
 // A view has pointers to a table and to a list or tree. You own the table and the list or tree, and must keep them as long as you use the view or its
-// iterators. You can copy a view as you copy a pointer. For each edit, the comment in ic.h at the call with the same name says what the call does and
-// when it is refused. For each view there is a second view whose name begins with const_, such as ic::const_list_view, for a table and a list or tree
-// that are const.
+// iterators. You can copy a view as you copy a pointer. If an edit has no comment in this header, the comment of the call with the same name in ic.h
+// says what the edit does and when it is refused. For each view except ic::tree_ends_view, there is a second view whose name begins with const_, such
+// as ic::const_list_view. It only reads, so its table and its list or tree may be const.
 //
 // In C++20 each view with a begin() is a std::ranges::view and a borrowed range, so you may use its iterators after the view is destroyed.
 //
-// Nothing in this header allocates or throws, and the header compiles with -fno-exceptions and -fno-rtti. As in C, a view never reads or writes
-// outside the table, whatever the words of the table are. A loop from begin() to end(), or from rbegin() to rend(), has at most as many rounds as the
-// table has places.
+// No function of this header allocates memory or throws, and the header compiles with -fno-exceptions and -fno-rtti. As in C, a view never reads or
+// writes outside the table, whatever the words of the table are. A loop from begin() to end(), or from rbegin() to rend(), has at most as many rounds
+// as the table has places.
 #ifndef IC_HPP
 #define IC_HPP
 
@@ -46,7 +46,7 @@ namespace ic {
 /// The number `none` names no place.
 inline constexpr std::uint32_t none = IC_NONE;
 
-/// An edit returns a status. Every status except `ok` is a refusal, and a refused edit has changed nothing.
+/// An edit returns a status. A status other than `ok` means that the edit was refused, and has changed nothing.
 enum class [[nodiscard]] status : std::uint32_t {
     ok = IC_OK,
     out_of_range = IC_OUT_OF_RANGE,
@@ -56,7 +56,7 @@ enum class [[nodiscard]] status : std::uint32_t {
     broken = IC_BROKEN
 };
 
-/// Returns the name of a status in C, such as "IC_OK".
+/// Returns the name that a status has in C, such as "IC_OK".
 [[nodiscard]] inline const char *name(status it) noexcept {
     return ic_status_name(static_cast<std::uint32_t>(it));
 }
@@ -66,7 +66,7 @@ class array_view;
 
 namespace detail {
 
-/// Is true of a container type whose objects do not own their elements, such as std::span, and false of a type such as std::vector.
+/// Is true for a container type whose objects do not own their elements, such as std::span, and false for a type such as std::vector.
 template <class Container>
 #ifdef __cpp_lib_ranges
 inline constexpr bool is_borrowed = std::ranges::enable_borrowed_range<Container>;
@@ -104,13 +104,13 @@ private:
 
 namespace detail {
 
-/// A position is a member `at`, and the member `from` from which a walk came to `at`. At the first member of the walk `from` is `none`, and at the
-/// end `at` is `none`.
+/// A position is a member `at`, and the member `from` from which a walk came to `at`. If `at` is the first member of the walk, `from` is `none`. At
+/// the end of the walk, `at` is `none`.
 struct position {
     std::uint32_t from = none, at = none;
 };
 
-/// A struct words has pointers to a table that a view reads and to a list or tree in this table.
+/// A struct words has pointers to the table that a view reads, and to a list or tree in this table.
 template <class Link, class Head>
 struct words {
     const Link *table = nullptr;
@@ -118,9 +118,9 @@ struct words {
     const Head *head = nullptr;
 };
 
-// ---- Kinds: a kind has the calls of ic.h for one type of list, ring or tree, and finds its ends and neighbors ------------------------
+// ---- Kinds: a kind has the calls of ic.h for one type of list, ring or tree, and finds ends and neighbors of members -----------------
 
-/// This is the base of the kinds of lists and trees. A view of a list or tree has a pointer to a struct such as ic_list.
+/// This is the base class of the kinds of lists and trees, but not of rings. A view of a list or tree has a pointer to a struct such as ic_list.
 template <class Link, class Head>
 struct headed {
     using link = Link;
@@ -131,8 +131,8 @@ struct headed {
     static handle handle_of(argument list) noexcept { return &list; }
 };
 
-/// wide_list has the calls of doubly linked lists whose links have words of 8 bytes, and narrow_list those for words of 4 bytes, where there is no
-/// fill, sort or merge.
+/// wide_list has the calls of doubly linked lists whose links have words of 8 bytes. narrow_list has the calls for links with words of 4 bytes,
+/// without fill, sort and merge.
 struct wide_list {
     using link = ic_link2;
     static constexpr auto clear = ic_list_clear;
@@ -273,8 +273,8 @@ struct red_black : headed<ic_link3, ic_tree> {
     }
 };
 
-/// wide_ring has the calls of rings whose links have words of 8 bytes, and narrow_ring those for words of 4 bytes, where there is no check, sort or
-/// merge.
+/// wide_ring has the calls of rings whose links have words of 8 bytes. narrow_ring has the calls for links with words of 4 bytes, without check, sort
+/// and merge.
 struct wide_ring {
     using link = ic_link2;
     static constexpr auto init = ic_ring_init;
@@ -328,7 +328,7 @@ struct narrow_ring {
     static constexpr auto is_empty_in = ic_ring32_is_empty;
 };
 
-/// This is the kind of a ring. A view of a ring has no pointer to a struct, because the head of a ring is a place.
+/// This class is the kind of rings. A view of a ring has no pointer to a struct, because the head of a ring is a place.
 template <class Ring>
 struct circular : Ring {
     using link = typename Ring::link;
@@ -357,8 +357,8 @@ struct circular : Ring {
 
 // ---- Iterators ---------------------------------------------------------------------------------------------------------------------
 
-/// In a list whose links do not name the previous member, `it++` also stores in `before` the position two steps before the one to which it moves the
-/// iterator.
+/// `it++` moves an iterator to the next position. In a list whose links do not name the previous member, `it++` also stores in `before` the position
+/// before the old one.
 struct trail {
     position before{};
     bool is_kept = false;
@@ -366,11 +366,11 @@ struct trail {
 struct no_trail {};
 
 /// An iterator goes from member to member, and `*it` is the place of the member. An iterator is valid until its member is removed. In a singly linked
-/// or an XOR list the iterator also needs the member from which it came, so make a new iterator if you have removed this previous member. After
-/// `it++` the iterator does not need the previous member, so you may write `erase(it++)` for every list, ring and tree.
+/// list or an XOR list the iterator also needs the member from which it came, so make a new iterator if you have removed this member. After `it++`
+/// the iterator does not need the member from which it came, so you may write `erase(it++)` for every list, ring and tree.
 ///
-/// If `Back` is true, the iterator goes from the last member to the first. The iterator counts its steps, and after as many `++` as the table has
-/// places the iterator is at the end. After as many `--` the iterator is at the beginning.
+/// If `Back` is true, the iterator goes from the last member to the first. The iterator counts its steps. After as many `++` as the table has places,
+/// the iterator is at the end. After as many `--` as the table has places, the iterator is at the beginning.
 template <class Kind, bool Back>
 class iterator : std::conditional_t<Kind::needs_from, trail, no_trail> {
 public:
@@ -434,14 +434,15 @@ public:
     [[nodiscard]] friend bool operator==(const iterator &one, const iterator &other) noexcept { return one.it_.at == other.it_.at; }
     [[nodiscard]] friend bool operator!=(const iterator &one, const iterator &other) noexcept { return !(one == other); }
 
-    /// Returns the member of the iterator and the previous member, even if the member from which the iterator came has been removed by `erase(it++)`.
+    /// Returns the member of the iterator and the member from which the iterator came. If `erase(it++)` has removed the member from which the
+    /// iterator came, the call returns the previous neighbor of the removed member instead.
     [[nodiscard]] position where() const noexcept {
         iterator settled = *this;
         settled.settle();
         return settled.it_;
     }
 
-    /// Returns an iterator at the next member, which stays valid if the caller then removes the member of this iterator.
+    /// Returns an iterator at the next member. This new iterator stays valid if the caller then removes the member of the old iterator.
     [[nodiscard]] iterator past() const noexcept {
         iterator next = *this;
         ++next;
@@ -459,8 +460,8 @@ private:
         }
     }
 
-    /// Returns the member before `at`: `before.at` if the link of `before.at` now leads to `at`, because `from` has been removed, and otherwise
-    /// `from`. The function takes values and is not inlined, so that compilers keep iterators in registers.
+    /// Returns the member before `at`. If `from` has been removed, the link of `before.at` leads to `at`, and the function returns `before.at`.
+    /// Otherwise the function returns `from`. It takes values and is not inlined, so that compilers keep iterators in registers.
 #ifdef __GNUC__
     [[gnu::noinline]]
 #endif
@@ -476,13 +477,13 @@ private:
 
     typename Kind::source in_;
     position it_;
-    /// `left_` is how many steps forwards the iterator may still make. `ahead_` is how many steps the iterator has made backwards from its first
-    /// position.
+    /// `left_` is the number of steps that the iterator may still make forwards. `ahead_` is the number of steps that the iterator has made backwards
+    /// from its first position.
     std::uint32_t left_ = 0, ahead_ = 0;
 };
 
-/// `erase` returns an `erased`, which is the iterator at the member after the removed one, together with the status of the removal. If the status is
-/// not ok, no member is removed, and the iterator is end(), so that a loop of `it = erase(it)` ends.
+/// `erase` returns an `erased`, which is an iterator at the member after the removed member, together with the status of the removal. If the status
+/// is not ok, no member has been removed, and the iterator is end(), so that a loop with `it = erase(it)` ends.
 template <class Iterator>
 class erased : public Iterator {
 public:
@@ -497,7 +498,8 @@ private:
 
 // ---- What all kinds have -----------------------------------------------------------------------------------------------------------
 
-/// This is the base of all views that read members. A copy of a view is cheap, and you may use the iterators of a view after the view is destroyed.
+/// This is the base class of all views that read members. A copy of a view is cheap, and you may use the iterators of a view after the view is
+/// destroyed.
 struct view_base {};
 
 #ifdef __cpp_lib_ranges
@@ -505,7 +507,7 @@ template <class View>
 concept is_view = std::is_base_of_v<view_base, View>;
 #endif
 
-/// Reads a list, a ring or a tree, whose calls `Kind` has.
+/// Reads a list, a ring or a tree. The class `Kind` has the calls for this type of list, ring or tree.
 template <class Kind>
 class members : public view_base {
 public:
@@ -519,14 +521,14 @@ public:
 
     [[nodiscard]] bool empty() const noexcept { return Kind::is_empty(in_); }
 
-    /// Returns how many members there are, in O(n), or std::nullopt if the words form no list, ring or tree. Call check() if the words come from a
-    /// file, or from memory that others write. XOR lists have no check().
+    /// Returns the number of members, in O(n), or std::nullopt if the words form no list, ring or tree. Call check() if the words come from a file,
+    /// or from memory to which other programs write. XOR lists have no check().
     [[nodiscard]] std::optional<std::uint64_t> check() const noexcept {
         std::uint64_t count = 0;
         return Kind::check(in_.table, in_.places, in_.head, &count) == IC_OK ? std::optional<std::uint64_t>(count) : std::nullopt;
     }
 
-    /// Returns whether a place is in this list or tree, or in another list or tree of the same table.
+    /// Returns whether a place is in a list or tree of the table, which may be another list or tree than this one.
     [[nodiscard]] bool is_linked(std::uint32_t place) const noexcept { return Kind::is_linked(in_, place); }
 
     /// Returns the first member, or std::nullopt if there is none or if the first member is not linked in this table.
@@ -559,11 +561,11 @@ protected:
     using members<Kind>::members;
 };
 
-/// Reads a list or a tree in which an iterator needs only the place of its member.
+/// Reads a list or a tree in which an iterator needs the place of its member, and not the member from which it came.
 template <class Kind>
 class placed : public two_way<Kind> {
 public:
-    /// Returns the iterator at a member, or end() if the place is `none` or unlinked.
+    /// Returns an iterator at the member `place`, or end() if `place` is `none` or unlinked.
     [[nodiscard]] typename two_way<Kind>::iterator iterator_to(std::uint32_t place) const noexcept {
         return {this->in_, {none, place}};
     }
@@ -572,7 +574,7 @@ protected:
     using two_way<Kind>::two_way;
 };
 
-/// Has the constructor of a view, which takes a table, and a list or a tree.
+/// Has the constructor of a view. The constructor takes a table, and a list or a tree.
 template <class Base>
 class of_head : public Base {
     using link = typename Base::kind::link;
@@ -583,14 +585,14 @@ public:
     of_head(array_view<const link> table, const head &&list) = delete;
 };
 
-/// Has the calls that remove the members of iterators.
+/// Has the calls that remove the members to which iterators lead.
 template <class Base>
 class erases : public Base {
 public:
     using iterator = typename Base::iterator;
     using Base::Base;
 
-    /// Removes the member of an iterator, and moves the iterator to the next member.
+    /// Removes the member `*at`, and moves the iterator `at` to the next member.
     [[nodiscard]] erased<iterator> erase(iterator &at) const noexcept {
         const iterator next = at.past();
         const status done = this->take(at);
@@ -600,11 +602,12 @@ public:
         return {done, next};
     }
 
-    /// Removes the member of a temporary iterator, such as `it++`. You may ignore the status of this call, as in the standard library.
+    /// Removes the member `*at` if `at` is a temporary iterator, such as `it++`. You may ignore the result of this call, as in the standard library.
     erased<iterator> erase(iterator &&at) const noexcept { return erase(at); }
     [[nodiscard]] erased<iterator> erase(const iterator &at) const noexcept { return erase(iterator(at)); }
 
-    /// Removes the members from `first` up to the member before `last`, and stops if the removal of a member is refused.
+    /// Removes the members from `*first` up to the member before `*last`. If the removal of a member is refused, the call stops, and returns the
+    /// status of this removal.
     [[nodiscard]] erased<iterator> erase(iterator first, iterator last) const noexcept {
         while (first != last)
             if (const auto done = erase(first); done.status() != status::ok)
@@ -612,9 +615,9 @@ public:
         return {status::ok, first};
     }
 
-    /// Removes each member for which the predicate is true, and calls `then` with this member, which `then` may insert into another list or tree.
-    /// Neither the predicate nor `then` may edit this list or tree. If the removal of a member is refused, the call stops and returns the status of
-    /// this removal.
+    /// Removes each member for which the predicate is true, and then calls the function `then` with this member. `then` may insert the member into
+    /// another list or tree. Neither the predicate nor `then` may edit this list or tree. If the removal of a member is refused, the call stops, and
+    /// returns the status of this removal.
     template <class Predicate, class Then>
     status remove_if(Predicate is_unwanted, Then then) const {
         for (iterator at = this->begin(); at != this->end();) {
@@ -671,7 +674,8 @@ protected:
         return call(table_, this->in_.places, head_, arguments..., &place) == IC_OK ? this->found(place) : std::nullopt;
     }
 
-    /// Makes a call of C for this list and the list `other`, or returns status::broken if `other` is this list or a list of another table.
+    /// Makes a call of C for this list and the list `other`. If `other` is this list itself or a list of another table, the function makes no call,
+    /// and returns status::broken.
     template <class Call, class... Arguments>
     status edit_both(const writes &other, Call call, Arguments... arguments) const noexcept {
         return other.table_ == table_ && other.head_ != head_ ? edit(call, arguments...) : status::broken;
@@ -690,8 +694,8 @@ public:
 
     status push_front(std::uint32_t place) const noexcept { return this->edit(kind::push_front, place); }
 
-    /// Removes the first member, and returns it, or returns std::nullopt if there is none. If the list is not empty(), std::nullopt means that the
-    /// call was refused with ic::status::broken.
+    /// Removes and returns the first member, or returns std::nullopt if there is none. If the list is not empty(), std::nullopt means that the call
+    /// was refused with ic::status::broken.
     [[nodiscard]] std::optional<std::uint32_t> pop_front() const noexcept { return this->taken(kind::pop_front); }
 };
 
@@ -704,8 +708,8 @@ public:
 
     status push_back(std::uint32_t place) const noexcept { return this->edit(kind::push_back, place); }
 
-    /// Removes the last member, and returns it, or returns std::nullopt if there is none. If the list is not empty(), std::nullopt means that the
-    /// call was refused with ic::status::broken.
+    /// Removes and returns the last member, or returns std::nullopt if there is none. If the list is not empty(), std::nullopt means that the call
+    /// was refused with ic::status::broken.
     [[nodiscard]] std::optional<std::uint32_t> pop_back() const noexcept { return this->taken(kind::pop_back); }
 };
 
@@ -716,7 +720,7 @@ public:
     using kind = typename Base::kind;
     using Base::Base;
 
-    /// Removes all members. If the links form no list, the call returns ic::status::broken and changes nothing.
+    /// Removes all members. If the links do not lead from the first member to the last, the call returns ic::status::broken and changes nothing.
     status clear() const noexcept { return this->edit(kind::clear); }
 };
 
@@ -727,8 +731,8 @@ public:
     using kind = typename Base::kind;
     using Base::Base;
 
-    /// Inserts the `count` places `first`, `first` + 1 and so on, in rising order, at the back, or in a singly linked list at the front. If one of
-    /// these places is out of range or linked already, the call inserts none.
+    /// Inserts the `count` places `first`, `first` + 1 and so on, in rising order. The call inserts the places at the back, but in a singly linked
+    /// list at the front. If one of the places is out of range or linked already, the call inserts none of them.
     status fill(std::uint32_t first, std::uint32_t count) const noexcept { return this->edit(kind::fill, first, count); }
 };
 
@@ -746,7 +750,7 @@ public:
     }
 };
 
-/// Has the calls that sort a list or ring, and merge two lists or the members of two rings.
+/// Has the calls that sort a list or the members of a ring, and merge two lists or the members of two rings.
 template <class Base>
 class merges : public sorts<Base> {
 public:
@@ -754,9 +758,9 @@ public:
     using typename sorts<Base>::keys_view;
     using sorts<Base>::sorts;
 
-    /// Moves all members of `given` into this list or ring, which the call leaves sorted by keys if both were sorted by keys. Members of `given` come
-    /// after members of this list or ring with equal keys. The call returns ic::status::broken if `given` is this list or ring itself, or is of
-    /// another table.
+    /// Moves all members of `given` into this list or ring. If both were sorted by keys, this list or ring is sorted by keys after the call. Of
+    /// members with equal keys, those of this list or ring come first. The call returns ic::status::broken if `given` is this list or ring itself, or
+    /// a list or ring of another table.
     status merge(keys_view keys, const merges &given) const noexcept {
         if (given.table_ != this->table_ || given.head_ == this->head_)
             return status::broken;
@@ -779,21 +783,21 @@ public:
     using iterator = typename base::iterator;
     using base::base;
 
-    /// Inserts a place before the member of an iterator, or at the back if the iterator is end().
+    /// Inserts `place` before the member `*at`, or at the back if `at` is end().
     status insert(iterator at, std::uint32_t place) const noexcept { return insert_before(*at, place); }
     status insert_after(std::uint32_t at, std::uint32_t place) const noexcept { return this->edit(List::insert_after, at, place); }
     status insert_before(std::uint32_t at, std::uint32_t place) const noexcept { return this->edit(List::insert_before, at, place); }
     status remove(std::uint32_t at) const noexcept { return this->edit(List::remove, at); }
     status replace(std::uint32_t at, std::uint32_t place) const noexcept { return this->edit(List::replace, at, place); }
 
-    /// This and the next three calls move the member `place`, which stays linked during the call.
+    /// The calls move_after, move_before, move_to_front and move_to_back move the member `place`, which stays linked during the call.
     status move_after(std::uint32_t at, std::uint32_t place) const noexcept { return this->edit(List::move_after, at, place); }
     status move_before(std::uint32_t at, std::uint32_t place) const noexcept { return this->edit(List::move_before, at, place); }
     status move_to_front(std::uint32_t place) const noexcept { return this->edit(List::move_to_front, place); }
     status move_to_back(std::uint32_t place) const noexcept { return this->edit(List::move_to_back, place); }
 
-    /// Moves all members of `given` before the member of an iterator, or to the back if the iterator is end(). Each call from splice to split_before
-    /// returns ic::status::broken if `given` or `rest` is this list itself or a list of another table.
+    /// Moves all members of `given` before the member `*at`, or to the back if `at` is end(). The calls splice, splice_after, splice_before, append,
+    /// split_after and split_before return ic::status::broken if `given` or `rest` is this list itself or a list of another table.
     status splice(iterator at, const edits_of_list &given) const noexcept { return splice_before(*at, given); }
     status splice_after(std::uint32_t at, const edits_of_list &given) const noexcept {
         return this->edit_both(given, List::splice_after, at, given.head_);
@@ -805,9 +809,9 @@ public:
     status split_after(std::uint32_t at, const edits_of_list &rest) const noexcept { return this->edit_both(rest, List::split_after, at, rest.head_); }
     status split_before(std::uint32_t at, const edits_of_list &rest) const noexcept { return this->edit_both(rest, List::split_before, at, rest.head_); }
 
-    /// Moves the member of `member`, an iterator of `given`, before the member of `at`, an iterator of this list, or to the back if `at` is end().
-    /// The moved member stays linked during the call. This and the next two calls return ic::status::broken if `given` is this list itself or a list
-    /// of another table.
+    /// Moves the member `*member` of `given` before the member `*at` of this list, or to the back if `at` is end(). The moved member stays linked
+    /// during the call. This call, transfer_after and transfer_before return ic::status::broken if `given` is this list itself or a list of another
+    /// table.
     status splice(iterator at, const edits_of_list &given, iterator member) const noexcept { return transfer_before(*at, given, *member); }
 
     /// Moves the member `place` of `given` after the member `at`, or to the front if `at` is `none`. `place` stays linked during the call.
@@ -831,7 +835,7 @@ public:
     using merges::merges;
 };
 
-/// These views read or edit doubly linked lists whose links have words of 4 bytes, and have no fill, sort or merge.
+/// These two views read or edit doubly linked lists whose links have words of 4 bytes. The views have no fill, sort or merge.
 using const_list32_view = detail::of_head<detail::placed<detail::doubly<detail::narrow_list>>>;
 using list32_view = detail::edits_of_list<detail::narrow_list>;
 
@@ -839,7 +843,7 @@ using list32_view = detail::edits_of_list<detail::narrow_list>;
 
 namespace detail {
 
-/// Reads the members of one ring, from the first member on. The first member is the place after the head.
+/// Reads the members of one ring, beginning with the first member, which is the place after the head.
 template <class Ring>
 class const_members_of_ring : public placed<circular<Ring>> {
     using base = placed<circular<Ring>>;
@@ -847,7 +851,7 @@ class const_members_of_ring : public placed<circular<Ring>> {
 public:
     const_members_of_ring(array_view<const typename Ring::link> table, std::uint32_t head) noexcept : base({table.data(), table.size(), head}) {}
 
-    /// Returns the iterator at a member, or end() if the place is the head, `none` or unlinked.
+    /// Returns an iterator at the member `place`, or end() if `place` is the head, `none` or unlinked.
     [[nodiscard]] typename base::iterator iterator_to(std::uint32_t place) const noexcept {
         return base::iterator_to(place == this->in_.head ? none : place);
     }
@@ -861,7 +865,7 @@ class members_of_ring : public end_edits<const_members_of_ring<Ring>> {
 public:
     using base::base;
 
-    /// Inserts a place before the member of an iterator, or at the back if the iterator is end().
+    /// Inserts `place` before the member `*at`, or at the back if `at` is end().
     status insert(typename base::iterator at, std::uint32_t place) const noexcept {
         return *at == none ? this->push_back(place) : static_cast<status>(Ring::insert_before(this->table_, this->in_.places, *at, place));
     }
@@ -880,14 +884,14 @@ public:
     [[nodiscard]] std::uint32_t next(std::uint32_t at) const noexcept { return Ring::next(in_.data(), in_.size(), at); }
     [[nodiscard]] std::uint32_t prev(std::uint32_t at) const noexcept { return Ring::prev(in_.data(), in_.size(), at); }
 
-    /// Returns a view of the members of the ring with this head, for a loop or an algorithm.
+    /// Returns a view of the members of the ring with the head `head`, for a loop or an algorithm.
     [[nodiscard]] const_members_of_ring<Ring> members(std::uint32_t head) const noexcept { return {in_, head}; }
 
 protected:
     array_view<const link> in_;
 };
 
-/// Edits the rings of a table. To remove or move a member, you do not name its ring. `Reads` is the view that reads the rings.
+/// Edits the rings of a table. To remove or move a member, you do not name its ring. The base class `Reads` reads the rings.
 template <class Ring, class Reads>
 class rings : public Reads {
     using link = typename Ring::link;
@@ -895,10 +899,10 @@ class rings : public Reads {
 public:
     rings(array_view<link> table) noexcept : Reads(array_view<const link>(table)), table_(table.data()), places_(table.size()) {}
 
-    /// Returns a view that reads and erases the members of the ring with this head.
+    /// Returns a view that reads and erases the members of the ring with the head `head`.
     [[nodiscard]] members_of_ring<Ring> members(std::uint32_t head) const noexcept { return {{table_, places_}, head}; }
 
-    /// Makes a place the head of a ring with no members.
+    /// Makes the place `head` the head of a ring with no members.
     status init(std::uint32_t head) const noexcept { return edit(Ring::init, head); }
 
     status insert_after(std::uint32_t at, std::uint32_t place) const noexcept { return edit(Ring::insert_after, at, place); }
@@ -913,15 +917,15 @@ public:
     status move_before(std::uint32_t at, std::uint32_t place) const noexcept { return edit(Ring::move_before, at, place); }
 
     /// splice_after moves all members of the ring with the head `given` after the place `at` of another ring, and splice_before moves them before
-    /// this place.
+    /// `at`.
     status splice_after(std::uint32_t at, std::uint32_t given) const noexcept { return edit(Ring::splice_after, at, given); }
     status splice_before(std::uint32_t at, std::uint32_t given) const noexcept { return edit(Ring::splice_before, at, given); }
 
-    /// Exchanges the positions of two places, in one ring or in two.
+    /// Exchanges the positions of the places `one` and `other`, which may be in one ring or in two.
     status swap(std::uint32_t one, std::uint32_t other) const noexcept { return edit(Ring::swap, one, other); }
 
-    /// move_range_after moves the places from `first` to `last` of a ring after the place `at` of the same or another ring, and move_range_before
-    /// moves them before `at`. `at` must not be one of the places that move.
+    /// move_range_after moves the places from `first` to `last` of a ring after the place `at` of the same ring or of another ring. move_range_before
+    /// moves these places before `at`. `at` must not be one of the places that move.
     status move_range_after(std::uint32_t at, std::uint32_t first, std::uint32_t last) const noexcept {
         return edit(Ring::move_range_after, at, first, last);
     }
@@ -929,15 +933,15 @@ public:
         return edit(Ring::move_range_before, at, first, last);
     }
 
-    /// Makes the place after `one` follow `other`, and the place after `other` follow `one`. `one` and `other` are in one ring or in two.
+    /// Makes the place after `one` follow `other`, and the place after `other` follow `one`. `one` and `other` may be in one ring or in two.
     status exchange(std::uint32_t one, std::uint32_t other) const noexcept { return edit(Ring::exchange, one, other); }
 
-    /// pop_front removes and returns the first member of the ring with this head, and pop_back the last one. pop_front and pop_back return
-    /// std::nullopt if there is no member or if the call is refused.
+    /// pop_front removes and returns the first member of the ring with the head `head`, and pop_back removes and returns the last member. Both calls
+    /// return std::nullopt if there is no member or if the call is refused.
     [[nodiscard]] std::optional<std::uint32_t> pop_front(std::uint32_t head) const noexcept { return taken(Ring::pop_front, head); }
     [[nodiscard]] std::optional<std::uint32_t> pop_back(std::uint32_t head) const noexcept { return taken(Ring::pop_back, head); }
 
-    /// Calls the function `then` with each member of the ring with this head. `then` may remove this member.
+    /// Calls the function `then` with each member of the ring with the head `head`. `then` may remove the member that it gets.
     template <class Function>
     void for_each(std::uint32_t head, Function then) const {
         IC_LOOP_SAFE(place, after, Ring::next(table_, places_, head), places_, place != head && this->is_linked(place), Ring::next(table_, places_, place))
@@ -975,8 +979,8 @@ class const_ring_view : public detail::const_rings<detail::wide_ring> {
 public:
     using const_rings::const_rings;
 
-    /// Returns how many members the ring with this head has, in O(n), or std::nullopt if the words form no ring with this head. Call check() if the
-    /// words come from a file, or from memory that others write.
+    /// Returns the number of members of the ring with the head `head`, in O(n), or std::nullopt if the words form no ring with this head. Call
+    /// check() if the words come from a file, or from memory to which other programs write.
     [[nodiscard]] std::optional<std::uint64_t> check(std::uint32_t head) const noexcept { return members(head).check(); }
 };
 
@@ -985,20 +989,20 @@ class ring_view : public detail::rings<detail::wide_ring, const_ring_view> {
 public:
     using rings::rings;
 
-    /// Returns a view that reads and erases the members of the ring with this head.
+    /// Returns a view that reads and erases the members of the ring with the head `head`.
     [[nodiscard]] ring_members members(std::uint32_t head) const noexcept { return {{table_, places_}, head}; }
 
-    /// Sorts the members of the ring with this head by their keys. `keys` has a key for each place. Members with equal keys keep their order.
+    /// Sorts the members of the ring with the head `head` by their keys. `keys` has a key for each place. Members with equal keys keep their order.
     status sort(array_view<const std::uint64_t> keys, std::uint32_t head) const noexcept { return members(head).sort(keys); }
 
-    /// Moves all members of the ring with the head `given` into the ring with the head `head`, which the call leaves sorted by keys if both rings
-    /// were sorted by keys. The moved members come after members with equal keys.
+    /// Moves all members of the ring with the head `given` into the ring with the head `head`. If both rings were sorted by keys, the ring with the
+    /// head `head` is sorted by keys after the call. Of members with equal keys, the moved members come last.
     status merge(array_view<const std::uint64_t> keys, std::uint32_t head, std::uint32_t given) const noexcept {
         return static_cast<status>(ic_ring_merge(table_, places_, keys.data(), keys.size(), head, given));
     }
 };
 
-/// These views read or edit the rings of a table whose links have words of 4 bytes, and have no check, sort or merge.
+/// These views read or edit the rings of a table whose links have words of 4 bytes. The views have no check, sort or merge.
 using const_ring32_members = detail::const_members_of_ring<detail::narrow_ring>;
 using ring32_members = detail::members_of_ring<detail::narrow_ring>;
 using const_ring32_view = detail::const_rings<detail::narrow_ring>;
@@ -1008,22 +1012,23 @@ using ring32_view = detail::rings<detail::narrow_ring, const_ring32_view>;
 
 using const_stack_view = detail::of_head<detail::members<detail::singly>>;
 
-/// Edits a singly linked list. The calls that take a member `at` edit the list after this member, or at the front if `at` is `none`.
+/// Edits a singly linked list. A call that takes a member `at` edits the list after `at`, or at the front if `at` is `none`.
 class stack_view : public detail::merges<detail::fills<detail::list_edits<detail::front_edits<const_stack_view>>>> {
 public:
     using merges::merges;
 
     status insert_after(std::uint32_t at, std::uint32_t place) const noexcept { return edit(ic_stack_insert_after, at, place); }
 
-    /// Removes the member after `at`, and returns the removed member, or returns std::nullopt if the call is refused.
+    /// Removes and returns the member after `at`, or returns std::nullopt if the call is refused.
     [[nodiscard]] std::optional<std::uint32_t> remove_after(std::uint32_t at) const noexcept { return taken(ic_stack_remove_after, at); }
 
-    /// Removes the member after `at`, and inserts `place` where it was. Returns the removed member, or std::nullopt if the call is refused.
+    /// Removes the member after `at`, inserts `place` in its position, and returns the removed member. If the call is refused, it returns
+    /// std::nullopt.
     [[nodiscard]] std::optional<std::uint32_t> replace_after(std::uint32_t at, std::uint32_t place) const noexcept {
         return taken(ic_stack_replace_after, at, place);
     }
 
-    /// Removes a place from any position in the list, in O(n).
+    /// Removes `place` from any position in the list, in O(n).
     status remove(std::uint32_t place) const noexcept { return edit(ic_stack_remove, place); }
 
     /// splice_after and split_after return ic::status::broken if `given` or `rest` is this list itself or a list of another table.
@@ -1037,7 +1042,7 @@ public:
 
 namespace detail {
 
-/// A struct hash_words has pointers to a table and to buckets that a view reads.
+/// A struct hash_words has pointers to the table and to the buckets that a view reads.
 struct hash_words {
     const ic_link1 *table = nullptr;
     std::size_t places = 0;
@@ -1091,7 +1096,7 @@ public:
     }
 
 private:
-    /// Moves the iterator to `place`, or, if `place` is not linked, to the first member of the next chain that has one.
+    /// Moves the iterator to `place` if `place` is linked, and otherwise to the first member of the next chain that has members.
     void go(std::uint32_t place) noexcept {
         while (!ic_stack_is_linked(in_.table, in_.places, place) && ++bucket_ < in_.bucket_count)
             place = ic_stack_first(&in_.buckets[bucket_]);
@@ -1105,8 +1110,9 @@ private:
 
 } // namespace detail
 
-/// Reads a hash table, which is an array of buckets. Each bucket is a singly linked list, which is called a chain, and a member is in the bucket with
-/// the index hash % bucket_count. Pass the same hash in each call for one object. A loop goes over all members, chain by chain.
+/// Reads a hash table, which is an array of buckets. Each bucket is a singly linked list, which is called a chain. The chain of a hash is the bucket
+/// with the index hash % bucket_count. Your hash function computes the hash of an object from its key, so pass the same hash whenever you name this
+/// object. A loop goes over all members, chain by chain.
 class const_hash_view : public detail::view_base {
 public:
     using keys_view = array_view<const std::uint64_t>;
@@ -1124,8 +1130,8 @@ public:
     /// Returns whether `place` is a member of this hash table, or of another list or hash table of the same table of links.
     [[nodiscard]] bool is_linked(std::uint32_t place) const noexcept { return ic_stack_is_linked(in_.table, in_.places, place) != 0; }
 
-    /// Returns the first member with this key in the chain of the hash, or std::nullopt if there is none or if the call is refused. If several
-    /// members have this key, the first of them is the one that was inserted last.
+    /// Returns the first member with the key `key` in the chain of `hash`, or std::nullopt if there is none or if the call is refused. If several
+    /// members have this key, the first of them is the one that you inserted last.
     [[nodiscard]] std::optional<std::uint32_t> find(keys_view keys, std::uint64_t hash, std::uint64_t key) const noexcept {
         std::uint32_t place = none;
         const std::uint32_t done =
@@ -1133,17 +1139,17 @@ public:
         return found(done, place);
     }
 
-    /// Returns the first member after the member `at` in the same chain that has the same key as `at`, or std::nullopt if there is none or if the
-    /// call is refused.
+    /// Returns the next member after the member `at` that is in the same chain as `at` and has the same key as `at`. If there is none, or if the call
+    /// is refused, it returns std::nullopt.
     [[nodiscard]] std::optional<std::uint32_t> next_equal(keys_view keys, std::uint32_t at) const noexcept {
         std::uint32_t place = none;
         const std::uint32_t done = ic_hash_next_equal(in_.table, in_.places, keys.data(), keys.size(), at, &place);
         return found(done, place);
     }
 
-    /// Returns how many members there are, in O(buckets + n), or std::nullopt if the words form no hash table in which each member is in the chain of
-    /// its hash, or if the call is refused. `hashes` has the hash of each place. Call check() if the words come from a file, or from memory that
-    /// others write.
+    /// Returns the number of members, in O(buckets + n), or std::nullopt if the call is refused. The call is refused if the words form no hash table,
+    /// or if a member is not in the chain of its hash. `hashes` has the hash of each place. Call check() if the words come from a file, or from
+    /// memory to which other programs write.
     [[nodiscard]] std::optional<std::uint64_t> check(keys_view hashes) const noexcept {
         std::uint64_t count = 0;
         const std::uint32_t done =
@@ -1151,7 +1157,7 @@ public:
         return done == IC_OK ? std::optional<std::uint64_t>(count) : std::nullopt;
     }
 
-    /// Returns the first member for which the predicate is true in the chain of the hash, or std::nullopt if there is none.
+    /// Returns the first member in the chain of `hash` for which the predicate is true, or std::nullopt if there is none.
     template <class Predicate>
     [[nodiscard]] std::optional<std::uint32_t> find_by(std::uint64_t hash, Predicate is_equal) const {
         IC_HASH_FOREACH(place, in_.table, in_.places, in_.buckets, in_.bucket_count, hash)
@@ -1160,7 +1166,7 @@ public:
         return std::nullopt;
     }
 
-    /// Returns a view of the chain of a hash, which is a singly linked list. The hash table must have a bucket.
+    /// Returns a view of the chain of `hash`, which is a singly linked list. The hash table must have at least one bucket.
     [[nodiscard]] const_stack_view chain(std::uint64_t hash) const noexcept {
         return {{in_.table, in_.places}, in_.buckets[hash % in_.bucket_count]};
     }
@@ -1208,15 +1214,16 @@ class hash_view : public detail::erases<detail::hash_writes> {
 public:
     using erases::erases;
 
-    /// Inserts a place at the front of the chain of the hash.
+    /// Inserts `place` at the front of the chain of `hash`.
     status insert(std::uint64_t hash, std::uint32_t place) const noexcept { return edit(ic_hash_insert, hash, place); }
 
-    /// Removes a place from any position in the chain of the hash.
+    /// Removes `place` from any position in the chain of `hash`.
     status remove(std::uint64_t hash, std::uint32_t place) const noexcept { return edit(ic_hash_remove, hash, place); }
 
-    /// Moves each member of `chain`, a bucket of another array, to the chain of its hash in this hash table. Members that move to the same chain keep
-    /// their order, and come first in it. `hashes` has the hash of each place. The call returns ic::status::broken if `chain` is a bucket of this
-    /// hash table. To grow or shrink a hash table, make a view of a second array of buckets, and make this call for each bucket of the old array.
+    /// Moves each member of `chain`, a bucket of another array, to the chain of the member's hash in this hash table. Members that move to the same
+    /// chain keep their order, and come first in this chain. `hashes` has the hash of each place. The call returns ic::status::broken if `chain` is a
+    /// bucket of this hash table. To grow or shrink a hash table, make a view of a second array of buckets, and make this call for each bucket of the
+    /// old array.
     status move_chain(keys_view hashes, ic_stack &chain) const noexcept {
         for (std::size_t i = 0; i < in_.bucket_count; ++i)
             if (&chain == &buckets_[i])
@@ -1225,7 +1232,7 @@ public:
             ic_hash_move_chain(table_, in_.places, hashes.data(), hashes.size(), &chain, buckets_, in_.bucket_count));
     }
 
-    /// Returns a view of the chain of a hash, which is a singly linked list. The hash table must have a bucket.
+    /// Returns a view of the chain of `hash`, which is a singly linked list. The hash table must have at least one bucket.
     [[nodiscard]] stack_view chain(std::uint64_t hash) const noexcept { return {{table_, in_.places}, buckets_[hash % in_.bucket_count]}; }
 };
 
@@ -1233,13 +1240,13 @@ public:
 
 using const_xor_view = detail::of_head<detail::two_way<detail::xored>>;
 
-/// Edits an XOR list. To insert in the middle, you pass an iterator, or the members `before` and `after` between which you insert. At the front
-/// `before` is `none`, and at the back `after` is `none`.
+/// Edits an XOR list. To insert in the middle, you pass an iterator, or the members `before` and `after` between which you insert. To insert at the
+/// front, pass `none` as `before`. To insert at the back, pass `none` as `after`.
 class xor_view : public detail::fills<detail::list_edits<detail::end_edits<const_xor_view>>> {
 public:
     using fills::fills;
 
-    /// Inserts a place before the member of an iterator, or at the back if the iterator is end().
+    /// Inserts `place` before the member `*at`, or at the back if `at` is end().
     status insert(iterator at, std::uint32_t place) const noexcept { return insert_between(front_of(at), place, *at); }
     status insert_between(std::uint32_t before, std::uint32_t place, std::uint32_t after) const noexcept {
         return edit(ic_xor_insert_between, before, place, after);
@@ -1250,8 +1257,8 @@ public:
     }
     void reverse() const noexcept { ic_xor_reverse(head_); }
 
-    /// Moves all members of `given` before the member of an iterator, or to the back if the iterator is end(). This and the next three calls return
-    /// ic::status::broken if `given` or `rest` is this list itself or a list of another table.
+    /// Moves all members of `given` before the member `*at`, or to the back if `at` is end(). The calls splice, splice_between, append and
+    /// split_between return ic::status::broken if `given` or `rest` is this list itself or a list of another table.
     status splice(iterator at, xor_view given) const noexcept { return splice_between(front_of(at), given, *at); }
     status splice_between(std::uint32_t before, xor_view given, std::uint32_t after) const noexcept {
         return edit_both(given, ic_xor_splice_between, before, given.head_, after);
@@ -1267,14 +1274,14 @@ private:
 
 // ---- Red-black trees ---------------------------------------------------------------------------------------------------------------
 
-/// Reads a tree. A search by keys takes an array_view of the keys, which has a number for each place.
+/// Reads a tree. A search by keys takes a keys_view, which is an array_view with a key for each place.
 class const_tree_view : public detail::of_head<detail::placed<detail::red_black>> {
 public:
     using keys_view = array_view<const std::uint64_t>;
     using of_head::of_head;
 
-    /// Returns the first member with this key. All searches by keys return std::nullopt if they find no member, if there are fewer keys than places,
-    /// or if the root is not linked in this table.
+    /// Returns the first member with the key `key`. Each search by keys returns std::nullopt if it finds no member, if there are fewer keys than
+    /// places, or if the root is not linked in this table.
     [[nodiscard]] std::optional<std::uint32_t> find(keys_view keys, std::uint64_t key) const noexcept {
         return search(ic_tree_find, keys, key);
     }
@@ -1284,7 +1291,8 @@ public:
         return search(ic_tree_lower_bound, keys, key);
     }
 
-    /// Returns the first member whose key is greater than `key`, as in the standard library. The call ic_tree_upper_bound of C is at_most() in C++.
+    /// Returns the first member whose key is greater than `key`, as in the standard library. The call ic_tree_upper_bound of C is named at_most() in
+    /// C++.
     [[nodiscard]] std::optional<std::uint32_t> upper_bound(keys_view keys, std::uint64_t key) const noexcept {
         return key < UINT64_MAX ? lower_bound(keys, key + 1) : std::nullopt;
     }
@@ -1294,22 +1302,24 @@ public:
         return search(ic_tree_upper_bound, keys, key);
     }
 
-    /// A sums_view has a value and a sum for each place. A call that writes sums takes a writable_sums_view. The section on trees with sums in ic.h
+    /// A sums_view has a value and a sum for each place. A call that writes sums takes a writable_sums_view. In ic.h, the section on trees with sums
     /// says what a sum is.
     using sums_view = array_view<const ic_sum>;
     using writable_sums_view = array_view<ic_sum>;
 
-    /// Returns the sum at the root, in O(1), which is the combined value of all members if the sums are right. Returns 0 if the tree has no member.
+    /// Returns the sum at the root, in O(1). If the sums are right, this is the combined value of all members. The call returns 0 if the tree has no
+    /// members.
     [[nodiscard]] std::uint64_t sums_total(sums_view sums) const noexcept { return ic_tree_sums_total(sums.data(), sums.size(), in_.head); }
 
-    /// Makes the sums right after you have changed the value of `at`, in O(log n). If `at` is `none`, the call makes all sums right after any edits,
-    /// in O(p log p) for p places.
+    /// Makes the sums right after you have changed the value of the member `at`, in O(log n). If `at` is `none`, the call makes all sums of the table
+    /// right after any edits, in O(p log p) for a table of p places.
     status sums_renew(writable_sums_view sums, std::uint32_t sum_kind, std::uint32_t at = none) const noexcept {
         return static_cast<status>(ic_tree_sums_renew(in_.table, in_.places, sums.data(), sums.size(), sum_kind, at));
     }
 
-    /// Combines the values of the members after `at`, or of all members if `at` is `none`, in their order, and returns the first member at which the
-    /// combined value is greater than `bound`. The call returns std::nullopt if there is no such member, or if the call is refused.
+    /// Returns the first member at which the combined value becomes greater than `bound`. The call combines the values of the members one after the
+    /// other, in their order. It begins with the member after the member `at`, or with the first member if `at` is `none`. The call returns
+    /// std::nullopt if there is no such member, or if the call is refused.
     [[nodiscard]] std::optional<std::uint32_t> sums_find(sums_view sums, std::uint32_t sum_kind, std::uint64_t bound, std::uint32_t at = none) const noexcept {
         std::uint32_t member = none;
         const std::uint32_t done = ic_tree_sums_find(in_.table, in_.places, sums.data(), sums.size(), sum_kind, in_.head, at, bound, &member);
@@ -1323,9 +1333,9 @@ public:
         return done == IC_OK ? std::optional<std::uint64_t>(sum) : std::nullopt;
     }
 
-    /// Returns the first member after `at`, or the first of all members if `at` is `none`, whose interval overlaps the interval that begins at `from`
-    /// and ends before `to`. The interval of a member begins at its key and ends before its value. The call returns std::nullopt if there is no such
-    /// member, or if the call is refused.
+    /// Returns the first member whose interval overlaps the interval that begins at `from` and ends before `to`. The search begins after the member
+    /// `at`, or at the first member if `at` is `none`. The interval of a member begins at its key and ends before its value. The call returns
+    /// std::nullopt if there is no such member, or if the call is refused.
     [[nodiscard]] std::optional<std::uint32_t> sums_overlap(keys_view keys, sums_view sums, std::uint64_t from, std::uint64_t to,
                                                             std::uint32_t at = none) const noexcept {
         std::uint32_t member = none;
@@ -1334,14 +1344,15 @@ public:
         return done == IC_OK ? found(member) : std::nullopt;
     }
 
-    /// Returns an iterator at the first member with this key, and an iterator at the member after the last member with this key.
+    /// Returns an iterator at the first member with the key `key`, and an iterator at the member after the last member with this key. If no member
+    /// has this key, both iterators are at the first member with a greater key, or at the end.
     [[nodiscard]] std::pair<iterator, iterator> equal_range(keys_view keys, std::uint64_t key) const noexcept {
         return {iterator_to(lower_bound(keys, key).value_or(none)), iterator_to(upper_bound(keys, key).value_or(none))};
     }
 
     /// Returns the first member `at` for which `order(at)` is 0, or std::nullopt if there is none. `order(at)` compares the key that you look for
-    /// with the key of `at`, and is negative if your key comes before the key of `at`, 0 if the keys are equal, and positive otherwise, as with
-    /// strcmp and `<=>`.
+    /// with the key of the member `at`. Its value must be negative if your key comes before the key of `at`, 0 if the keys are equal, and positive if
+    /// your key comes after the key of `at`, as with strcmp and `<=>`.
     template <class Order>
     [[nodiscard]] std::optional<std::uint32_t> find_by(Order order) const {
         std::uint32_t first = none;
@@ -1353,8 +1364,8 @@ public:
         return found(first);
     }
 
-    /// Returns the first member for which the predicate is false, or std::nullopt if there is none. The predicate must be false for all later
-    /// members, too.
+    /// Returns the first member for which the predicate is false, or std::nullopt if there is none. The predicate must be false for all members after
+    /// this one, too.
     template <class Predicate>
     [[nodiscard]] std::optional<std::uint32_t> partition_point(Predicate is_before) const {
         std::uint32_t first = none;
@@ -1367,14 +1378,15 @@ public:
     }
 
 protected:
-    /// A hole is where a descent from the root ends, so that a place can be inserted: as the left or the right child of the member `under`, or as the
-    /// root if `under` is `none`.
+    /// A hole is the position in which a descent from the root ends, and into which a place can be inserted. The place becomes the left or the right
+    /// child of the member `under`, or the root if `under` is `none`.
     struct hole {
         std::uint32_t under = none;
         bool is_left = true;
     };
 
-    /// Descends from the root, to the left child of each member for which the predicate is true, and to the right child of each other member.
+    /// Descends from the root. At each member the descent goes to the left child if the predicate is true for this member, and otherwise to the right
+    /// child.
     template <class Predicate>
     hole descend(Predicate goes_left) const {
         hole end;
@@ -1399,12 +1411,13 @@ class tree_view : public detail::erases<detail::writes<const_tree_view>> {
 public:
     using erases::erases;
 
-    /// Inserts a place by its key, after all members whose keys are not greater than the key of the place.
+    /// Inserts `place` by its key, after all members whose keys are not greater than the key of `place`.
     status insert(keys_view keys, std::uint32_t place) const noexcept {
         return static_cast<status>(ic_tree_insert(table_, in_.places, keys.data(), keys.size(), head_, place));
     }
 
-    /// Inserts a place by a comparison of yours, after all members that are not greater: `is_less(one, other)` compares two places.
+    /// Inserts `place` by a comparison of yours, after all members that are not greater than `place`. `is_less(one, other)` returns whether the place
+    /// `one` is less than the place `other`.
     template <class Less>
     status insert_by(std::uint32_t place, Less is_less) const {
         if (place >= ic_bound(in_.places))
@@ -1413,8 +1426,8 @@ public:
         return end.is_left ? insert_left(end.under, place) : insert_right(end.under, place);
     }
 
-    /// Inserts a place if no member has its key, and returns the first member with this key, which may be `place`. If the call is refused, it returns
-    /// std::nullopt.
+    /// Inserts `place` if no member has its key. The call returns the first member with this key, which is `place` if the call has inserted it. If
+    /// the call is refused, it returns std::nullopt.
     [[nodiscard]] std::optional<std::uint32_t> insert_unique(keys_view keys, std::uint32_t place) const noexcept {
         std::uint32_t member = none;
         const std::uint32_t done = ic_tree_insert_unique(table_, in_.places, keys.data(), keys.size(), head_, place, &member);
@@ -1426,7 +1439,7 @@ public:
     status remove(std::uint32_t at) const noexcept { return edit(ic_tree_remove, at); }
     status replace(std::uint32_t at, std::uint32_t place) const noexcept { return edit(ic_tree_replace, at, place); }
 
-    /// Inserts a place as insert() does, and updates each sum that the insertion changes, in O(log n).
+    /// Inserts `place` as insert() does, and updates each sum that the insertion changes, in O(log n).
     status sums_insert(keys_view keys, writable_sums_view sums, std::uint32_t sum_kind, std::uint32_t place) const noexcept {
         return static_cast<status>(
             ic_tree_sums_insert(table_, in_.places, keys.data(), keys.size(), sums.data(), sums.size(), sum_kind, head_, place));
@@ -1444,26 +1457,27 @@ public:
         return edit_summed(ic_tree_sums_remove, sums, sum_kind, at);
     }
 
-    /// Removes the first member, and returns it, or returns std::nullopt if there is none. If the tree is not empty(), std::nullopt means that the
-    /// root is not linked in this table.
+    /// Removes and returns the first member, or returns std::nullopt if there is none. If the tree is not empty(), std::nullopt means that the root
+    /// is not linked in this table.
     [[nodiscard]] std::optional<std::uint32_t> pop_front() const noexcept { return popped(*begin()); }
 
-    /// Removes the last member, and returns it, or returns std::nullopt if there is none. If the tree is not empty(), std::nullopt means that the
-    /// root is not linked in this table.
+    /// Removes and returns the last member, or returns std::nullopt if there is none. If the tree is not empty(), std::nullopt means that the root is
+    /// not linked in this table.
     [[nodiscard]] std::optional<std::uint32_t> pop_back() const noexcept { return popped(*rbegin()); }
 
     /// Moves all members of `given` after the members of this tree, and leaves `given` empty, in O(n). The calls append, join and split compare no
-    /// keys, and check the trees first. If the links form no trees, or if both trees are the same tree, a call returns ic::status::broken and changes
-    /// nothing.
+    /// keys, and first check whether the links form the trees. If they do not, or if you pass this tree as `given` or `rest`, the call returns
+    /// ic::status::broken and changes nothing.
     status append(tree_view given) const noexcept { return edit_both(given, ic_tree_append, given.head_); }
 
-    /// Inserts a place after all members of this tree, and moves all members of `given` after this place, in O(n).
+    /// Inserts `place` after all members of this tree, moves all members of `given` after `place`, and leaves `given` empty, in O(n).
     status join(std::uint32_t place, tree_view given) const noexcept { return edit_both(given, ic_tree_join, place, given.head_); }
 
     /// Moves the member `at` and all members after `at` to `rest`, which has to be empty, in O(n).
     status split(std::uint32_t at, tree_view rest) const noexcept { return edit_both(rest, ic_tree_split, at, rest.head_); }
 
-    /// Removes all members. If the links form no tree, the call returns ic::status::broken and changes nothing.
+    /// Removes all members. If a walk over the members goes in a circle, or comes to a place that is not linked, the call returns ic::status::broken
+    /// and changes nothing.
     status clear() const noexcept { return edit(ic_tree_clear); }
 
 private:
@@ -1492,19 +1506,19 @@ protected:
 
 } // namespace detail
 
-/// Edits a tree together with an ic_tree_ends of yours, which names the first and the last member. Edit a tree with an ic_tree_ends only by this
+/// Edits a tree together with an ic_tree_ends of yours, which names the first and the last member. Edit a tree that has an ic_tree_ends only by this
 /// view.
 class tree_ends_view : public detail::erases<detail::ends_writes> {
 public:
     using erases::erases;
 
-    /// Returns the first member, in O(1), or std::nullopt if there is none or if it is not linked in this table.
+    /// Returns the first member, in O(1), or std::nullopt if there is none or if the first member is not linked in this table.
     [[nodiscard]] std::optional<std::uint32_t> front() const noexcept { return found(ic_tree_ends_first(table_, in_.places, ends_)); }
 
-    /// Returns the last member, in O(1), or std::nullopt if there is none or if it is not linked in this table.
+    /// Returns the last member, in O(1), or std::nullopt if there is none or if the last member is not linked in this table.
     [[nodiscard]] std::optional<std::uint32_t> back() const noexcept { return found(ic_tree_ends_last(table_, in_.places, ends_)); }
 
-    /// Inserts a place by its key, after all members whose keys are not greater than the key of the place.
+    /// Inserts `place` by its key, after all members whose keys are not greater than the key of `place`.
     status insert(keys_view keys, std::uint32_t place) const noexcept {
         return static_cast<status>(ic_tree_ends_insert(table_, in_.places, keys.data(), keys.size(), head_, ends_, place));
     }
@@ -1513,10 +1527,11 @@ public:
     status remove(std::uint32_t at) const noexcept { return edit(ic_tree_ends_remove, ends_, at); }
     status replace(std::uint32_t at, std::uint32_t place) const noexcept { return edit(ic_tree_ends_replace, ends_, at, place); }
 
-    /// Removes the first member, and returns it, or returns std::nullopt if the ends name no first member or if the call is refused.
+    /// Removes and returns the first member, or returns std::nullopt if the ends name no first member, or if the call is refused.
     [[nodiscard]] std::optional<std::uint32_t> pop_front() const noexcept { return taken(ic_tree_ends_pop_first, ends_); }
 
-    /// Removes all members. If the links form no tree, the call returns ic::status::broken and changes nothing.
+    /// Removes all members. If a walk over the members goes in a circle, or comes to a place that is not linked, the call returns ic::status::broken
+    /// and changes nothing.
     status clear() const noexcept {
         const status done = edit(ic_tree_clear);
         if (done == status::ok)

@@ -1,10 +1,10 @@
-/* This header has each call, read and loop of ic.h for a handle. A handle is a struct with pointers to a table and to a list, buckets or a tree, and
- * with the length of the table.
+/* This header has each call, read and loop of ic.h in a form that takes a handle. A handle is a struct with pointers to a table and to a list,
+ * buckets or a tree, and with the length of the table.
  *
- * A call of ic.h takes a table and its length, and then places. A length and a place are both numbers, so the compiler gives no warning if you swap
- * them. A call of this header has `in_` in its name, and takes a handle in place of the table, the table's length and the list, so that you name the
- * length once. You own the arrays and lists, and can copy a handle as you copy a pointer. The functions of this header are inline, and take as many
- * instructions as the calls of ic.h.
+ * A call of ic.h takes a table, the length of the table, and places. A length and a place are both numbers, so the compiler gives no warning if you
+ * swap them. A call of this header has `in_` in its name. It takes a handle instead of the table, the length and the list, so you name the length
+ * only once, in the handle. You own the arrays and lists, and can copy a handle as you copy a pointer. The functions of this header are inline, and
+ * take as many instructions as the calls of ic.h.
  *
  *     static struct ic_link2 links[100];
  *     static struct ic_list list;
@@ -16,9 +16,9 @@
  *         printf("%u\n", (unsigned)place);
  *     status = ic_list_in_pop_front(jobs, &oldest);
  *
- * For each call, the comment in ic.h at the name without `in_` says what the call does. If a call takes a second list or tree, `given` or `rest`,
- * you pass a handle for it. If this handle is for another table, or for the list or tree of the first handle, the call returns IC_BROKEN and changes
- * nothing.
+ * For each call, ic.h has a call whose name has no `in_`, and whose comment says what both calls do. If a call takes a second list or tree, `given`
+ * or `rest`, you pass a second handle. If the second handle is for another table than the first, or for the same list or tree, the call returns
+ * IC_BROKEN and changes nothing.
  */
 #ifndef IC_IN_H
 #define IC_IN_H
@@ -29,11 +29,11 @@
 extern "C" {
 #endif
 
-/* IC_TABLE(links) is the first two values of a handle, the table and its length, where `links` is an array. Compilers warn if `links` is a
+/* If `links` is an array, IC_TABLE(links) expands to the first two values of a handle, the table and its length. Compilers warn if `links` is a
  * pointer. */
 #define IC_TABLE(links) (links), sizeof(links) / sizeof *(links)
 
-/* A struct ic_keys has a pointer to the keys, one for each place, and the number of keys. */
+/* A struct ic_keys has a pointer to an array with a key for each place, and the number of keys. */
 struct ic_keys {
     const uint64_t *keys;
     ic_length count;
@@ -41,7 +41,7 @@ struct ic_keys {
 
 /* ---- Doubly linked lists ---- */
 
-/* This is a handle for a doubly linked list of a table. */
+/* A struct ic_list_in is a handle for a doubly linked list and its table. */
 struct ic_list_in {
     struct ic_link2 *table;
     ic_length places;
@@ -251,7 +251,7 @@ static inline uint32_t ic_list_in_transfer_before(struct ic_list_in in, uint32_t
 
 /* ---- Doubly linked lists with words of 4 bytes ---- */
 
-/* This is a handle for a doubly linked list of a table whose links have words of 4 bytes. */
+/* A struct ic_list32_in is a handle for a doubly linked list and its table, whose links have words of 4 bytes. */
 struct ic_list32_in {
     struct ic_link2_32 *table;
     ic_length places;
@@ -444,7 +444,7 @@ static inline int ic_list32_in_is_singular(struct ic_list32_in in) {
 
 /* ---- Rings ---- */
 
-/* This is a handle for a table of rings, whose heads are places of the table. */
+/* A struct ic_ring_in is a handle for a table of rings. The heads of the rings are places of this table. */
 struct ic_ring_in {
     struct ic_link2 *table;
     ic_length places;
@@ -614,7 +614,7 @@ static inline uint32_t ic_ring_in_merge(struct ic_ring_in in, struct ic_keys key
 
 /* ---- Rings with words of 4 bytes ---- */
 
-/* This is a handle for a table of rings with words of 4 bytes, whose heads are places of the table. */
+/* A struct ic_ring32_in is a handle for a table of rings, whose links have words of 4 bytes. The heads of the rings are places of this table. */
 struct ic_ring32_in {
     struct ic_link2_32 *table;
     ic_length places;
@@ -770,7 +770,7 @@ static inline uint32_t ic_ring32_in_move_range_before(struct ic_ring32_in in, ui
 
 /* ---- Singly linked lists ---- */
 
-/* This is a handle for a singly linked list of a table. */
+/* A struct ic_stack_in is a handle for a singly linked list and its table. */
 struct ic_stack_in {
     struct ic_link1 *table;
     ic_length places;
@@ -894,8 +894,8 @@ static inline uint32_t ic_stack_in_remove(struct ic_stack_in in, uint32_t place)
 
 /* ---- Hash tables ---- */
 
-/* This is a handle for a hash table over a table of links, with the keys of all places. If you never call ic_hash_in_find or
- * ic_hash_in_next_equal, you may leave the keys out. */
+/* A struct ic_hash_in is a handle for the buckets of a hash table, the table of its links, and the keys of all places. If you never call
+ * ic_hash_in_find or ic_hash_in_next_equal, you may leave the keys out. */
 struct ic_hash_in {
     struct ic_link1 *table;
     ic_length places;
@@ -955,7 +955,7 @@ static inline uint32_t ic_hash_in_move_chain(struct ic_hash_in in, struct ic_key
 
 /* ---- XOR lists ---- */
 
-/* This is a handle for an XOR list of a table. */
+/* A struct ic_xor_in is a handle for an XOR list and its table. */
 struct ic_xor_in {
     struct ic_link1 *table;
     ic_length places;
@@ -1090,7 +1090,8 @@ static inline uint32_t ic_xor_in_reverse(struct ic_xor_in in) {
 
 /* ---- Red-black trees ---- */
 
-/* This is a handle for a tree of a table, with the keys of all places. If you order the tree by a comparison of yours, you may leave the keys out. */
+/* A struct ic_tree_in is a handle for a tree, its table, and the keys of all places. If you order the tree by a comparison of yours, you may leave
+ * the keys out. */
 struct ic_tree_in {
     struct ic_link3 *table;
     ic_length places;

@@ -27,7 +27,9 @@ ERRORS = {"NULL": "Null", "OUT_OF_RANGE": "OutOfRange", "LINKED": "Linked", "NOT
 BOUND = {"self": "this list", "rest_has": "", "accepted": "the call returns a number"}
 # What a list is called that a call hands out.
 NEW = {"tree": "a new tree, which the call returns"}
-RETURNED = {"members": "returns how many there are", "replaced": "returns the removed member"}
+# To what a call sets an out parameter in C, and what a method returns in its place.
+SET = {"members": "their number", "replaced": "the removed member", "sum": "this value"}
+RETURNED = {"members": "returns their number", "replaced": "returns the removed member", "sum": "returns this value"}
 # How many columns a line of comments, of C and of Rust has at most.
 COMMENT, C_LINE, RUST_LINE = 140, 142, 120
 SAFETY = "// SAFETY: each pointer comes from a reference, with the length of its slice, and no mutable reference overlaps another one."
@@ -36,7 +38,8 @@ SAFETY = "// SAFETY: each pointer comes from a reference, with the length of its
 def bound_words(call, none, greatest):
     """What the bindings have in place of the words in braces."""
     rest = NEW.get(call.family, "a new list, which the call returns")
-    return {**BOUND, "none": none, "greatest": greatest, "rest": rest, "out": RETURNED.get(outcome(call), "returns it")}
+    own = "this tree" if call.family == "tree" else BOUND["self"]
+    return {**BOUND, "self": own, "none": none, "greatest": greatest, "rest": rest, "out": RETURNED.get(outcome(call), "returns this member")}
 
 
 def sentences(call, words):
@@ -87,9 +90,8 @@ def commented(lines, begin, middle, end):
 def header(call):
     """The prototype with its comment."""
     out = outcome(call)
-    words = {"none": "IC_NONE", "self": "`list`", "rest": "`rest`, which has to be empty", "rest_has": ", or `rest` has members",
-             "greatest": "IC_GREATEST", "accepted": "the status is IC_OK", "out": f"sets *{out} to it"}
-    words["out"] = {"members": "sets *members to how many there are", "replaced": "sets *replaced to the removed member"}.get(out, words["out"])
+    words = {"none": "IC_NONE", "self": f"`{'tree' if call.family == 'tree' else 'list'}`", "rest": "`rest`, which has to be empty",
+             "rest_has": ", or `rest` has members", "greatest": "IC_GREATEST", "accepted": "the status is IC_OK", "out": f"sets *{out} to {SET.get(out, 'this member')}"}
     lines = textwrap.wrap(sentences(call, words), COMMENT - 3)
     said = refusals(broken(call, words), "IC_NONE", "`places`")
     lines += textwrap.wrap(" ".join(f"IC_{status}: {when}." for status, when in said.items()), COMMENT - 3)

@@ -19,7 +19,7 @@ RATTLE_ALONE = {
     "Containers of objects": ("ic_container", "Listed"),
     "Objects in an index, and in a list": ("ic_indexed", "Indexed"),
     "Values by their keys, in the order of their use": ("ic_keyed", "Keyed"),
-    "A hash table as the index of these": ("ic_hash_index", "HashIndex"),
+    "A hash table as the index of a container": ("ic_hash_index", "HashIndex"),
     "Caches": ("lru_cache", "LruCache"),
     "Places that threads claim": ("ic_atomic", "Claims"),
     "Stacks to which threads push without a lock": ("ic_lock_free_stack", "Stacks"),

@@ -68,8 +68,9 @@ def introductions():
 def words_of(call):
     """What differs between the languages, as the header has it."""
     out = call_texts.outcome(call)
-    return {"none": "`IC_NONE`", "self": "`list`", "rest": "`rest`, which has to be empty", "rest_has": ", or `rest` has members",
-            "greatest": "`IC_GREATEST`", "accepted": "the status is `IC_OK`", "out": f"sets `*{out}` to {'how many there are' if out == 'members' else 'it'}"}
+    return {"none": "`IC_NONE`", "self": f"`{'tree' if call.family == 'tree' else 'list'}`", "rest": "`rest`, which has to be empty",
+            "rest_has": ", or `rest` has members", "greatest": "`IC_GREATEST`", "accepted": "the status is `IC_OK`",
+            "out": f"sets `*{out}` to {call_texts.SET.get(out, 'this member')}"}
 
 
 def called(call):

@@ -8,7 +8,7 @@ use ic_atomic::{Claims, Holder};
 use ic_unsafe_ref::Place;
 use std::alloc::Global;
 
-/// What a step does with a place: it claims the place, gives it up, or looks whether anybody holds it.
+/// What a step does with a place: it claims the place, gives it up, or checks whether anybody holds it.
 #[derive(Clone, Copy)]
 pub(crate) enum Act {
     Claim,

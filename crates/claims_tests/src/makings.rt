@@ -110,8 +110,7 @@ fn is_replayed(memory: &Rationed) -> bool {
         && answers.as_slice() == [true, false, true, true, true, true, false].as_slice()
 }
 
-// A core with more places than can exist must be refused, a core must be refused if there is no memory, and a replay that is refused memory must change
-// nothing.
+// A core must be refused if it has more places than can exist, or if there is no memory. A replay that is refused memory must change nothing.
 // Promise: a core without memory, always-out-of-memory in a core.
 #[test]
 fn a_core_is_refused_memory(rt: HostRuntime) {

@@ -67,8 +67,8 @@ pub(crate) fn are_linked<L: Links>(links: &mut L, count: usize) -> bool
     as_wanted
 }
 
-/// Inserts the first seven objects, which the other party must not be able to insert until they are given up. Returns whether both parties see these
-/// places linked, and the other party can insert afterwards.
+/// Inserts the first seven objects, which the other party must not be able to insert until they are given up. Returns whether both parties see these places
+/// linked, and whether the other party can insert the objects afterwards.
 // Promise: two holders and one place.
 pub(crate) fn are_seen<L: Links, C: Collection<L>, M: Links + LinkedListOps>(
     mut collection: C,
@@ -103,8 +103,7 @@ pub(crate) fn is_cleared<L: Links + RBTreeOps, M: Links>(links: &mut L, other: &
     as_wanted & are_linked(other, 0)
 }
 
-/// Inserts the first three objects into a list, removes the first member, the last one and the remaining one, and returns the indices of their
-/// places.
+/// Inserts the first three objects into a list, and removes the first member, the last one and the remaining one. Returns the indices of their places.
 pub(crate) fn take_off<L: Links + LinkedListOps>(links: &mut L) -> Option<[usize; 3]> {
     let mut list: LinkedList<u64> = LinkedList::new();
     let _ = put(&mut list, links, 0);

@@ -44,7 +44,7 @@ const LEFT: &[Row] = &[
     (1, A, Act::Look, 0, true),
 ];
 
-// Returns the step of a core that does this with the place.
+// Returns the step of a core that does `act` with the place.
 fn step(act: Act, place: Place) -> Step
     ensures { target result ≡ place }
 {

@@ -1,5 +1,5 @@
--- Each call of a test leaves what the next call requires. The table covers as many places as before. The part that was split off is represented and
--- shares no member with the rest. The cursor is valid after both parts are put together again.
+-- Lemmas on edits by a cursor: each call of a test leaves what the next call requires. An insert does not change how many places the table covers. After a
+-- split, the two parts share no member, so a splice can put them together again.
 use Rattle.std.proofs.Common.{◌≡◌, Bool, Result, Ok, Err, List, [], ap}
 use Rattle.ic_link_ops.specs.Prelude.{Place, IsAfter, IsBefore, Table, CursorState, IsValidCursor, LinkStep}
 use Rattle.ic_link_ops.specs.declared.errors.AlreadyLinked.{AlreadyLinked}
@@ -11,7 +11,8 @@ use Rattle.ic_link_ops.proofs.SequenceLemmas.{gap_before}
 use Rattle.ic_link_ops.proofs.TwoLists.{split_after, split_before}
 
 module _ {L E H : Type 0} {Represents : Table E → H → List Place → Type 0} {table : L → Table E} where
-  -- AS MANY PLACES ARE COVERED after an insert at a cursor as before. `keeps` is the law that a refusal changes no entry
+  -- an insert before the cursor, or after it, does not change how many places the table covers. `keeps` is the law that a refused insert does not change
+  -- the table
   pub covered_before : {Trace : L → L → List LinkStep → Type 0} {Refused : L → L → Place → Type 0} {T : Type 0} {old new : CursorState L H} {p : Place}
       → (keeps : (a b : L) (q : Place) → Refused a b q → table b ≡ table a) → IsValidCursor Represents table old
       → (r : Result Unit (AlreadyLinked T)) → InsertsBeside Represents table Trace Refused IsBefore old p r new
@@ -26,7 +27,8 @@ module _ {L E H : Type 0} {Represents : Table E → H → List Place → Type 0}
   covered_after keeps stands (Ok x) e = ap (λ x. x.places) (e.inserted stands.gap stands.shown stands.after).frame.extent
   covered_after keeps stands (Err x) e = ap (λ t. t.extent.places) (keeps _ _ _ e.refused)
 
-  -- THE TWO PARTS OF A LIST that was split at the cursor's position share no member
+  -- a list shares no member with an empty list (`alone_there`). If a list is split after or before the cursor's position, then its two parts share no
+  -- member
   module _ {linked : E → Bool} {empty : H} (kind : IsKind Represents linked empty) {old : CursorState L H} (stands : IsValidCursor Represents table old) where
     alone_there : AreApart Represents (table old.links) old.head empty old.position
     alone_there = record {
@@ -46,7 +48,7 @@ module _ {L E H : Type 0} {Represents : Table E → H → List Place → Type 0}
         → AreApart Represents (table new.links) new.head handed new.position
     parts_before e = rw e.position (split_before kind alone_there e.split)
 
-  -- A SPLICE after the cursor's position, or before it, has its promised result if the two parts share no member
+  -- the contract of a splice ensures `Holds` if the cursor's list and the spliced list `given` share no member. So if they share none, then `Holds` holds
   module _ {Trace : L → L → List LinkStep → Type 0} {at new : CursorState L H} {given : H} {Holds : Type 0} where
     pub where_after : SplicesBeside Represents table Trace IsAfter at given new → AreApart Represents (table at.links) at.head given at.position
         → WhereApart Represents table IsAfter at given (λ gap t. Holds) → Holds

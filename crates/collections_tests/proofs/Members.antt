@@ -1,4 +1,4 @@
--- A cursor can be made on the member to which another cursor moves, and on the member from which the other cursor moves.
+-- If a cursor moves from one member to the next one, then a second cursor can be made on each of the two members, by the member and its neighbor.
 use Rattle.std.proofs.Common.{◌≡◌, Option, Some, List, [], ◌∷◌, ◌++◌, append_assoc, drop, sym, ◌∙◌}
 use Rattle.ic_link_ops.specs.Prelude.{Place, Table, CursorState, RepresentsAt, IsValidCursor, MovesOn}
 use Rattle.ic_link_ops.proofs.Positions.{member_there}

@@ -24,17 +24,17 @@ use Rattle.ic_augmented.specs.declared.augmented.Augmented.{Augmented}
 use Rattle.ic_augmented.proofs.StepLemmas.{kept_right}
 use Rattle.collections_tests.specs.Ready.{IsReady}
 
--- if a result is `Ok`, then what is known for `Ok` holds
+-- `OnOk r P` says that `P` holds if the result `r` is `Ok`. So if `r` is `Ok`, then `P` holds
 pub on_ok : {X Y P : Type 0} (r : Result X Y) → is_ok r ≡ true → OnOk r P → P
 on_ok (Ok x) e holds = holds
 on_ok (Err y) e holds = let never : false ≡ true = e in absurd (cc)
 
--- if a result is `Ok` with the value `x`, then what is known of the value holds of `x`
+-- if the result `r` is `Ok` with the value `x`, and `F` holds of the value of `r`, then `F` holds of `x`
 pub if_ok : {X Y : Type 0} (F : X → Type 0) {o : Option X} {x : X} (r : Result X Y) → is_ok r ≡ true → IfOk r (λ y. o ≡ Some y) → o ≡ Some x → IfOk r F → F x
 if_ok F (Ok y) e same at holds = subst F (some_same (sym same ∙ at)) holds
 if_ok F (Err y) e same at holds = let never : false ≡ true = e in absurd (cc)
 
--- if an option is `Some`, then what is known for `Some` holds
+-- `OnSome r P` says that `P` holds if the option `r` is `Some`. So if `r` is `Some`, then `P` holds
 pub at_some : {X P : Type 0} {x : X} (r : Option X) → r ≡ Some x → OnSome r P → P
 at_some (Some y) e holds = holds
 at_some None e holds = absurd (none_not _ e)
@@ -54,7 +54,7 @@ at_position [] k e = absurd (none_not _ (sym e))
 at_position (x ∷ s) zero e = record { front = []; back = s; same = ap (λ (y : Place). y ∷ s) (some_same (sym e)) }
 at_position (x ∷ s) (suc k) e = let r = at_position s k e in record { front = x ∷ r.front; back = r.back; same = ap (λ (t : List Place). x ∷ t) r.same }
 
--- the place at a position of a represented sequence is a member
+-- the place at the position `k` of a represented sequence `s` is a member
 pub stands_at : (shows : List Place → Type 0) (s : List Place) (k : ℕ) {p : Place} → shows s → Some p ≡ slice_get s k → HasMember shows p
 stands_at shows s k shown e = let a = at_position s k e in record { front = a.front; back = a.back; shown = subst shows a.same shown }
 
@@ -68,7 +68,7 @@ few_before [] q = omega arith
 few_before (x ∷ []) q = omega arith
 few_before (x ∷ y ∷ s) q = omega (arith, few_before (y ∷ s) q)
 
--- if no place occurs in `t` more often than in `s`, except `p` once more, then each place of `t` was in `s` or is acquired
+-- if `p` occurs in `t` at most once more than in `s`, and each other place at most as often as in `s`, then each place of `t` is in `s` or is acquired
 pub one_more : (p : Place) (rest : List LinkStep) (s t : List Place) → ((q : Place) → times_in q t ≤ times_in q s + one_at q p) → (q : Place) → 1 ≤ times_in q t → IsAcquired q (acquires p ∷ rest) ⊎ (1 ≤ times_in q s)
 one_more p rest s t few q m = elim (same_or_not q p) [
   | inl e ↦ inl (inl (sym e))
@@ -90,7 +90,7 @@ module _ {E : Type 0} (n : E → Node) where
 
 module _ {N M E S A H : Type 0} {Trace : N → N → List LinkStep → Type 0} {n : E → Node} {table : N → Table E} {summaries : M → Summaries S} {Covers : M → Place → Type 0} (kept : H → Kept)
     {old new : Augmented N M} {tree : RBTree A H} (ready : IsReady kept n table summaries Covers tree old) where
-  -- after steps, the fresh summaries of a sequence are right if each of its places was in the represented sequence or was acquired by the steps
+  -- if each place of `t` was in the represented sequence `s` or was acquired by the steps, then the fresh summaries of `t` are right after the steps
   pub parts_right : {steps : List LinkStep} → TraceAugmented Trace n table summaries Covers old new steps → (s t : List Place) → RepresentsKept kept n (table old.links) (head_of tree) s
       → ((q : Place) → 1 ≤ times_in q t → IsAcquired q steps ⊎ (1 ≤ times_in q s)) → IsConsistent n (table new.links) (summaries new.summaries) t
   parts_right d s t was among =
@@ -116,7 +116,7 @@ module _ {N M E S A H : Type 0} {Trace : N → N → List LinkStep → Type 0} {
       → ((q : Place) → times_in q t ≤ times_in q s) → IsReady kept n table summaries Covers after new
   less_ready d extent s t was is few = ready_after d extent s t was is (λ q m. inr (omega (arith, m, few q)))
 
-  -- after steps that acquire p, the tree is ready if no place except p occurs among its members more often than before
+  -- after steps that acquire `p`, the tree is ready if no place except `p` occurs among its members more often than before, and `p` at most once more
   pub more_ready : {p : Place} {rest : List LinkStep} → TraceAugmented Trace n table summaries Covers old new (acquires p ∷ rest) → (table new.links).extent ≡ (table old.links).extent
       → (s t : List Place) → RepresentsKept kept n (table old.links) (head_of tree) s → RepresentsKept kept n (table new.links) (head_of after) t
       → ((q : Place) → times_in q t ≤ times_in q s + one_at q p) → IsReady kept n table summaries Covers after new
@@ -153,7 +153,7 @@ module _ {N M E S A H : Type 0} {Trace : N → N → List LinkStep → Type 0} {
 
 module _ {N M E S A H : Type 0} (Trace : N → N → List LinkStep → Type 0) {n : E → Node} {table : N → Table E} {summaries : M → Summaries S} {Covers : M → Place → Type 0} (kept : H → Kept)
     {old new : Augmented N M} {tree after : RBTree A H} (ready : IsReady kept n table summaries Covers tree old) where
-  -- AFTER A POP at the front or at the back, which may find no member, the tree is ready
+  -- AFTER A POP at the front or at the back the tree is ready, even if the pop finds no member
   pub first_popped : (r : Option Place) → IfSome r (λ p. TraceAugmented Trace n table summaries Covers old new (releases p ∷ [])) → IfNone r ((after ≡ tree) × (new ≡ old))
       → (table new.links).extent ≡ (table old.links).extent → RepresentsKept kept n (table new.links) (head_of after) (remove (at_front ready.members)) → IsReady kept n table summaries Covers after new
   first_popped (Some p) d same extent is = less_ready kept ready d extent ready.members (drop 1 ready.members) ready.shown is (few_after ready.members)
@@ -164,7 +164,8 @@ module _ {N M E S A H : Type 0} (Trace : N → N → List LinkStep → Type 0) {
   last_popped (Some p) d same extent is = less_ready kept ready d extent ready.members (but_last ready.members) ready.shown is (few_before ready.members)
   last_popped None d same extent is = rw (same.0, same.1) ready
 
--- AFTER STEPS THAT FOLLOW OTHER EDITS the tree is ready if the other edits left eight covered places, room at each of them, and right fresh summaries
+-- edits lead to `mid`, and then the steps lead from `mid` to `new`. The tree is ready after the steps if `mid` covers eight places, has room at each of
+-- them, and has right fresh summaries of `s`. Each member of the tree must be in `s` or be acquired by the steps
 module _ {N M E S A H : Type 0} {Trace : N → N → List LinkStep → Type 0} {n : E → Node} {table : N → Table E} {summaries : M → Summaries S} {Covers : M → Place → Type 0} (kept : H → Kept)
     {mid new : Augmented N M} {after : RBTree A H} where
   pub ready_then : {steps : List LinkStep} → TraceAugmented Trace n table summaries Covers mid new steps → (table mid.links).extent.places ≡ 8 → ((q : Place) → IsCovered (table mid.links) q → Covers mid.summaries q)
@@ -178,7 +179,8 @@ module _ {N M E S A H : Type 0} {Trace : N → N → List LinkStep → Type 0} {
     room = λ q covered. d.covers q (room q (subst (λ (e : Extent). index_of q < e.places) extent covered));
   }
 
--- A TREE THAT IS READY has room for a summary at each linked place, and an object at each member, because the table covers each linked place
+-- the table covers each linked place, so a tree that is ready has room for a summary at each linked place. If there is an object at each of the eight
+-- places, then there is an object at each member of the tree
 module _ {N M E S A H : Type 0} {n : E → Node} {table : N → Table E} {summaries : M → Summaries S} {Covers : M → Place → Type 0} (kept : H → Kept) (linked : E → Bool) (alike : (e : E) → (n e).linked ≡ linked e)
     (law : (t : N) (p : Place) → IsLinked linked (table t) p → IsCovered (table t) p) {summed : Augmented N M} {tree : RBTree A H} (ready : IsReady kept n table summaries Covers tree summed) where
   pub linked_covered : (p : Place) → IsNode n (table summed.links) p → IsCovered (table summed.links) p

@@ -1,4 +1,4 @@
--- A table represents the empty sequence for a tree with no root, there is an object at each member of a tree, and a vacant entry can insert an object.
+-- Lemmas on trees: a tree with no root represents the empty sequence, each member of a tree has an object, and a vacant entry can insert an object.
 use Rattle.std.proofs.Common.{◌≡◌, true, Option, None, List, [], ◌∷◌, refl}
 use Rattle.std.specs.List.{AllByRecursion}
 use Rattle.std.specs.declared.cmp.Ordering.{Ordering}
@@ -36,7 +36,8 @@ module _ {A : Type 0} (links : TreeLinkOps A) {T : Type 0} (o : Objects T) (all 
       = rw (← h.held.order) (tree_covered node_of (plain_table links) (λ q k. linked_is_covered (index_of q) k) None h.tree h.held.entries) in
       record { members = s; shown = h; placed = each_placed s covered }
 
--- a vacant entry of a tree that is represented can insert, because it has a gap. `P` and `Q` are whatever else is known of the entry
+-- a vacant entry of a represented tree can insert an object, because the entry has a gap of the sequence `s`. `P` and `Q` are other facts about the entry,
+-- which the proof does not use
 module _ {A L V K E : Type 0} (n : E → Node) (table : L → Table E) (at : Place → Ordering) (P Q : InsertCursor A L (Option Place) → Type 0) (tree : RBTree A (Option Place)) (links : L) {s : List Place}
     (shown : Represents n (table links) (root_of tree) s) where
   pub can_insert : (e : Entry A L (Option Place) V K) → IfVacant e (IsVacantFor n at (table links) s) → IfVacant e (λ v. P v × Q v × (v.tree.now ≡ tree) × (v.links.now ≡ links))

@@ -34,14 +34,14 @@ cut_nothing : (front back : List Place) (p : Place) → front ++ back ≡ [] →
 cut_nothing [] back p e = ap (λ (z : List Place). p ∷ z) e
 cut_nothing (x ∷ front) back p e = let none : length (x ∷ (front ++ back)) ≡ 0 = ap length e in absurd (omega (arith, none))
 
--- a sequence of one place whose summary is stale is written within itself, because no summary in it is fresh
+-- `IsWrittenWithin` holds of a sequence of one place whose summary is stale, because the sequence has no fresh summary
 within_itself : {S : Type 0} (z : Summaries S) (p : Place) → z.fresh p ≡ None → IsWrittenWithin z (p ∷ [])
 within_itself z p stale = stale_within z [] p stale (λ q r member fresh up. absurd (omega (arith, member)))
 
 pub nothing_there : {E : Type 0} {n : E → Node} (v : Table E) {root : Option Place} → root ≡ None → Represents n v root []
 nothing_there v e = rw e (represents_nothing v)
 
--- if q is no member of a sequence, each member of the sequence is another place than q
+-- if `q` is not in the sequence `s`, then each member `x` of `s` is another place than `q`
 another : (q : Place) (s : List Place) → IsAbsent q s → (x : Place) → 1 ≤ times_in x s → x ≢ q
 another q s out x m e = let none : times_in x s ≡ 0 = subst (λ (y : Place). times_in y s ≡ 0) (sym e) (absent_times q s out) in absurd (omega (arith, m, none))
 
@@ -109,14 +109,15 @@ module _ {N E A : Type 0} {n : E → Node} {table : N → Table E} where
   }
 
   module _ {root : Option Place} {old : Augmented N (AugmentedTable ⊤ ℕ A)} {k : ℕ} (f : IsFilled n table root old k) where
-    -- no place with a higher index is a member
+    -- no place with the index `k` or a higher index is a member
     pub absent_above : (q : Place) → k ≤ index_of q → IsAbsent q f.members
     absent_above q high = times_absent q f.members (none (times_in q f.members) refl) where
       none : (t : ℕ) → times_in q f.members ≡ t → times_in q f.members ≡ 0
       none zero e = e
       none (suc t) e = absurd (omega (arith, high, f.below q (omega (arith, e))))
 
-    -- THE TREE GROWS by the place with the next index, if an insert leaves every summary of the tree fresh, and writes no summary beside the tree
+    -- the place `p` with the index `k` is inserted into a tree that is filled up to `k`. If all summaries of the tree are fresh afterwards, and the insert
+    -- has changed no other summary, then the tree is filled up to `k + 1`
     pub filled_more : {new_root : Option Place} {new : Augmented N (AugmentedTable ⊤ ℕ A)} {p : Place} {at : Place → Ordering} → index_of p ≡ k
         → InsertsInOrder (RepresentsFresh n (counts (summaries_of new))) at (table (links_of old)) (table (links_of new)) new_root f.members p
         → (table (links_of new)).extent ≡ (table (links_of old)).extent

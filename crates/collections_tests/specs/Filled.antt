@@ -1,4 +1,5 @@
--- What the tests know of a tree with counts into which objects are inserted in the order of their places, so that every count of a member stays fresh.
+-- Facts about a tree with counts, which each insert of a test maintains. The test inserts objects in the order of their places, and the count of each
+-- member stays fresh.
 use Rattle.std.specs.Prelude.{◌≡◌, ◌<◌, ◌≤◌, ℕ, ⊤, Option, None, List}
 use Rattle.ic_link_ops.specs.Prelude.{Place, index_of, Table, IsCovered}
 use Rattle.ic_link_ops.specs.RedBlackTree.{Node}
@@ -11,7 +12,7 @@ use Rattle.ic_augmented.specs.declared.augmented.Augmented.{Augmented}
 use Rattle.ic_augmented.specs.declared.augmented_table.AugmentedTable.{AugmentedTable}
 
 module _ {N E A : Type 0} (n : E → Node) (table : N → Table E) where
-  -- THE TREE IS FILLED up to the index k: it is summed, its members are at places with an index below k, and the count of every other place is stale. The
+  -- the tree is summed, its members are at places with an index below `k`, and the count of each place with the index `k` or a higher index is stale. The
   -- table covers four places, each with room for a count
   pub record IsFilled (root : Option Place) (summed : Augmented N (AugmentedTable ⊤ ℕ A)) (k : ℕ) : Type 0 where
     pub covers : (table (links_of summed)).extent.places ≡ 4

@@ -25,8 +25,8 @@ pub(crate) type DoublyFixture = ListFixture<DoublyLinked, TwoWords>;
 /// A doubly linked list over links of 4-byte words, its links and its objects.
 pub(crate) type NarrowDoublyFixture = ListFixture<DoublyLinked, TwoNarrowWords>;
 
-// Makes each edit by a cursor on the last of the members 0, 1 and 2, and notes the results. Then it moves all members before the cursor after the
-// cursor. The function notes the member before the cursor, which must be none, and whether the cursor is at null after two steps.
+// Makes each kind of edit by a cursor that is on the last of the members 0, 1 and 2, and notes the results. Then it moves all members before the cursor to
+// the gap after the cursor. It notes the member before the cursor, which must be none, and whether two more steps lead to null.
 fn write_edits<K: DoubleEnded + BidirectionalLinks<L>, L: LinkOps>(
     notes: &mut Text,
     cursor: &mut CursorMut<'_, LinkList<K, u64>, L>,

@@ -1,10 +1,11 @@
-//! Tests of the laws of several calls together, on doubly linked lists.
+//! Tests of laws, each of which says what several calls do together. The tests use doubly linked lists.
 
 ghost use Rattle.std.specs.Prelude.{◌≡◌, None};
-ghost use Rattle.ic_link_ops.specs.Chains.{RepresentsChain, RepresentsSomeChain};
+ghost use Rattle.ic_link_ops.specs.Chains.{RepresentsChain};
 ghost use Rattle.ic_link_ops.specs.DoublyEntries.{plain_table, PlainRepresentsSome};
 ghost use Rattle.ic_cursors.specs.Cursor as reads;
 ghost use Rattle.ic_chain.specs.Standing.{IsValidAt};
+ghost use Rattle.collections_tests.specs.Ready.{IsReadyList};
 
 use crate::doubly::DoublyFixture;
 use crate::lent::{write_moved, write_turned};
@@ -25,8 +26,7 @@ fn write_front<K: ForwardLinks<L>, L: LinkOps>(
     list: &mut LinkList<K, u64>,
     links: &mut L,
 )
-    requires covers { (L.table links.old).extent.places ≡ 8 }
-    requires shown { RepresentsSomeChain K.Between K.kept (L.table links.old) list.old }
+    requires { IsReadyList K.Between K.kept (L.table links.old) list.old }
 {
     let object = reference(5);
     let place = object.place();
@@ -46,8 +46,7 @@ fn write_back<K: DoubleEnded + BidirectionalLinks<L>, L: LinkOps>(
     list: &mut LinkList<K, u64>,
     links: &mut L,
 )
-    requires covers { (L.table links.old).extent.places ≡ 8 }
-    requires shown { RepresentsSomeChain K.Between K.kept (L.table links.old) list.old }
+    requires { IsReadyList K.Between K.kept (L.table links.old) list.old }
 {
     laws::push_then_pop::<K, L>();
     let Ok(()) = list.push_back(links, reference(5)) else {

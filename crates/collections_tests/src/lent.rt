@@ -1,7 +1,7 @@
 //! Calls on a list that is lent together with the table of its links, and on a cursor that is made on a member by its reference.
 
 ghost use Rattle.std.specs.Prelude.{◌≡◌};
-ghost use Rattle.ic_link_ops.specs.Chains.{RepresentsSomeChain};
+ghost use Rattle.collections_tests.specs.Ready.{IsReadyList};
 
 use ic_chain::{BidirectionalLinks, DoubleEnded, ForwardLinks, LinkList, NamesBoth, NamesNext};
 use ic_link_ops::LinkOps;
@@ -16,10 +16,8 @@ pub(crate) fn write_turned<K: DoubleEnded + NamesNext + ForwardLinks<L>, L: Link
     list: &mut LinkList<K, u64>,
     links: &mut L,
 )
-    requires covers { (L.table links.old).extent.places ≡ 8 }
-    requires shown { RepresentsSomeChain K.Between K.kept (L.table links.old) list.old }
-    ensures covers { (L.table links.new).extent.places ≡ 8 }
-    ensures shown { RepresentsSomeChain K.Between K.kept (L.table links.new) list.new }
+    requires { IsReadyList K.Between K.kept (L.table links.old) list.old }
+    ensures { IsReadyList K.Between K.kept (L.table links.new) list.new }
 {
     let mut lent = list.lend(links);
     let Some(first) = lent.pop_front() else {
@@ -45,8 +43,7 @@ pub(crate) fn write_moved<K, L: LinkOps>(
 )
 where
     K: DoubleEnded + NamesBoth<L> + BidirectionalLinks<L>,
-    requires covers { (L.table links.old).extent.places ≡ 8 }
-    requires shown { RepresentsSomeChain K.Between K.kept (L.table links.old) list.old }
+    requires { IsReadyList K.Between K.kept (L.table links.old) list.old }
 {
     let mut lent = list.lend(links);
     let Some(last) = lent.pop_back() else {

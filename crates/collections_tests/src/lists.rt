@@ -14,7 +14,7 @@ use ic_unsafe_ref::Objects;
 use std::alloc::Global;
 use std::process::Abort;
 
-/// A list, the table of its links, which covers the places 0 to 7, and its objects. The objects are 10 to 80, in the order of their places.
+/// A list with its objects and the table of its links. The table covers the places 0 to 7, and the objects at these places are 10 to 80, in order.
 pub(crate) struct ListFixture<K: ListKind, W: Words> {
     pub(crate) objects: Objects<u64>,
     pub(crate) links: PlainTable<W>,

@@ -3,6 +3,7 @@
 
 ghost use Rattle.std.specs.Prelude.{◌≡◌};
 ghost use Rattle.ic_link_ops.specs.Chains.{RepresentsSomeChain};
+ghost use Rattle.collections_tests.specs.Ready.{IsReadyList};
 
 use crate::doubly::DoublyFixture;
 use crate::lists::list_of;
@@ -40,8 +41,7 @@ fn write_edits<K: DoubleEnded + BidirectionalLinks<L>, L: LinkOps>(
     list: LinkList<K, u64>,
     links: &mut L,
 )
-    requires covers { (L.table links.old).extent.places ≡ 8 }
-    requires shown { RepresentsSomeChain K.Between K.kept (L.table links.old) list }
+    requires { IsReadyList K.Between K.kept (L.table links.old) list }
 {
     let mut cursor = list.front_owning(&*links);
     let _ = cursor.insert_after(links, reference(3));
@@ -67,15 +67,14 @@ fn write_edits_after<K: SingleEnded + ForwardLinks<L>, L: LinkOps>(
     list: LinkList<K, u64>,
     links: &mut L,
 )
-    requires covers { (L.table links.old).extent.places ≡ 8 }
-    requires shown { RepresentsSomeChain K.Between K.kept (L.table links.old) list }
+    requires { IsReadyList K.Between K.kept (L.table links.old) list }
 {
     let mut cursor = list.front_owning(&*links);
     write_object(notes, cursor.replace_next_with(links, reference(3)).ok());
     write_object(notes, cursor.remove_next(links));
 }
 
-// The test makes each move and edit of cursors that own their list, and their positions and the removed objects must be right.
+// The test makes each move and edit of cursors that own their list. The positions of the cursors and the removed objects must be right.
 // Promise: owning cursors.
 #[test]
 fn owning_cursors(rt: HostRuntime) {

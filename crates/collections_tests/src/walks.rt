@@ -102,7 +102,7 @@ const DROPPED: &str = "0 1 2 3 2 3 3 0 1 2 3
     0 1 2 3 2 3 3 0 1 2 3
     0 1 2 3 2 3 3 0 1 2 3";
 
-// After a walk that is dropped, the members that it did not return must still be linked. The test uses one list of each kind, with four members.
+// After a walk is dropped, the members that the walk did not return must still be linked. The test uses one list of each kind, with four members.
 // Promise: a dropped walk of a doubly linked list, a dropped walk of a singly linked list, a dropped walk of an XOR list.
 #[test]
 fn walks_that_are_dropped(rt: HostRuntime) {
@@ -117,7 +117,7 @@ fn walks_that_are_dropped(rt: HostRuntime) {
     assert_words(&rt, &notes, DROPPED);
 }
 
-// After a walk that is dropped, the members that it did not return must still be linked, in lists over links of 4-byte words.
+// After a walk over a list with links of 4-byte words is dropped, the members that the walk did not return must still be linked.
 // Promise: a dropped walk over 4-byte words.
 #[test]
 fn walks_over_narrow_links_that_are_dropped(rt: HostRuntime) {

@@ -1,4 +1,4 @@
-//! A test of the XOR list, whose cursor keeps a neighbor of its member, because an entry is read together with one neighbor.
+//! A test of the XOR list. Its cursor stores a neighbor of its member, because an entry leads to one neighbor only if the other neighbor is known.
 
 ghost use Rattle.ic_link_ops.specs.Chains.{RepresentsChain};
 ghost use Rattle.ic_cursors.specs.Cursor as reads;
@@ -20,7 +20,8 @@ pub(crate) type XorFixture = ListFixture<XorLinked, OneWord<Xor>>;
 /// An XOR list over links of 4-byte words, its links and its objects.
 pub(crate) type NarrowXorFixture = ListFixture<XorLinked, OneNarrowWord<Xor>>;
 
-// Notes the member on which the cursor is, the member before it, the cursor's member after one step back, and the member after a copy of the cursor.
+// Notes the cursor's member and the member before it. After one step back, it notes the member of a copy of the cursor, the member after the copy, and
+// whether the cursor is at null.
 fn write_read<K: DoubleEnded + BidirectionalLinks<L>, L: LinkOps>(
     notes: &mut Text,
     mut cursor: Cursor<'_, LinkList<K, u64>, L>,

@@ -1,4 +1,4 @@
--- What each command does to the table, and what its outcome says.
+-- Definitions that say what each command does to the table, and what the command's outcome says.
 use Rattle.std.specs.Prelude.{◌≡◌, ℕ, false, None, Some, is_some, IsSome, List, ◌∷◌, length, min, max}
 use Rattle.std.specs.List.{AllByRecursion}
 use Rattle.connections.specs.declared.connection.Connection.{Connection}

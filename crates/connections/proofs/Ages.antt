@@ -1,4 +1,4 @@
--- Lemmas which show that each call maintains the order of ages: from the connection that was touched last to the oldest one.
+-- Lemmas which say that each call maintains the order of ages: from the connection that was touched last to the oldest one.
 use Rattle.std.proofs.Common.{◌≡◌, ℕ, ◌+◌, ◌-◌, ◌≤◌, Bool, true, false, nat_lt, Option, None, Some, MatchOption, MatchBool, List, [], ◌∷◌, ◌++◌, reverse, filter, refl, sym, ap, ◌∙◌, subst, cond, arith, append-nil, append_assoc, length-append}
 use Rattle.std.specs.List.{AllByRecursion}
 use Rattle.std.proofs.lemmas.Bool.Decides.{nat_tests}
@@ -39,7 +39,7 @@ pub aged_popped : (m : ℕ) (old new : KeyedValues Connection) (popped : Option 
 aged_popped m old new None e aged = subst (λ (k : KeyedValues Connection). IsAged m k.values) (sym e.1) aged
 aged_popped m old new (Some c) e aged = aged_front m new.values c (subst (λ (k : KeyedValues Connection). IsAged m k.values) e aged)
 
--- the last connection tells whether any connection was idle for longer than `limit`: either it is idle, or all connections are active
+-- if the last connection `c` has been idle for longer than `limit`, then `EndsIdle` holds. Otherwise all connections are active, because `c` is the oldest
 pub idle_or_active : (limit : ℕ) (table : Table) {c : Connection} → IsAged table.clock table.live → EndsWith c table.live
     → MatchBool (nat_lt limit (table.clock - c.seen)) (EndsIdle limit table) (AllByRecursion (IsActive limit table.clock) table.live)
 idle_or_active limit table {c} aged e = by (nat_lt limit (table.clock - c.seen)) refl where
@@ -49,7 +49,7 @@ idle_or_active limit table {c} aged e = by (nat_lt limit (table.clock - c.seen))
       let active : table.clock - c.seen ≤ limit = grind (arith, nat_tests) in
       all_map {P = λ (d : Connection). c.seen ≤ d.seen} (λ d le. omega (arith, le, active)) table.live (oldest_last e aged).1
 
--- NO CONNECTION IS CLOSED at the beginning. A further lemma says that `k + 1` connections are closed if `k` were closed and then one more is
+-- no connection is closed at the beginning. If `k` connections were closed and then one more is closed, then `k + 1` are closed (`expires_more`)
 pub expires_none : {had : List Connection} {table : Table} → Expires 0 had had table table
 expires_none {had} {table} = record { gone = []; many = refl; out = sym (append-nil had); were = ap (with_live table) (sym (append-nil table.live)) }
 

@@ -1,4 +1,4 @@
--- What contracts see of a table of connections: the open connections, from the one that was touched last to the oldest, and a clock.
+-- A contract sees a table as its open connections, from the one that was touched last to the oldest, and a clock.
 use Rattle.std.specs.Prelude.{◌≡◌, ℕ, ◌-◌, ◌<◌, ◌≤◌, Option, None, IsSome, List, [], ◌∷◌, ◌++◌, length, reverse}
 use Rattle.std.specs.List.{AllByRecursion}
 use Rattle.ic_keyed.specs.Keyed.{value_with, without, EndsWith, HaveOwnKeys}
@@ -22,7 +22,7 @@ abbrev pub IsAged : ℕ → List Connection → Type 0
 IsAged time [] = Unit {0}
 IsAged time (c ∷ live) = (c.seen ≤ time) × IsAged c.seen live
 
--- WHAT HOLDS OF EACH TABLE: no id occurs twice, and the connections are in the order of the times when they were touched, the latest first
+-- in each table no id occurs twice, and the connections are in the order of the times when they were touched, the latest first
 pub record IsSound (table : Table) : Type 0 where
   pub own : HaveOwnKeys (λ (c : Connection). c.id) table.live
   pub aged : IsAged table.clock table.live
@@ -39,8 +39,8 @@ abbrev pub IsRefused : OpenError → ℕ → List Connection → Type 0
 IsRefused AlreadyOpen id live = IsSome (connection_with id live)
 IsRefused NoRoom id live = connection_with id live ≡ None
 
--- THE OLDEST CONNECTIONS ARE CLOSED: `count` of them are appended to the caller's list, which was `had` and is now `has`, the one that was idle for
--- longest first. The other connections keep their order
+-- the `count` oldest connections are closed and appended to the caller's list, which was `had` and is now `has`. The connection that was idle for longest
+-- is appended first. The other connections keep their order
 pub record Expires (count : ℕ) (had has : List Connection) (old new : Table) : Type 0 where
   pub gone : List Connection
   pub many : length gone ≡ count

@@ -20,8 +20,8 @@ use std::marker::Model;
 
 /// Connections that are open, and a clock.
 ///
-/// A contract sees them from the one that was touched last to the one that has been idle for longest. No two connections have the same id. None was
-/// touched earlier than a connection that comes after it, and none was touched later than the clock's time (`IsSound`).
+/// A contract sees the connections, from the one that was touched last to the one that has been idle for longest. No two connections have the same id. Each
+/// was touched no earlier than the connection after it, and no later than the clock's time (`IsSound`).
 #[derive(Drop)]
 pub struct ConnectionTable<I: Index<Connection, A>, A: Allocator = Global> {
     live: Keyed<Connection, I, A>,

@@ -64,7 +64,7 @@ module _ {V : Type 0} where
   unlinked_absent t (Xor l at) s {p} shown free = xor_kind.free t _ s p shown free
   unlinked_absent t (Tree l at) s {p} shown free = tree_kind.free t _ s p shown free
 
-  -- A TABLE WITH THE SAME ENTRIES AT THE MEMBERS of a collection keeps the collection as the old table did
+  -- IF NO ENTRY OF A MEMBER CHANGES, the new table keeps s for the collection (`Keeps`), as the old table did
   pub keeps_frame : {old new : Table Entry} (m : AnyCollection V) (s touched : List Place) → Keeps old m s → IsDisjoint s touched → ChangesOnlyIn old new touched → Keeps new m s
   keeps_frame {old} {new} m s touched kept apart frame =
       record { carried = rw frame.extent kept.carried; shown = represented_frame old new m s touched kept.shown apart frame.others; stands = kept.stands }

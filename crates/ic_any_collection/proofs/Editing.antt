@@ -1,5 +1,5 @@
--- Edits of a collection, splits, splices and moves of its cursor: from the contract of a kind's own call follows what the collection's call ensures, whatever the
--- kind. The first lemmas are about one kind alone: each removal of the kind's own contracts removes the member that the gap names.
+-- Edits of a collection, splits, splices, and moves of its cursor. Whatever the kind, what the collection's call ensures follows from the contract of
+-- the kind's own call. The first lemmas are about removals: each removal by a kind's own call removes the member that the gap names.
 use Rattle.std.proofs.Common.{◌≡◌, ◌∙◌, Bool, true, false, is_some, ap, Option, Some, None, List, [], ◌∷◌, ◌++◌, refl, sym, subst, append-nil, IfSome, IfNone, OnSome}
 use Rattle.std.specs.Bool.{OnTrue, OnFalse}
 use Rattle.ic_link_ops.specs.Prelude.{Place, Cut, join, splice, at_front, at_back, first, last, IsAfter, IsBefore, IsDisjoint, Table, IsLinked, site, LinkStep, acquires, releases, ChangesOnlyIn, MovesOn, MovesBack, remove, but_last, CursorState}
@@ -11,8 +11,8 @@ use Rattle.ic_any_collection.specs.declared.kind.Kind.TheVariants as kind
 use Rattle.ic_any_collection.proofs.Made.{IsMade, gap_after_cursor, gap_before_cursor}
 use Rattle.ic_link_ops.proofs.SequenceLemmas.{none_not, nothing_last, split_last}
 
--- a singly linked list removes members only at a gap that is after a position. The removed member is the one after this gap, and the cursor is then at
--- the position
+-- a singly linked list removes members only at a gap that is after a position. The removed member is the one after this gap, and the cursor is then
+-- at this position
 after_there : (gap : Gap) → can_remove gap kind.Singly ≡ true → (s : List Place) (cursor : Option Place) (cut : Cut) → IsGapAt gap cursor cut
     → IsAfter cut (rests gap cursor) × IsFrontOf gap s cursor cut × (rests gap cursor ≡ onward gap cursor cut)
 after_there Front can s cursor cut h = (h, h, refl)
@@ -184,7 +184,8 @@ module _ {V L M E H C P : Type 0} {made : C → P → AnyCollection V} {own : L 
   at_start null Before held nulls = at_cursor held
   at_start null After held nulls = at_cursor held
 
-  -- the members of a kept collection can be cut at the gap that a call names. The gap is found from the member of the position
+  -- the members of a collection that the table keeps can be cut at the gap that a call names. Here the position `at` gives the member that the cursor
+  -- is on
   at_gap : (links : L) {c : C} {at : P} (gap : Gap) → Held (table links) (made c at) → AtGap (members links c at) (IsGapAt gap (member at))
   at_gap links {c} {at} gap held = subst (λ x. AtGap (members links c at) (IsGapAt gap x)) (kind_of.position c at) (gap_there gap (made c at) held)
 

@@ -1,4 +1,5 @@
--- Searches and insertions by key: from the contract of a tree's own call follows what the collection's call ensures. The cursor is moved after the call.
+-- Searches and insertions by key. What the collection's call ensures follows from the contract of the tree's own call. The collection's call moves
+-- the cursor after the tree's own call.
 use Rattle.std.proofs.Common.{◌≡◌, ◌∙◌, Bool, true, false, cond, append_assoc, Option, Some, None, IfSome, List, [], ◌∷◌, ◌++◌, drop, refl, sym, ap, subst}
 use Rattle.std.specs.Prelude.{⊤}
 use Rattle.std.specs.Bool.{OnTrue, OnFalse}
@@ -78,7 +79,8 @@ pub vacant_one : {A L V K : Type 0} (entry : TreeEntry A L (Option Place) V K) �
 vacant_one (Occupied c) other = absurd (other c refl)
 vacant_one (Vacant v) other = (v, refl)
 
--- AFTER AN EDIT THROUGH A BORROW, the root and the table are those with which the borrow ended, and so what the edit ensures holds of them
+-- AFTER AN EDIT THROUGH A BORROW, the root and the table are those with which the borrow ended. So what the edit ensures holds of this root and this
+-- table
 pub inserts_left : {old old' t t' : Table (Link ThreeWords ⊤)} {root root' : Option Place} {gap : Cut} {p p' : Place} → old ≡ old' → p ≡ p' → Inserts (tree.Represents node_of) old t root gap p
     → t' ≡ t → root' ≡ root → Inserts (tree.Represents node_of) old' t' root' gap p'
 inserts_left same place put table head = rw (table, head, ← same, ← place) put
@@ -107,7 +109,7 @@ pub puts_at_key : {V : Type 0} (by : Place → Ordering) {t t' : Table (Link Thr
 puts_at_key by {p = p} held put links there =
     let gap = put.0 in (gap, put.1, (put.2.0, puts_in_tree held put.1 (inserts_in_field put.2.1) (step_in_field _ _ (acquires p) links) (on_it gap.front p gap.back refl) there))
 
--- a position that is not null is a member
+-- if the position of a cursor in s is not null, it is a member of s
 on_member : {s : List Place} (position : Option Place) → IsAt s position → IfSome position (λ p. AtGap s (λ gap. IsBefore gap (Some p)))
 on_member None at = tt
 on_member (Some p) at = before_at at

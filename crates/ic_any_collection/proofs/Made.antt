@@ -1,6 +1,6 @@
--- WHERE A CURSOR IS: the gaps directly before and after its position, and the next place that the cursor of an XOR list stores.
--- HOW A KIND'S OWN DEFINITIONS ARE USED FOR A COLLECTION. What a table represents for a list or tree, it also represents for the collection made from
--- it, and valid positions stay valid. Because of this each edit is proved once for all kinds.
+-- WHERE A CURSOR IS: the gaps directly before and after its position, and the next place that the cursor of an XOR list stores. The later lemmas say
+-- how the definitions of a kind are used for a collection of any kind. What a table represents for a list or tree, it also represents for the
+-- collection made from this list or tree, and valid positions stay valid. Because of this each edit is proved once for all kinds.
 use Rattle.std.proofs.Common.{◌≡◌, Option, None, List, refl, ◌∙◌, Some, IfSome, [], ◌∷◌, ◌++◌, drop, sym, ap, subst, append_assoc}
 use Rattle.std.specs.Prelude.{⊤}
 use Rattle.ic_link_ops.specs.Prelude.{Place, Table, ChangesOnlyIn, LinkStep, TraceIs, IsValidCursor, site, Cut, join, at_front, first, IsBefore, IsDistinct}
@@ -49,7 +49,8 @@ module _ {V : Type 0} where
   pub gap_before_cursor : {t : Table Entry} (m : AnyCollection V) → Held t m → (gap : Cut) × (join gap ≡ members_in t m) × IsBefore gap (cursor_in m)
   gap_before_cursor m held = before_at (gap_after_cursor m held)
 
--- A LIST'S CURSOR IS VALID as the calls of the list require, if it is at a position of s. This is for kinds whose cursor stores only its own place
+-- A LIST'S CURSOR IS VALID as the calls of the list require, if it is at a position of s. This lemma is about kinds whose cursor stores only its own
+-- place
 pub stands_plainly : {L E H : Type 0} {Represents : Table E → H → List Place → Type 0} {table : L → Table E} {links : L} {list : H} {at : Option Place} (s : List Place)
     → Represents (table links) list s → IsAt s at → IsValidAt Represents table (λ at. at) (λ at next. ⊤) links list at
 stands_plainly {Represents = Represents} {table} {links} {list} s shown at =
@@ -64,7 +65,7 @@ pub knows : {L : Type 0} {table : L → Table Entry} {links : L} {l : Ends} {at 
 knows {table = table} {links = links} {l = l'} s shown at =
     record { gap = at.0; shown = subst (xor.Represents is_linked HasNeighbors (table links) l') (sym at.1) shown; after = at.2; caches = λ q on. at.3 }
 
--- if a cursor that is on a member stores `next` as the next place, `CachesNext` holds of it. At null this is always so
+-- if a cursor that is on a member stores `next` as the next place, `CachesNext` holds of the cursor and `next`. For a cursor at null it always holds
 caches_next : (at : Option PlaceAndNext) (next : Option Place) → ((q : Place) → member_of at ≡ Some q → CachesNext at next) → CachesNext at next
 caches_next None next caches = tt
 caches_next (Some at) next caches = caches at.place refl

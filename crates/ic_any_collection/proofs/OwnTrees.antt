@@ -1,5 +1,5 @@
--- Trees over their own table and over the table of a field. What a table of tree links represents, and what an edit changes in it, is the same in the
--- field's table.
+-- Trees over their own table of tree links, and over the field's table that contains this table. Both tables represent the same trees, and an edit
+-- changes the same entries in both.
 use Rattle.std.proofs.Common.{◌≡◌, ◌∙◌, Option, Some, None, List, [], ◌∷◌, refl, ap}
 use Rattle.std.specs.Prelude.{⊤}
 use Rattle.ic_link_ops.specs.Prelude.{Place, Objects, Cut, Table, ChangesOnlyIn, LinkStep, TraceIs, acquires, releases, ArePlaced, RepresentsPlaced}
@@ -46,7 +46,7 @@ module _ {t : Table (Link ThreeWords ⊤)} {root : Option Place} {s : List Place
   pub to_own : Represents node (of_field t) root s → Represents node_of t root s
   to_own shown = seen node node_of (λ p. refl) shown
 
-  -- the requirement of a tree's keyed calls: the tree represents members, and there is an object at each of them
+  -- what a tree's keyed calls require: the table represents some members for the tree, and there is an object at each member
   pub placed_in : {V : Type 0} {objects : Objects V} → Represents node (of_field t) root s → ArePlaced objects s → RepresentsPlaced (Represents node_of t root) objects
   placed_in shown placed = record { members = s; shown = to_own shown; placed = placed }
 

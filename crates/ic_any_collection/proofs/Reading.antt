@@ -1,5 +1,5 @@
--- How calls read a collection: the member after a member, walks from the front, and how the places of a walk over a tree are listed. There a cursor goes
--- along with the walk, and each place that it is on is appended to a list.
+-- How calls read a collection: the member after a member, and walks from the front. In a walk over a tree a cursor moves along with the walk, and
+-- each member that the cursor is on is appended to a list.
 use Rattle.std.proofs.Common.{◌≡◌, ◌≢◌, ◌∙◌, ◌<◌, ◌+◌, ◌++◌, true, false, cond, Option, Some, None, List, [], ◌∷◌, drop, length, refl, sym, ap, append_assoc, arith, nat_eq, eq-eqb, eqb-true, Bool, ℕ, Result, Ok, Err, IfOk, IsSome, subst, append-nil}
 use Rattle.std.proofs.lemmas.Bool.{eqb-false, false_from_ne_true}
 use Rattle.std.proofs.lemmas.List.{length-append}
@@ -94,7 +94,7 @@ walks_fewer {s} {done} {current = current} {p = p} distinct w next =
     let there : length (from current s) ≡ length next.left = ap length (walks_from distinct next) in
     omega (arith, before, after, here, there, length-append done (p ∷ []))
 
--- the walk has as many objects left as members, because there is an object at the place of each member
+-- a walk has as many objects left as members, because there is an object at the place of each member
 one_more : {V : Type 0} (o : Option V) {n : ℕ} (vs : List V) → IsSome o → n ≡ length vs → n + 1 ≡ length (cons_option o vs)
 one_more None vs some e = absurd (cc)
 one_more (Some v) vs some e = omega (arith, e)
@@ -108,7 +108,7 @@ pub walk_count : {A L O V K E : Type 0} (node : E → Node) (table : L → Table
 walk_count node table values law walk can = rw (walk_members node (table walk.links.now) (law walk.links.now) can.1) (left_count (values walk.objects.now) can.0 can.2)
 
 -- THE LIST DURING A WALK: `places` are the listed members of `whole`, and `rest` are the others. There are as many members in `rest` as the walk has
--- objects left. The cursor is on the first of them, or after the last one if `rest` is empty
+-- objects left. The cursor is on the first member of `rest`. If `rest` is empty, it is directly after the last listed member
 pub record Lists {E V : Type 0} (node : E → Node) (t : Table E) (root : Option Place) (whole places : List Place) (position : Option Place) (left : List V) : Type 0 where
   pub front : List Place
   pub rest : List Place
@@ -181,7 +181,7 @@ range_represented {runs = runs} {s} {w} shows x shown = by (runs x.low x.high) r
   by true e = let part = x.segment e in (part.front, part.back, subst shows (sym part.same) shown)
   by false e = ([], s, subst shows (sym (ap (λ r. r ++ s) (x.nothing e))) shown)
 
--- a statement P that holds of the members which a walk had left holds of the listed places, if they are these members
+-- if the listed places are the members that a walk had left, a statement P of these members also holds of the listed places
 pub if_listed : {M E : Type 0} (P : List Place → Type 0) (walked : List Place) (listed : Result (Vec Place M) E) → IfOk listed (λ places. places.items ≡ walked) → P walked → IfOk listed (λ places. P places.items)
 if_listed P walked (Ok places) all h = subst P (sym all) h
 if_listed P walked (Err refusal) all h = tt

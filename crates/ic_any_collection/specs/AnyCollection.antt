@@ -17,18 +17,19 @@ use Rattle.ic_any_collection.specs.Entries.{is_linked, neighbors, successor, nod
 use Rattle.ic_any_collection.specs.declared.any_collection.AnyCollection.{AnyCollection}
 use Rattle.ic_any_collection.specs.declared.any_collection.AnyCollection.TheVariants.{Singly, Doubly, Xor, Tree}
 
--- the position is null or a member of s, so that s can be cut at the gap directly after the position
+-- the position is null or a member of s: s can be cut at a gap directly after the position
 abbrev pub IsAt : List Place → Option Place → Type 0
 IsAt s position = (gap : Cut) × (join gap ≡ s) × IsAfter gap position
 
--- the cursor of an XOR list is at null or on a member of s. On a member it also keeps the place of the next member, or none on the last one
+-- the cursor of an XOR list is at null or on a member of s. If it is on a member, it also stores the place of the next member, or none if it is on
+-- the last member
 abbrev pub IsXorAt : List Place → Option PlaceAndNext → Type 0
 IsXorAt s at = (gap : Cut) × (join gap ≡ s) × IsAfter gap (member_of at) × CachesNext at (first gap.back)
 
 module _ {V : Type 0} where
   -- FOR EACH KIND OF COLLECTION, five definitions follow. Three say which kind it is, which member its cursor is on, and which sequence a table
   -- represents for it. The other two define the members that a walk finds, and whether the cursor is at a position of a sequence. `l` is the list or
-  -- tree, and `at` is the position of its cursor. The cursor of an XOR list also keeps the place of the next member
+  -- tree, and `at` is the position of its cursor. The cursor of an XOR list also stores the place of the next member
   abbrev pub kind_in : AnyCollection V → Kind
   kind_in (Singly l at) = kind.Singly
   kind_in (Doubly l at) = kind.Doubly
@@ -65,7 +66,8 @@ module _ {V : Type 0} where
     pub shown : RepresentsIn t m s
     pub stands : IsCursorIn s m
 
-  -- the table t keeps for the collection m the members that a walk through the table finds. Every call that takes the table requires this
+  -- the table t keeps for the collection m the members that a walk through the table finds. Every call that has the table as an argument requires
+  -- this
   abbrev pub Held : Table Entry → AnyCollection V → Type 0
   Held t m = Keeps t m (members_in t m)
 

@@ -8,7 +8,7 @@ use Rattle.ic_any_collection.specs.AnyTables.{table_in}
 use Rattle.ic_any_collection.specs.declared.any_collection.AnyCollection.{AnyCollection}
 use Rattle.ic_any_collection.specs.AnyCollection.{cursor_in, members_in, Keeps, Alike}
 
--- s can be cut at a gap of which the statement `Rest` holds
+-- the statement `Rest` holds of some gap of the sequence s
 abbrev pub AtGap : List Place → (Cut → Type 0) → Type 0
 AtGap s Rest = (gap : Cut) × (join gap ≡ s) × Rest gap
 

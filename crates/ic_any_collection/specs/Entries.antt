@@ -30,7 +30,7 @@ of_two l = record { linked = two.has_words (words_of l); word = two.next_word_of
 abbrev pub of_three : Link ThreeWords ⊤ → Entry
 of_three l = record { linked = three.has_link (words_of l); word = three.right_word_of (words_of l); prev = three.left_of (words_of l); parent = (three.node_of l).parent; color = (three.node_of l).color }
 
--- a table of tree links, and whether a link of it is linked, in the terms of trees
+-- a table of tree links as the contracts of trees describe it, and whether one of its links is linked
 abbrev pub tree_table_in : {M : Type 0} → PlainTable ThreeWords M ⊤ → Table (Link ThreeWords ⊤)
 tree_table_in t = table wide three.no_words t
 
@@ -57,7 +57,7 @@ HasNeighbors e a b = e.word ≡ bit_xor (word_of a) (word_of b)
 abbrev pub other : Entry → Option Place → Option Place
 other e a = place_at (bit_xor e.word (word_of a))
 
--- a table of links, read as a table of entries: `of` computes each entry from the link, and the extent now contains the number of `kind`
+-- a table of links, read as a table of entries: `of` computes each entry from a link, and the identity in the extent is the number of `kind`
 abbrev pub read : {E : Type 0} → Kind → (E → Entry) → Table E → Table Entry
 read kind of t = record { extent = record { places = t.extent.places; identity = number_of kind ∷ [] }; entry = λ p. of (t.entry p) }
 

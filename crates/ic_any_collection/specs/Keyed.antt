@@ -8,7 +8,8 @@ use Rattle.ic_any_collection.specs.declared.any_collection.AnyCollection.{AnyCol
 use Rattle.ic_any_collection.specs.AnyCollection.{members_in}
 use Rattle.ic_any_collection.specs.Edits.{AtGap, Puts}
 
--- the searched key belongs in the gap: the member directly before the gap has a smaller key, and the member directly after the gap has a larger key
+-- the searched key belongs in the gap: the member directly before the gap, if any, has a smaller key, and the member directly after the gap, if any,
+-- has a larger key
 abbrev pub IsVacantFor : (Place → Ordering) → Cut → Type 0
 IsVacantFor at gap = IsBorder (at_most_at at) gap × IsBorder (less_at at) gap
 

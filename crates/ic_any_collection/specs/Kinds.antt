@@ -50,7 +50,7 @@ abbrev pub is_xor : Kind → Bool
 is_xor Xor = true
 is_xor k = false
 
--- which kinds can make a cursor on a member from its place alone: all except XOR lists, which need a neighbor as well
+-- in which kinds the place of a member suffices to put a cursor on it: all except XOR lists, in which a neighbor has to be named as well
 abbrev pub has_pointer : Kind → Bool
 has_pointer Xor = false
 has_pointer k = true

@@ -1,5 +1,5 @@
--- This file declares nothing. It exports the names that most proofs about collections use: the types and words of this crate, and those of the tables, the
--- positions and the trees that it takes from other crates.
+-- This file declares nothing. It exports the names that most proofs about collections use: the types and words of this crate, and words of other
+-- crates for tables, positions and trees.
 pub use Rattle.ic_any_collection.specs.declared.kind.Kind.{Kind}
 pub use Rattle.ic_any_collection.specs.declared.gap.Gap.{Gap}
 pub use Rattle.ic_any_collection.specs.declared.gap.Gap.TheVariants.{Front, Back, Before, After}

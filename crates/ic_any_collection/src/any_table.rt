@@ -18,7 +18,7 @@ use ic_link_ops::{CoverError, LinkOps, linked_list, rbtree, singly_linked_list, 
 use ic_unsafe_ref::Place;
 use std::alloc::{Allocator, Global};
 
-// Makes one call of the table of any kind, which has the name `$links` in the call.
+// Makes the call `$call` on the table in `$table`, of whatever kind the table is. In the call, the table has the name `$links`.
 macro_rules! on_table {
     ($table:expr, $links:ident => $call:expr) => {
         match $table {
@@ -102,8 +102,8 @@ impl<M: Allocator> AnyTable<M> {
 
     /// Covers the first `count` places, with an unlinked entry for each place that is new.
     ///
-    /// It is refused if `count` is above 4,294,967,296 or there is not enough memory. If it is refused, nothing has changed. Existing entries stay,
-    /// and if the table already covers `count` places, nothing changes. It makes at most one request for memory.
+    /// The call is refused if `count` is above 4,294,967,296 or there is not enough memory, and then nothing has changed. Existing entries stay, and
+    /// if the table already covers `count` places, nothing changes. It makes at most one request for memory.
     pub fn cover(&mut self, count: usize) -> Result<(), CoverError>
         ensures too_many { (result ≡ Err CoverError.TooManyPlaces) ↔ 4294967296 < count }
         ensures covers { OnOk result ((table_in self.new).extent.places ≡ max (table_in self.old).extent.places count) }

@@ -1,4 +1,4 @@
-//! Edits of a collection of one kind at a gap. Each edit also takes the position of the collection's cursor.
+//! Edits of a collection of one kind at a gap. Each edit gets the position of the collection's cursor as an argument, and may move it.
 //!
 //! ```text
 //! at_gap::insert(list, links, at, Gap::Back, place) // whether its link was acquired: then it is the last member, and `at` is null
@@ -45,7 +45,7 @@ fn settled<P: Position>(at: &mut P, there: P, acquired: bool) -> bool
     acquired
 }
 
-/// Inserts the object into a gap that is after a position, and returns whether its link was acquired.
+/// Inserts the object into the gap `Front` or `After`, and returns whether the object's link was acquired.
 #[inline(always)]
 pub(crate) fn insert_after<C: CursorOps<L>, L: LinkOps>(
     list: &mut C,
@@ -65,7 +65,7 @@ pub(crate) fn insert_after<C: CursorOps<L>, L: LinkOps>(
     settled(at, there, acquired)
 }
 
-/// Inserts the object into the gap, and returns whether its link was acquired.
+/// Inserts the object into the gap, and returns whether the object's link was acquired.
 #[inline(always)]
 pub(crate) fn insert<C: Bidirectional<L>, L: LinkOps>(
     list: &mut C,
@@ -87,7 +87,7 @@ pub(crate) fn insert<C: Bidirectional<L>, L: LinkOps>(
     settled(at, there, acquired)
 }
 
-/// Removes the member after the position, and returns it.
+/// Removes the member after the gap `Front` or `After`, and returns it. It returns `None` if there is no such member.
 #[inline(always)]
 pub(crate) fn remove_after<C: ForwardOnly<L>, L: LinkOps>(
     list: &mut C,
@@ -117,7 +117,7 @@ fn place_of<T>(object: Option<UnsafeRef<T>>) -> Option<Place>
     }
 }
 
-/// Removes the member after the gap, or the last member if the gap is at the back, and returns it. The links of the list lead both ways.
+/// Removes the member after the gap, or the last member if the gap is at the back, and returns it. The list has to be doubly linked, or an XOR list.
 #[inline(always)]
 pub(crate) fn remove<K: DoubleEnded + BidirectionalLinks<L>, T, L: LinkOps>(
     list: &mut LinkList<K, T>,

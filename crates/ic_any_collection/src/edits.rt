@@ -19,10 +19,11 @@ use ic_unsafe_ref::Place;
 use std::alloc::Allocator;
 
 impl<T> AnyCollection<T> {
-    /// Inserts the object into the gap, and returns whether its link was acquired. If the object is already linked, it returns `false`, and nothing
-    /// changes. If the gap is an end of a list, the cursor goes to null, otherwise it stays. O(1), in a tree O(log n).
+    /// Inserts the object into the gap, and returns whether the object's link was acquired. If the object is already linked, the call returns
+    /// `false`, and nothing changes. Otherwise, if the gap is an end of a list, the cursor goes to null. At other gaps it stays. O(1), in a tree
+    /// O(log n).
     ///
-    /// It requires that the kind has the gap, as [`Gap::can_insert`] says, and that the table covers the object's place.
+    /// It requires that the collection's kind can insert into the gap, as [`Gap::can_insert`] says, and that the table covers the object's place.
     #[inline(always)]
     pub fn insert<M: Allocator>(&mut self, links: &mut AnyTable<M>, gap: Gap, object: Place) -> bool
         requires held { Held (table_in links.old) self.old }
@@ -41,10 +42,10 @@ impl<T> AnyCollection<T> {
     }
 
     /// Removes the member after the gap, or the last member if the gap is at the back, and returns it. It returns `None` if there is no such member.
-    /// If the gap is an end of a list, the cursor goes to null. If the cursor is on the removed member, it goes on to the next member. O(1), in a
+    /// If the gap is an end of a list, the cursor goes to null. Otherwise, a cursor that is on the removed member goes to the next member. O(1), in a
     /// tree O(log n).
     ///
-    /// It requires that the kind has the call, as [`Gap::can_remove`] says.
+    /// It requires that the collection's kind can remove at the gap, as [`Gap::can_remove`] says.
     #[inline(always)]
     pub fn remove<M: Allocator>(&mut self, links: &mut AnyTable<M>, gap: Gap) -> Option<Place>
         requires held { Held (table_in links.old) self.old }
@@ -61,9 +62,9 @@ impl<T> AnyCollection<T> {
     }
 
     /// Replaces the member after the gap by the object. It returns the replaced member, and whether the object's link was acquired. A cursor that was
-    /// on the member is then on the object. If there is no member, or if the object is linked, nothing has changed. O(1).
+    /// on the replaced member is then on the object. If no member follows the gap, or if the object is already linked, nothing changes. O(1).
     ///
-    /// It requires that the kind has the call, as [`Gap::can_replace`] says, and that the table covers the object's place.
+    /// It requires that the collection's kind can replace at the gap, as [`Gap::can_replace`] says, and that the table covers the object's place.
     #[inline(always)]
     pub fn replace<M: Allocator>(
         &mut self,

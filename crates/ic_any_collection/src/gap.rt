@@ -24,8 +24,8 @@ pub enum Gap {
 }
 
 impl Gap {
-    /// Returns whether collections of this kind can insert objects into the gap. All lists can at the front, lists whose links lead both ways at the
-    /// back, all kinds except singly linked lists before the cursor, and all kinds after the cursor.
+    /// Returns whether collections of this kind can insert objects into the gap. All lists can insert at the front, and doubly linked and XOR lists
+    /// also at the back. All kinds except singly linked lists can insert before the cursor, and all kinds can insert after it.
     #[inline]
     pub fn can_insert(self, kind: Kind) -> bool
         ensures { result ≡ gaps.can_insert self kind }
@@ -50,8 +50,8 @@ impl Gap {
         }
     }
 
-    /// Returns whether collections of this kind can replace the member at the gap by an object. They can replace the member that the cursor is on, or
-    /// in a singly linked list the member after the cursor.
+    /// Returns whether collections of this kind can replace the member at the gap by an object. Singly linked lists can replace the member after the
+    /// cursor, and all other kinds the member that the cursor is on.
     #[inline]
     pub fn can_replace(self, kind: Kind) -> bool
         ensures { result ≡ gaps.can_replace self kind }

@@ -53,7 +53,7 @@ fn list_walk<A: KeyAdapter, L: RBTreeOps, O: Values<A::Value>, N: Allocator>(
 }
 
 impl<T> AnyCollection<T> {
-    /// Puts the cursor on the first member that compares equal, or to null if there is none, and returns that member.
+    /// Puts the cursor on the first member that compares equal to the probe, or to null if there is none, and returns that member.
     ///
     /// It requires that `self` is a tree, that there is an object at each member's place, and that the probe's count is at most `u64::MAX - 66`. O(log
     /// n): in a tree of n members the probe compares at most 2 log2(n + 1) times.
@@ -96,8 +96,8 @@ impl<T> AnyCollection<T> {
     /// Puts the cursor on the first member that meets the bound, or to null if there is none, and returns that member. For `Unbounded` it compares
     /// nothing.
     ///
-    /// It requires of the bound's probe what [`AnyCollection::find_by`] requires. If the tree is not sorted by the probe's order, the cursor is at a
-    /// point where the result of the comparison changes from one member to the next. O(log n).
+    /// It requires what [`AnyCollection::find_by`] requires, also of the bound's probe. If the tree is not sorted by the probe's order, it finds some
+    /// member that meets the bound and whose previous member does not, or the cursor goes to null. O(log n).
     pub fn lower_bound_by<P: Probe<T>, M: Allocator, B: Allocator>(
         &mut self,
         links: &AnyTable<M>,
@@ -123,8 +123,8 @@ impl<T> AnyCollection<T> {
     /// Puts the cursor on the last member that meets the bound, or to null if there is none, and returns that member. For `Unbounded` it compares
     /// nothing.
     ///
-    /// It requires of the bound's probe what [`AnyCollection::find_by`] requires. If the tree is not sorted by the probe's order, the cursor is at a
-    /// point where the result of the comparison changes from one member to the next. O(log n).
+    /// It requires what [`AnyCollection::find_by`] requires, also of the bound's probe. If the tree is not sorted by the probe's order, it finds some
+    /// member that meets the bound and whose next member does not, or the cursor goes to null. O(log n).
     pub fn upper_bound_by<P: Probe<T>, M: Allocator, B: Allocator>(
         &mut self,
         links: &AnyTable<M>,
@@ -147,10 +147,10 @@ impl<T> AnyCollection<T> {
         position
     }
 
-    /// Returns the members between two bounds, in memory of `alloc`. It makes a separate search with each bound's probe.
+    /// Returns the members between two bounds, in memory of `alloc`. It makes one search with the probe of each bound.
     ///
     /// It requires that `self` is a tree, and that there is an object at each member's place. Both probes have to use the adapter `adapter`, and
-    /// their counts have to be at most `u64::MAX - 66`. O(log n + answer).
+    /// their counts have to be at most `u64::MAX - 66`. O(log n + returned members).
     pub fn range_by<A: KeyAdapter<Value = T>, M: Allocator, B: Allocator, N: Allocator>(
         &self,
         alloc: N,
@@ -242,9 +242,9 @@ impl<T> AnyCollection<T> {
         put_in_order(tree, links.tree_mut(), objects, probe, object)
     }
 
-    /// Puts the cursor on the first member that compares equal, or else inserts the object into the gap where the searched key belongs and puts the
-    /// cursor on the object. It returns whether a member compares equal, and that member or the object. If no member compares equal and the object is
-    /// already linked, it returns `None`, and neither tree nor links have changed.
+    /// Puts the cursor on the first member that compares equal. If there is none, it inserts the object into the gap where the searched key belongs,
+    /// and puts the cursor on the object. It returns whether a member compares equal, and the member that the cursor is then on. If no member
+    /// compares equal and the object is already linked, it returns `None`, and neither tree nor links have changed.
     ///
     /// It requires that `self` is a tree, and that there is an object at each member's place. The object's place has to be covered, and the probe's
     /// count has to be at most `u64::MAX - 66`. O(log n).
@@ -311,8 +311,8 @@ fn put_in_order<T, P: Probe<T>, M: Allocator, B: Allocator>(
     true
 }
 
-// Returns the first member that compares equal, or else the object, which it inserts into the gap where the search ended. It returns `None` if the
-// object is already linked.
+// Returns `true` and the first member that compares equal. If there is none, it inserts the object into the gap where the search ended, and returns
+// `false` and the object. If the object is already linked, it returns `None` instead of inserting it.
 fn put_at_key<T, P: Probe<T>, M: Allocator, B: Allocator>(
     tree: &mut RBTree<Unkeyed<T>>,
     links: &mut rbtree::LinkOps<M>,

@@ -43,10 +43,10 @@ impl<T> AnyCollection<T> {
         }
     }
 
-    /// Moves the cursor to the next member, from null to the first one, and from the last one to null, and returns the member that it is then on.
-    /// O(1), in a tree O(log n).
+    /// Moves the cursor to the next member, and returns the member that the cursor is then on. From null the cursor goes to the first member, and
+    /// from the last member to null. O(1), in a tree O(log n).
     ///
-    /// It requires that the field's table keeps the collection. All calls that take the table require this.
+    /// It requires that the field's table represents the members of the collection. All calls that have the table as an argument require this.
     #[inline]
     pub fn move_next<M: Allocator>(&mut self, links: &AnyTable<M>) -> Option<Place>
         requires held { Held (table_in links.now) self.old }
@@ -62,8 +62,8 @@ impl<T> AnyCollection<T> {
         }
     }
 
-    /// Moves the cursor to the previous member, from null to the last one, and from the first one to null, and returns the member that it is then on.
-    /// O(1), in a tree O(log n).
+    /// Moves the cursor to the previous member, and returns the member that the cursor is then on. From null the cursor goes to the last member, and
+    /// from the first member to null. O(1), in a tree O(log n).
     ///
     /// It requires that the collection is not a singly linked list.
     #[inline]
@@ -82,8 +82,8 @@ impl<T> AnyCollection<T> {
         }
     }
 
-    /// Puts the cursor on a member. In an XOR list it requires that `prev` is the previous member, or `None` for the first member. Other kinds ignore
-    /// `prev`. O(1).
+    /// Puts the cursor on the member `place`. In an XOR list it requires that `prev` is the member before `place`, or `None` if `place` is the first
+    /// member. Other kinds ignore `prev`. O(1).
     #[inline]
     pub fn stand_on<M: Allocator>(&mut self, links: &AnyTable<M>, prev: Option<Place>, place: Place)
         requires held { Held (table_in links.now) self.old }

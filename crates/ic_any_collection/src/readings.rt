@@ -73,8 +73,8 @@ impl<T> AnyCollection<T> {
         Ok(places)
     }
 
-    /// Returns the member before a place, if the place is a member: `Some(None)` for the first member, and `None` if the place is no member. It walks
-    /// from the front: O(members).
+    /// Returns the member before the member `place`, or `Some(None)` if `place` is the first member. If `place` is no member, it returns `None`. It
+    /// walks from the front: O(members).
     pub fn find_prev<M: Allocator>(
         &self,
         links: &AnyTable<M>,

@@ -15,7 +15,7 @@ use ic_link_ops::{LinkOps, linked_list, rbtree};
 use ic_unsafe_ref::Place;
 use std::alloc::{Allocator, Global};
 
-// Makes one call of the table of either kind, which has the name `$links` in the call.
+// Makes the call `$call` on the table in `$table`, of either kind. In the call, the table has the name `$links`.
 macro_rules! on_table {
     ($table:expr, $links:ident => $call:expr) => {
         match $table {

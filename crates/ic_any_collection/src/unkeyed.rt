@@ -1,4 +1,4 @@
-//! The adapter of a tree without keys of its own: the caller passes each search an adapter for the keys.
+//! The adapter of a tree that has no keys of its own. The caller passes a probe to each search, and the probe makes the comparisons.
 //!
 //! ```text
 //! let tree = RBTree::new(Unkeyed::new()); // searched by `find_by`, which compares by its probe
@@ -27,7 +27,7 @@ impl<T> Clone for Unkeyed<T> {
 
     ghost is_infallible = { λ _. ⊤ };
 
-    /// Returns a copy of the adapter. It never fails.
+    /// Returns a copy of the adapter. This method never fails.
     fn clone(&self) -> Result<Self, AllocError> {
         Ok(*self)
     }

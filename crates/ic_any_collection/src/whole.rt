@@ -60,8 +60,8 @@ impl<T> AnyCollection<T> {
 
     /// Moves all members of the collection `given` after the cursor, or to the front if the cursor is at null. The cursor stays.
     ///
-    /// It requires that both collections are lists of one kind, that one table keeps both, and that they share no member. O(1). For singly linked
-    /// lists it reads one entry for each given member.
+    /// It requires that both collections are lists of one kind, that the table `links` represents the members of both, and that they share no member.
+    /// O(1). For singly linked lists it reads one entry for each given member.
     #[inline]
     pub fn splice_after<M: Allocator>(&mut self, links: &mut AnyTable<M>, given: AnyCollection<T>)
         requires held { Held (table_in links.old) self.old }
@@ -94,8 +94,8 @@ impl<T> AnyCollection<T> {
 
     /// Moves all members of the collection `given` before the cursor, or to the back if the cursor is at null. The cursor stays.
     ///
-    /// It requires that both collections are doubly linked lists, or both are XOR lists. It also requires that one table keeps both, and that they
-    /// share no member. O(1).
+    /// It requires that both collections are doubly linked lists, or both are XOR lists. It also requires that the table `links` represents the
+    /// members of both, and that they share no member. O(1).
     #[inline]
     pub fn splice_before<M: Allocator>(&mut self, links: &mut AnyTable<M>, given: AnyCollection<T>)
         requires held { Held (table_in links.old) self.old }

@@ -9,17 +9,17 @@ use Rattle.ic_unsafe_ref.proofs.PlaceLemmas.{same_index}
 use Rattle.ic_atomic.specs.declared.step.Event.{Event}
 use Rattle.ic_atomic.specs.Records.{holds, HoldsAlso}
 
--- if a call can't return false, what it guarantees for true holds
+-- if a call cannot return false, the guarantee P that the call gives for the result true holds
 pub certain : {P : Type 0} (r : Bool) → (OnFalse r ⊥) → OnTrue r P → P
 certain true never h = h
 certain false never h = absurd never
 
--- if a call returns false only for a linked place, it doesn't return false for a place that is not linked
+-- if a call returns false only for a linked place (b is true), the call cannot return false for an unlinked place (b is false)
 pub not_refused : {Q : Type 0} (r : Bool) {b : Bool} → b ≡ false → (Q → b ≡ true) → OnFalse r Q → OnFalse r ⊥
 not_refused true free linked h = tt
 not_refused false free linked h = true≢false (sym (linked h) ∙ free)
 
--- an accepted result has what the contract guarantees for acceptance, and a refused result what it guarantees for refusal
+-- if the result is `Ok`, the guarantee P that the contract gives for `Ok` holds. The same is true of `Err`
 pub had : {X Y : Type 0} {P : Type 0} (r : Result X Y) → is_ok r ≡ true → OnOk r P → P
 had (Ok x) is h = h
 had (Err y) is h = absurd (true≢false (sym is))
@@ -32,7 +32,7 @@ pub as_it_was : {X Y : Type 0} (P : Y → Type 0) {Q : Type 0} (r : Result X Y) 
 as_it_was P (Ok x) is h = absurd (true≢false is)
 as_it_was P (Err y) is h = h.1
 
--- if two tests of places agree everywhere, and then change at one place alone and agree there, they agree everywhere again
+-- let two tests a and b of places agree everywhere. If c is the same as a and d the same as b except at p, and c and d agree at p, c and d agree everywhere
 agree : (a b c d : Place → Bool) (p : Place) → c p ≡ d p → ((q : Place) → q ≢ p → c q ≡ a q) → ((q : Place) → q ≢ p → d q ≡ b q)
     → ((q : Place) → a q ≡ b q) → (q : Place) → c q ≡ d q
 agree a b c d p here left right was q = dite (ℕ_discrete (index_of q) (index_of p))
@@ -40,6 +40,6 @@ agree a b c d p here left right was q = dite (ℕ_discrete (index_of q) (index_o
     (λ apart. let ne : q ≢ p = λ e. apart (ap index_of e) in left q ne ∙ was q ∙ sym (right q ne))
 
 module _ {E : Type 0} (linked : E → Bool) {t u : Table E} {r w : List Event} {p : Place} where
-  -- if one more place is linked and also held, the linked places are still the held places
+  -- if the linked places are the held places, and p becomes linked and held, the linked places are still the held places
   pub held_with : LinksAlso linked t u p → HoldsAlso r w p → ((q : Place) → linked (t.entry q) ≡ holds q r) → (q : Place) → linked (u.entry q) ≡ holds q w
   held_with links held was = agree (λ q. linked (t.entry q)) (λ q. holds q r) (λ q. linked (u.entry q)) (λ q. holds q w) p (links.is ∙ sym held.is) links.others held.others was

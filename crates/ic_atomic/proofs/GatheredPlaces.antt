@@ -9,7 +9,7 @@ use Rattle.ic_atomic.specs.declared.step.Event.{Event}
 use Rattle.ic_atomic.specs.Records.{event}
 use Rattle.ic_atomic.specs.Gathering.{claims_of_each, chosen}
 
--- the record of the claims of several places and then p is the record of these claims, followed by the claim of p
+-- the events of the claims of the places ps and then p are the events of the claims of ps, followed by the claim of p
 claims_more : (ps : List Place) (got : List Bool) (p : Place) (b : Bool) → length got ≡ length ps
     → claims_of_each (ps ++ p ∷ []) (got ++ b ∷ []) ≡ claims_of_each ps got ++ event (Claim p) (if b then 0 else 1) ∷ []
 claims_more [] [] p b e = refl
@@ -30,7 +30,7 @@ one_more : {X : Type 0} (xs : List X) (x : X) → length (xs ++ x ∷ []) ≡ le
 one_more [] x = refl
 one_more (y ∷ xs) x = let e = one_more xs x in omega (arith, e)
 
--- a place that is not among the offered places is not among the places whose claims succeeded
+-- a place that is not among the offered places ps is not among the places of ps whose claims succeeded
 absent_chosen : (q : Place) (ps : List Place) (got : List Bool) → IsAbsent q ps → IsAbsent q (chosen ps got)
 absent_chosen q [] got h = tt
 absent_chosen q (p ∷ ps) [] h = tt
@@ -38,7 +38,7 @@ absent_chosen q (p ∷ ps) (true ∷ got) h = (h.0, absent_chosen q ps got h.1)
 absent_chosen q (p ∷ ps) (false ∷ got) h = absent_chosen q ps got h.1
 
 module _ {E : Type 0} (n : E → Neighbors) where
-  -- THE PLACES IN `seen` WERE CLAIMED, one after the other, and the places whose claims succeeded were appended to the list
+  -- between the tables t and u, the holder claimed the places in `seen` one after the other, and the places whose claims succeeded were appended to the list
   pub record Gathered (t u : Table E) (list new_list : Ends) (r w : List Event) (seen : List Place) (pushed : ℕ) : Type 0 where
     pub got : List Bool
     pub each : length got ≡ length seen

@@ -1,4 +1,4 @@
--- Records in the hands of seats: one record changes, or records move from one hand to another.
+-- Lemmas on the records in all hands of seats, when one record changes, or records move from one hand to another.
 use Rattle.std.proofs.Common.{◌≡◌, ℕ, zero, suc, ◌+◌, List, [], ◌∷◌, ◌++◌, length, set, sym, ap, ◌∙◌, subst, arith, append_assoc, append-nil, IsPermutation}
 use Rattle.std.proofs.lemmas.List.{set_comm}
 use Rattle.std.proofs.lemmas.List.Sorted.{IsPermutation-refl, IsPermutation-sym, IsPermutation-trans, IsPermutation-append_left, IsPermutation-append_right, IsPermutation-append_comm}
@@ -24,7 +24,8 @@ module _ {A : Type 0} where
   second_first xs ys zs = subst (λ l. IsPermutation l (ys ++ (xs ++ zs))) (append_assoc xs ys zs)
       (subst (IsPermutation ((xs ++ ys) ++ zs)) (append_assoc ys xs zs) (IsPermutation-append_left zs (xs ++ ys) (ys ++ xs) (IsPermutation-append_comm xs ys)))
 
--- the position that the only record of a hand has in the list of all records
+-- the hand with the number `id` has only the record r. In the list of all records, r has the index `place`, and only the record at this index changes if the
+-- hand changes
 pub record IsAmong (views : List HeldRecords) (id : ℕ) (r : List Event) : Type 0 where
   pub place : ℕ
   pub at : get_elem? (records_in views) place ≡ some r
@@ -45,7 +46,7 @@ among (x ∷ xs) (suc id) v r e one =
       changes = λ w new h. ap (λ l. x.records ++ l) (s.changes w new h) ∙ sym (set_append x.records (records_in xs) s.place new);
     }
 
--- all records are the records of one hand and the others, and the others do not change if the hand changes
+-- the records of all hands are those of v, the hand with the number `id`, and `others`. If this hand changes, `others` stays the same
 pub record Apart (views : List HeldRecords) (id : ℕ) (v : HeldRecords) : Type 0 where
   pub others : List (List Event)
   pub all : IsPermutation (records_in views) (v.records ++ others)

@@ -1,4 +1,4 @@
--- Holders whose seats have one record in hand, and seats to which the records of several holders are moved.
+-- Lemmas on holders, whose seats have one record each, and on seats to which the records of several holders are moved.
 use Rattle.std.proofs.Common.{◌≡◌, ◌≢◌, zero, suc, ℕ, ◌+◌, ◌<◌, ◌≤◌, true, true≢false, List, [], ◌∷◌, ◌++◌, map, drop, append-nil, length, get_or, set, replicate, refl, sym, ap, ◌∙◌, subst, arith}
 use Rattle.std.proofs.lemmas.List.{get_or-set_same, get_or-set_other, drop_more, nil_from_length}
 use mathlib.Core.Logic.{dite}
@@ -15,7 +15,7 @@ use Rattle.ic_atomic.specs.OneList.{record_at, IsOneList}
 use Rattle.ic_atomic.specs.Rule.{mine, Compares}
 use Rattle.ic_atomic.specs.Holders.{holders_of, IsSeatOf, hand_of, hand_with, record_of, IsOf, AreOneList, AreWholeList, NoneTwice}
 
--- a holder with the record r alone in hand was made with the claims, and r is its record
+-- if the seat of the holder h is a seat of the claims and has only the record r, h was made with the claims, and r is its record
 pub is_of : {A : Type 0} (claims : Claims A) (h : Holder) (r : List Event) → IsSeatOf claims h.seat → hand_of h.seat ≡ hand_with claims (r ∷ []) → IsOf claims h × (record_of h ≡ r)
 is_of claims h r t e = (record { table = t; hand = e ∙ ap (λ (x : List Event). hand_with claims (x ∷ [])) (sym (ap mine e)) }, ap mine e)
 
@@ -27,11 +27,11 @@ module _ (size : Size) (n m : ℕ) (v : HeldRecords) (has : v ≡ hand size (rep
   pub dealt_first : only_first v ≡ hand size ([] ∷ [])
   dealt_first = ap only_first (has ∙ ap (λ k. hand size (replicate k [])) is)
 
--- the seat of the holder h has exactly these records in hand
+-- the seat of the holder h has exactly the records `records`
 abbrev pub HasRecords : {A : Type 0} → Claims A → List (List Event) → Holder → Type 0
 HasRecords claims records h = IsSeatOf claims h.seat × (hand_of h.seat ≡ hand_with claims records)
 
--- the first of the gathered records moves back to the seat of its holder
+-- a seat has the records of all holders of hs from the index i on. Its first record moves back to the seat of the holder at i, and the others stay
 module _ (size : Size) (hs : List Holder) (i : ℕ) (d : Holder) (lt : i < length hs) (v : HeldRecords) (has : v ≡ hand size (map record_of (drop i hs))) where
   gathered : v ≡ hand size (record_of (get_or hs i d) ∷ map record_of (drop (i + 1) hs))
   gathered = has ∙ ap (λ (l : List Holder). hand size (map record_of l)) (drop_more hs i d lt)
@@ -71,7 +71,7 @@ module _ {A : Type 0} (claims : Claims A) where
       let rest = all_back xs ys (omega (arith, long)) (λ k d h. back (suc k) d (omega (arith, h))) in
       λ i. one i ∷ rest i
 
-  -- if the gathered records were compared with all others, they are in one list of steps with the records of all other holders
+  -- if the records rs were compared with all others (`Compares`), rs and the records of all other holders can be merged into one list of steps
   pub reported : (rs : List (List Event)) (v : HeldRecords) → v ≡ hand_with claims rs → Compares v → AreOneList claims rs
   reported rs v has c =
       let here : Compares (hand_with claims rs) = subst Compares has c in record {
@@ -82,7 +82,7 @@ module _ {A : Type 0} (claims : Claims A) where
         one = here.one;
       }
 
-  -- if the given records are those of all holders, they alone are one list of steps
+  -- if rs are the records of all holders, rs alone can be merged into one list of steps
   pub told_whole : (rs : List (List Event)) → AreOneList claims rs → length rs ≡ holders_of claims → AreWholeList claims rs
   told_whole rs one all =
       let none : one.others ≡ [] = nil_from_length one.others (omega (arith, one.all, all)) in record {
@@ -96,6 +96,6 @@ held_in p [] others h e = absurd (true≢false (sym e))
 held_in p (r ∷ rs) others zero e = e
 held_in p (r ∷ rs) others (suc h) e = held_in p rs others h e
 
--- if some records are in one list of steps with others, no place is held by two holders with these records
+-- if the records rs and `others` can be merged into one list of steps, no two different holders with records in rs hold the same place
 pub none_twice : (words : List ℕ) (rs others : List (List Event)) → IsOneList words (rs ++ others) → NoneTwice rs
 none_twice words rs others one h k p a b = one.apart h k p (held_in p rs others h a) (held_in p rs others k b)

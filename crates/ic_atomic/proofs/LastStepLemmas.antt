@@ -1,4 +1,4 @@
--- What follows from one list of steps for its last step: if this is a claim that was refused, some holder holds the place.
+-- Lemmas on the last step in the list of all steps. If this step is a claim that was refused, some holder holds the place.
 use Rattle.std.proofs.Common.{◌≡◌, ℕ, cond, eq-eqb, List, [], ◌∷◌, ◌++◌, map, length, refl, sym, ap, ◌∙◌, arith, Option, Some, None}
 use Rattle.ic_link_ops.specs.Prelude.{Place, index_of}
 use Rattle.ic_atomic.specs.declared.step.Step.{Step}
@@ -37,18 +37,18 @@ module _ {A : Type 0} where
   parted x [] = record { before = []; last = x; is = refl }
   parted x (y ∷ ys) = let rest = parted y ys in record { before = x ∷ rest.before; last = rest.last; is = ap (λ l. x ∷ l) rest.is }
 
--- a claim of a place that is held leaves the place with its holder
+-- a claim of a place that a party holds does not change the holder of the place
 refused_leaves : (o : Option ℕ) (a : ℕ) (p : Place) → word_for o ≡ 1 → holder_after o a (Claim p) ≡ o
 refused_leaves None a p e = absurd (omega (arith, e))
 refused_leaves (Some h) a p e = refl
 
--- the last step of all is the last step in the record of its holder
+-- the last step in the list of all steps is also the last step in the record of its holder
 pub record LastStep (records : List (List Event)) : Type 0 where
   pub holder : ℕ
   pub before : List Event
   pub event : Event
   pub is : record_at records holder ≡ before ++ event ∷ []
-  -- If the last step of all is a claim that was refused, some holder holds the place.
+  -- If the last step is a claim that was refused, some holder holds the place.
   pub refused : (p : Place) → event.step ≡ Claim p → event.found ≡ 1 → IsHeld records p
 
 module _ (words : List ℕ) (records : List (List Event)) (one : IsOneList words records) where
@@ -73,7 +73,7 @@ module _ (words : List ℕ) (records : List (List Event)) (one : IsOneList words
             (by.0, sym (ends_of words records one by.0 p) ∙ by.1);
       }
 
-  -- if some record has a step, there is a last step of all
+  -- if the record of some holder has a step, the list of all steps has a last step
   pub last_step : (h : ℕ) (r : List Event) (e : Event) → record_at records h ≡ r ++ e ∷ [] → LastStep records
   last_step h r e has = from one.order refl
     where

@@ -1,4 +1,4 @@
--- What the laws of tables require of a record that gains steps.
+-- Lemmas that the laws of link steps require of `Gains`: a call without link steps gains no step, and the steps of two calls add up.
 use Rattle.std.specs.Prelude.{List, [], ◌∷◌, ◌++◌, map}
 use Rattle.std.proofs.Common.{◌≡◌, refl, sym, ap, ◌∙◌, append-nil, append_assoc}
 use Rattle.ic_link_ops.specs.declared.link_ops.LinkOps.{Ghosts}
@@ -7,7 +7,7 @@ use Rattle.ic_atomic.specs.declared.step.Event.{Event}
 use Rattle.ic_atomic.specs.declared.atomic_link_ops.AtomicLinkOps.{AtomicLinkOps}
 use Rattle.ic_atomic.specs.AtomicLinks.{step_of, record_in, links_of, Gains}
 
--- the steps of a holder for two lists of link steps, one after the other, are the steps for the first list, followed by the steps for the second
+-- the holder's steps for the link steps s ++ t are its steps for s, followed by its steps for t
 steps_on : (s t : List LinkStep) → map step_of (s ++ t) ≡ map step_of s ++ map step_of t
 steps_on [] t = refl
 steps_on (x ∷ s) t = ap (λ (es : List Event). step_of x ∷ es) (steps_on s t)

@@ -10,7 +10,8 @@ use Rattle.ic_atomic.specs.declared.atomic_link_ops.AtomicLinkOps.{AtomicLinkOps
 use Rattle.ic_atomic.specs.Holders.{record_of}
 use Rattle.ic_atomic.specs.Records.{event}
 
--- the holder's step for a link step of its table: a claim that found 0 if a place is linked, and a release that found 1 if it is unlinked
+-- the holder's step for a link step of its table: a claim that found the word 0 if the link step links a place, and a release that found the word 1 if it
+-- unlinks one
 abbrev pub step_of : LinkStep → Event
 step_of (acquires p) = event (Claim p) 0
 step_of (releases p) = event (Release p) 1
@@ -29,14 +30,14 @@ module _ {L A E : Type 0} {g : Ghosts L E} where
   abbrev pub links_of : AtomicLinkOps L A E g → L
   links_of t = t.links
 
-  -- THE RECORD GAINS THE STEPS: in the order of `steps`, the holder's record gains a claim that found 0 for each link and a release for each unlink. The record
-  -- gains nothing else
+  -- the table makes the link steps `steps`. In their order, the holder's record gains a claim that found the word 0 for each link and a release for each
+  -- unlink, and gains nothing else
   pub record Gains (Trace : L → L → List LinkStep → Type 0) (old new : AtomicLinkOps L A E g) (steps : List LinkStep) : Type 0 where
     pub claims : claims_of new ≡ claims_of old
     pub gained : record_in new ≡ record_in old ++ map step_of steps
     pub did : Trace (links_of old) (links_of new) steps
 
-  -- THE LINK WAS REFUSED: the holder's record gains a claim of p that found 1, and nothing else has changed
+  -- the table refuses to link p: the holder's record gains a claim of p that found the word 1, and nothing else changes
   pub record Fails (old new : AtomicLinkOps L A E g) (p : Place) : Type 0 where
     pub claims : claims_of new ≡ claims_of old
     pub gained : record_in new ≡ record_in old ++ event (Claim p) 1 ∷ []

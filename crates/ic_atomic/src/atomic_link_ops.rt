@@ -18,10 +18,10 @@ use ic_link_ops::LinkOps;
 use ic_unsafe_ref::Place;
 use std::alloc::{Allocator, Global};
 
-/// A table of links whose linked places are exactly those that its holder has claimed.
+/// A table of links whose linked places are exactly the places that its holder holds.
 ///
-/// The table refuses a link exactly if some holder, living or dropped, holds the place. Each link is one claim of its holder, and each unlink is one release.
-/// No other thread reads or writes the entries of the table, so no call waits. If the table is dropped, the places that its holder holds stay held.
+/// The table refuses a link exactly if some holder, living or dropped, holds the place. Each link is one claim by the table's holder, and each unlink is one
+/// release. No other thread reads or writes the entries of the table, so no call waits. If the table is dropped, the places that its holder holds stay held.
 #[derive(Drop)]
 pub struct AtomicLinkOps<'c, L: PlainLinkOps, A: Allocator = Global> {
     claims: &'c Claims<A>,
@@ -39,8 +39,8 @@ impl<'c, L: PlainLinkOps, A: Allocator> AtomicLinkOps<'c, L, A> {
 
     /// Makes a table of claimed places from a table of links, the claims, and the holder that claims the places.
     ///
-    /// The call requires that the holder was made with the claims and holds nothing. The table of links must link nothing, and may only cover places of the
-    /// claims. O(1).
+    /// The call requires that the holder was made with the claims and holds nothing. The table of links must have no linked place, and may cover only places of
+    /// the claims. O(1).
     pub fn new(claims: &'c Claims<A>, holder: Holder, links: L) -> AtomicLinkOps<'c, L, A>
         requires made { IsOf claims.now holder }
         requires covered { (L.table links).extent.places ≤ places_of claims.now }
@@ -65,8 +65,8 @@ impl<'c, L: PlainLinkOps, A: Allocator> AtomicLinkOps<'c, L, A> {
         self.links.covers()
     }
 
-    /// Returns whether the holder of this table holds `place`, which is the case exactly if this table links the place. The call requires that the table covers
-    /// the place. O(1).
+    /// Returns whether the holder of this table holds `place`. The holder holds a place exactly if this table links the place. The call requires that the table
+    /// covers the place. O(1).
     #[inline]
     pub fn holds(&self, place: Place) -> bool
         requires covered { IsCovered (L.table (links_of self.now)) place }
@@ -79,8 +79,8 @@ impl<'c, L: PlainLinkOps, A: Allocator> AtomicLinkOps<'c, L, A> {
     /// Returns whether any holder holds `place`: the holder of this table or another, living or dropped. The call is a look, which is a step of this table's
     /// holder.
     ///
-    /// The call requires that the table covers the place. The result may be out of date when the call returns, unless this table's holder holds the place. One
-    /// load, O(1), which waits for no other thread.
+    /// The call requires that the table covers the place. The result may be out of date when the call returns, unless this table's holder holds the place. The
+    /// call makes one load, O(1), and waits for no other thread.
     #[inline]
     pub fn is_linked(&mut self, place: Place) -> bool
         requires covered { IsCovered (L.table (links_of self.old)) place }

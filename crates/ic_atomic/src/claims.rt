@@ -82,7 +82,7 @@ impl<A: Allocator + Copy> Claims<A> {
         Ok((claims, made))
     }
 
-    // Makes claims, and a seat that has every record in hand. There is one word more than there are places, so that there is always a word to load.
+    // Makes claims, and a seat that has the records of all holders. There is one word more than there are places, so that there is always a word to load.
     fn free(
         alloc: A,
         places: usize,
@@ -110,7 +110,7 @@ impl<A: Allocator> Claims<A> {
     ghost use Rattle.ic_atomic.specs.Held.{without_first, only_first, both_hands};
     ghost use Rattle.ic_atomic.specs.Holders.{places_of, holders_of, IsSeatOf, hand_of, HasNoSlot, record_of, IsOf, AreOneList, AreWholeList, NoneTwice};
 
-    // Moves the first record that a seat has in hand to a new seat.
+    // Moves the first record of `seat` to a new seat.
     fn first_of(&self, seat: &mut Seat<(), HeldRecords>) -> Seat<(), HeldRecords>
         requires seat { IsSeatOf self.now seat.old }
         ensures seat { IsSeatOf self.now seat.new }
@@ -141,9 +141,9 @@ impl<A: Allocator> Claims<A> {
 
     /// Claims `place` and returns true, or returns false if some holder holds it.
     ///
-    /// The call requires that the place is one of these claims' places, and that the holder was made with these claims. The result is false exactly if some
-    /// holder, living or dropped, held the place at this step. The calling holder itself may be this holder. If the result is false, only the record of the
-    /// holder is changed. One compare-exchange, O(1), which waits for no other thread.
+    /// The call requires that the place is one of these claims' places, and that the holder was made with these claims. The result is false exactly if a holder
+    /// held the place at this step: the calling holder or another, living or dropped. If the result is false, the call changes only the record of `holder`. The
+    /// call makes one compare-exchange, O(1), and waits for no other thread.
     #[inline]
     pub fn claim(&self, holder: &mut Holder, place: Place) -> bool
         requires place { index_of place < places_of self.now }
@@ -161,7 +161,8 @@ impl<A: Allocator> Claims<A> {
 
     /// Releases `place`, so that any holder may claim the place afterwards.
     ///
-    /// The call requires that `holder` holds the place, and that `holder` was made with these claims. One store, O(1), which waits for no other thread.
+    /// The call requires that `holder` holds the place, and that `holder` was made with these claims. The call makes one store, O(1), and waits for no other
+    /// thread.
     #[inline]
     pub fn release(&self, holder: &mut Holder, place: Place)
         requires place { index_of place < places_of self.now }
@@ -179,7 +180,7 @@ impl<A: Allocator> Claims<A> {
     /// Returns whether any holder holds `place`: the calling holder or another, living or dropped.
     ///
     /// The call requires that the place is one of these claims' places, and that the holder was made with these claims. The result may be out of date when the
-    /// call returns, unless the calling holder holds the place. One load, O(1), which waits for no other thread.
+    /// call returns, unless the calling holder holds the place. The call makes one load, O(1), and waits for no other thread.
     #[inline]
     pub fn look(&self, holder: &mut Holder, place: Place) -> bool
         requires place { index_of place < places_of self.now }
@@ -198,8 +199,8 @@ impl<A: Allocator> Claims<A> {
     ///
     /// The list has the steps of all holders of the claims. If the caller passes all holders, the list consists of just their records. No place is held by two
     /// of the given holders. Use this call if you have the holders of several threads together, for example after a join. The call requires that each holder
-    /// was made with these claims. You may pass any of these holders, in any order. The call changes neither a word nor a record, and is never refused. Four
-    /// loads for each holder and two more, O(holders). The call waits for no other thread, and takes no memory.
+    /// was made with these claims. You may pass any number of the claims' holders, in any order. The call changes neither a word nor a record, and is never
+    /// refused. The call makes four loads for each holder and two more, O(holders). It waits for no other thread, and takes no memory.
     pub fn audit<B: Allocator>(&self, holders: &mut Vec<Holder, B>)
         requires made { All (λ h. IsOf self.now h) holders.old.items }
         ensures made { All (λ h. IsOf self.now h) holders.new.items }
@@ -210,7 +211,7 @@ impl<A: Allocator> Claims<A> {
         ensures apart { NoneTwice (map record_of holders.new.items) }
     {
         let words = &self.table.shared;
-        // The contract of a load is about one seat, so all records are first moved to one seat.
+        // The contract of a load speaks of the records of one seat, so all records are first moved to one seat.
         let mut all = words.load_new_seat::<Seated>(0).1;
         for i in 0..holders.len() {
             let record = self.first_of(&mut holders[i].seat);

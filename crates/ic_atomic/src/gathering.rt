@@ -20,12 +20,13 @@ use std::alloc::Allocator;
 
 /// A gate that each worker calls to report its progress. The gate may delay the worker in this call.
 pub trait Gate {
-    // The statement that the gate was called for the worker with a number, after a number of results. Only `passed` makes this statement true.
+    // The statement that the gate was called for the worker with the first number, after as many results as the second number. Only `passed` makes this
+    // statement true.
     ghost Reported: { Self → ℕ → ℕ → Type 0 };
 
-    /// Records that the worker with the number `worker` has had `answered` results.
+    /// Records that the worker with the number `worker` has received `answered` results.
     ///
-    /// The call requires that `answered` is 0, or one more than in the last call for this worker.
+    /// The call requires that `answered` is 0, or one more than in an earlier call for this worker.
     fn passed(&self, worker: usize, answered: usize)
         requires in_order { IsNext (Reported self.now worker) answered }
         ensures reported { Reported self.now worker answered };

@@ -1,4 +1,4 @@
-//! The records of holders that a seat of the claim words has in hand.
+//! The hand of a seat of the claim words, which is the list of the records that the seat has.
 
 use crate::step::Record;
 use std::collections::LinkedList;
@@ -10,7 +10,7 @@ pub(crate) struct Size {
     pub(crate) holders: usize,
 }
 
-// The records that a seat has in hand: one for a holder's seat, and none for a seat that has given its records away. No value of this type is made.
+// The records that a seat has. A holder's seat has one record, and a seat that has given its records away has none. No value of this type is made.
 pub(crate) struct HeldRecords {
     pub(crate) size: Size,
     pub(crate) records: LinkedList<Record>,

@@ -1,7 +1,7 @@
-//! Claims on places: one word for each place, and one history of all threads that share them.
+//! Claims on places, with one word for each place. The steps of all threads on these words can be merged into one list of steps.
 //!
 //! Without a lock, each object that threads share is in the collections of at most one holder. A holder claims a place by one compare-exchange on the place's
-//! word, and releases the place by one store. By one load, a holder looks whether any holder holds a place.
+//! word, and releases the place by one store. By one load, a holder learns whether any holder holds a place.
 //!
 //! ```text
 //! let (claims, holders) = Claims::new(rt.alloc(), 1000, 2)?;
@@ -14,7 +14,7 @@
 //! claims.audit(&mut holders);
 //! ```
 //!
-//! [`Core`] makes the same steps on a plain value of one thread, and its results are those that the claims give for these steps.
+//! [`Core`] makes the same steps on a plain value of one thread, and returns the same results as the claims.
 #![tactic(auto)]
 
 mod atomic_link_ops;

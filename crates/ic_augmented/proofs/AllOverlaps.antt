@@ -1,5 +1,5 @@
--- A caller finds the first member that passes a test, and then the next one after each. These lemmas say that the caller gets all members that pass, in
--- order.
+-- A caller finds the first member that passes a test, and then again and again the next member that passes. These lemmas say that the caller gets all members
+-- that pass, in order.
 use Rattle.std.proofs.Common.{◌≡◌, Bool, true, false, cond, Some, None, List, [], ◌∷◌, ◌++◌, refl, sym, ap, ◌∙◌}
 use Rattle.std.specs.List.{filter}
 use Rattle.ic_link_ops.specs.Prelude.{Place, first}

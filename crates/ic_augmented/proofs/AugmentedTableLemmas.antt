@@ -12,7 +12,7 @@ use Rattle.ic_augmented.specs.Summaries.{Invalidates, Writes}
 use Rattle.ic_augmented.proofs.ConsistencyLemmas.{not_stale, joined_at}
 
 module _ {V S : Type 0} (join : V → Option S → Option S → S) (initial : V) where
-  -- A CELL IS WRITTEN at the place p
+  -- the cell `old` of the place p is replaced by the cell `new`
   module _ (es : List (Cell V S)) (p : Place) (old new out : Cell V S) (i : ℕ) (at : i ≡ index_of p) (covered : index_of p < length es) (read : old ≡ slice_index_or es i out) where
     there : cell_in initial es p ≡ old
     there = entry_read (blank initial) es p old out i at covered read
@@ -41,7 +41,8 @@ module _ {V S : Type 0} (join : V → Option S → Option S → S) (initial : V)
       join = joins_kept e;
     }
 
-    -- the written cell has another parent and the old summary, or it has no summary
+    -- if the new cell has another parent and the old summary, only the stored parent of p changes (`cell_moves`). If the new cell has no summary, the summary
+    -- of p becomes stale (`cell_invalidates`)
     pub cell_moves : (up : Option Place) → new.value ≡ old.value → new.summary ≡ old.summary → new.upper ≡ up → Writes (joined_in join initial es) (joined_in join initial (slice_set es i new)) p (cell_in initial es p).summary up
     cell_moves up e eg eu = cell_writes (cell_in initial es p).summary up e (eg ∙ sym (ap (λ (y : Cell V S). y.summary) there)) eu
 
@@ -58,7 +59,7 @@ module _ {V S : Type 0} (join : V → Option S → Option S → S) (initial : V)
     cell_joins x l r a b e el er =
         e ∙ (ap (λ (o : Option S). join old.value o r) el ∙ (ap (λ (o : Option S). join old.value a o) er ∙ ap (λ (y : Cell V S). join y.value a b) (sym there)))
 
-    -- a value can be set at a place with a stale summary, and each fresh summary that was right still is
+    -- if a value is set at a place with a stale summary, each fresh summary that was right still is
     pub value_set : {E : Type 0} (n : E → Node) (v : Table E) (s : List Place) → new.summary ≡ old.summary → new.upper ≡ old.upper → (joined_in join initial es).fresh p ≡ None
         → IsConsistent n v (joined_in join initial es) s → IsConsistent n v (joined_in join initial (slice_set es i new)) s
     value_set {E} n v s eg eu none h q m but x e =

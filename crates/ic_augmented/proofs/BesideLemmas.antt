@@ -1,4 +1,5 @@
--- The summaries of a summed tree were written within the tree, and they still count as written within it after a place with a stale summary is added.
+-- The summaries of a tree are written within the tree if each stored parent is one of its members. These lemmas say this of a summed tree, also after a place
+-- with a stale summary is added.
 use Rattle.std.proofs.Common.{◌≡◌, ◌≤◌, ◌+◌, ℕ, Bool, true, false, cond, ◌||◌, Option, Some, None, List, [], ◌∷◌, ◌++◌, refl, sym, ap, ◌∙◌, subst, arith, inl, inr}
 use Rattle.std.proofs.lemmas.Bool.{false_from_ne_true}
 use Rattle.ic_link_ops.specs.Prelude.{Place, Cut, join, insert, IsAbsent, Table}
@@ -23,7 +24,7 @@ or_more : (b a : Bool) (k : ℕ) → (1 ≤ k → a ≡ true) → 1 ≤ cond b 1
 or_more true a k f m = refl
 or_more false a k f m = f (omega (arith, m))
 
--- a place is a member of a sequence by the test `among` if and only if the count `times_in` is at least 1
+-- the test `among` is true for a place if and only if the count `times_in` of the place is at least 1
 pub among_times : (q : Place) (s : List Place) → among q s ≡ true → 1 ≤ times_in q s
 among_times q [] e = cc
 among_times q (x ∷ s) e = more_or (is_it q x) (among q s) (times_in q s) (among_times q s) e
@@ -68,7 +69,7 @@ module _ {S : Type 0} where
         ]
       ]
 
-  -- if summaries were written within s, they were also written within s and a place with a stale summary
+  -- if the summaries of s were written within s, they still count as written within the sequence after a place with a stale summary is added to it
   pub stale_within : (z : Summaries S) (s : List Place) (p : Place) → z.fresh p ≡ None → IsWrittenWithin z s → IsWrittenWithin z (p ∷ s)
   stale_within z s p stale h q r m fresh up = elim (same_or_not q p) [
     | inl e ↦ let k : is_fresh (z.fresh q) ≡ false = rw e (rw stale refl) in let x : true ≡ false = sym fresh ∙ k in cc

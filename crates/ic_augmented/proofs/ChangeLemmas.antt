@@ -1,4 +1,4 @@
--- If a summary has changed, the change is passed on to the summaries above it.
+-- If a summary has changed, the change is passed on to the summaries above it. The edge is the place whose summary may be wrong during an edit.
 use Rattle.std.proofs.Common.{◌≡◌, ◌≢◌, ◌≤◌, ◌+◌, true, false, Option, Some, None, List, [], ◌∷◌, ◌++◌, refl, sym, ap, ◌∙◌, subst, arith, inl, inr}
 use Rattle.ic_link_ops.specs.Prelude.{Place, IsAbsent, IsDisjoint, IsMember, Table}
 use Rattle.ic_link_ops.specs.declared.color.Color.{Color}
@@ -86,7 +86,7 @@ module _ {S : Type 0} where
     | inr x ↦ inr (edge_among z edge fs x)
   ]
 
-  -- THE WHOLE TREE IS CONSISTENT, if the fresh summaries above the subtree are right for the summary that the subtree's root has
+  -- the whole tree is consistent, if the fresh summaries above the subtree are right for the summary that the subtree's root has
   pub closes : (z : Summaries S) (x : Option S) (up : Option Place) (fs : List Frame) (t : Tree) → (is_fresh x ≡ true → seen z (top t) ≡ x) → (is_fresh x ≡ true → seen_upper z (top t) ≡ up)
       → IsConsistentTree z t → IsConsistentAbove z x up fs → IsConsistentTree z (plug fs t)
   closes z x up [] t s u h a = h
@@ -109,7 +109,7 @@ module _ {S : Type 0} where
     h,
   ) a.2
 
-  -- the place at the lower end of a path also stores the parent that it has now
+  -- if the fresh summaries above a subtree are right for the stored parent `up`, they are right for the present parent `above fs`
   under_now : (z : Summaries S) (x : Option S) (up : Option Place) (fs : List Frame) → IsConsistentAbove z x up fs → IsConsistentAbove z x (above fs) fs
   under_now z x up [] h = tt
   under_now z x up (frame d c p b ∷ fs) h = (
@@ -118,7 +118,7 @@ module _ {S : Type 0} where
     h.2,
   )
 
-  -- A SUMMARY IS COMPUTED AGAIN from the changed summary of a child, and then the fresh summaries of the subtree are right
+  -- if a summary is recomputed from the changed summary of a child, the fresh summaries of the subtree are right afterwards
   pub rejoined : (z w : Summaries S) (d : Side) (c : Color) (p : Place) (b t : Tree) (from to was is : S) (up parent : Option Place)
       → ((q : Place) → times q (put_in (frame d c p b) t) ≤ 1) → IsConsistentTree z t → IsConsistentTree z b → seen z (top t) ≡ Some to → seen_upper z (top t) ≡ Some p
       → IsJoinedOn z d p (Some from) up (top b) was → Rejoins (z.join p) from to was is → Writes z w p (Some is) parent → IsConsistentTree w (put_in (frame d c p b) t)
@@ -163,7 +163,7 @@ module _ {E : Type 0} (n : E → Node) (v : Table E) where
   once_below fs t h q = omega (arith, h.once q, times_plug q fs t)
 
 module _ {E S : Type 0} (n : E → Node) (v : Table E) where
-  -- THE SUMMARY OF A PLACE IS RECOMPUTED by a write of the summary that was computed from the change of one child
+  -- the summary of the place p is recomputed, if the summary is written that was computed from the change of one child
   pub rejoined_at : (z y : Summaries S) (p : Place) (from to was is : S) (parent : Option Place) → z.fresh p ≡ Some was → Writes z y p (Some is) parent → Rejoins (z.join p) from to was is → RecomputesAt n v z y p from to parent
   rejoined_at z y p from to was is parent e k r d c b fs t up h ht s u a =
       (rejoined z y d c p b t from to was is up parent (once_below n v fs (put_in (frame d c p b) t) (subtree_put n v d c p b fs t h)) ht a.1 s u (a.0 was e) r k, k.upper)
@@ -177,7 +177,7 @@ module _ {E S : Type 0} (n : E → Node) (v : Table E) where
       let summed = r.summed (once_below n v fs w i) (below_put z d c p b t ht a.1) (omega (arith, i.low, lower fs w)) in
       (summed_consistent_tree y upper w summed, summed_upper y upper p w (top_put d c p b t) summed)
 
-  -- if the step at p and the steps above p change nothing outside the tree, nothing outside the tree changes
+  -- if neither the step at p nor the steps above p change anything outside the tree, nothing outside the tree changes
   pub others_up : (z y w : Summaries S) (p next : Place) → ((fs : List Frame) (t : Tree) → IsSubtree n v fs t → top t ≡ Some p → (q : Place) → times q t ≡ 0 → IsSameAt z y q)
       → (n (v.entry p)).parent ≡ Some next → OthersStay n v y w next → OthersStay n v z w p
   others_up z y w p next kept is on [] t h e q out = absurd (none_not next (sym (subtree_parent n v [] t p h e) ∙ is))
@@ -185,7 +185,7 @@ module _ {E S : Type 0} (n : E → Node) (v : Table E) where
       same_on z y w q (kept (frame d c a b ∷ fs) t h e q (omega (arith, out, times_plug q (frame d c a b ∷ fs) t)))
       (on fs (put_in (frame d c a b) t) (subtree_put n v d c a b fs t h) (top_put d c a b t ∙ (sym (subtree_parent n v (frame d c a b ∷ fs) t p h e) ∙ is)) q out)
 
-  -- THE CHANGE IS PASSED ON from a place whose summary was recomputed
+  -- the summary of the place p was recomputed, and the change is passed on from p to the summaries above
   module _ (z y : Summaries S) (p : Place) (from to was is : S) (parent : Option Place)
       (parent_is : (n (v.entry p)).parent ≡ parent) (ej : y.join ≡ z.join) (at : RecomputesAt n v z y p from to parent) (was_at : z.fresh p ≡ Some was) (is_there : y.fresh p ≡ Some is)
       (kept : (fs : List Frame) (t : Tree) → IsSubtree n v fs t → top t ≡ Some p → (q : Place) → times q t ≡ 0 → IsSameAt z y q) where
@@ -204,18 +204,18 @@ module _ {E S : Type 0} (n : E → Node) (v : Table E) where
     upper_now d c b fs t h upper_at =
         ap (seen_upper y) (top_put d c p b t) ∙ (upper_at ∙ (sym parent_is ∙ subtree_parent n v fs (put_in (frame d c p b) t) p (subtree_put n v d c p b fs t h) (top_put d c p b t)))
 
-    -- the recomputed summary is equal to the old one, so no summary above must be recomputed
+    -- if the recomputed summary is equal to the old one, no summary above must be recomputed
     pub passed_same : was ≡ is → PassesOn n v z y p from to
     passed_same same d c b fs t up h ht s u a =
         closes y (Some was) (above fs) fs (put_in (frame d c p b) t) (λ f. seen_now d c b t ∙ ap Some (sym same)) (λ f. upper_now d c b fs t h (at d c b fs t up h ht s u a).1) (at d c b fs t up h ht s u a).0 (above_now d c b fs t up h a)
 
-    -- the recomputed place is the root, so there is no summary above it
+    -- if the recomputed place is the root, there is no summary above it
     pub passed_ends : parent ≡ None → PassesOn n v z y p from to
     passed_ends none d c b [] t up h ht s u a = (at d c b [] t up h ht s u a).0
     passed_ends none d c b (frame e g q m ∷ fs) t up h ht s u a =
         absurd (none_not q (sym none ∙ (sym parent_is ∙ subtree_parent n v (frame e g q m ∷ fs) (put_in (frame d c p b) t) p (subtree_put n v d c p b (frame e g q m ∷ fs) t h) (top_put d c p b t))))
 
-    -- the recomputed place has a parent, and the change is passed on to the summary of this parent
+    -- if the recomputed place has a parent, the change is passed on to the summary of this parent
     pub passed_on : (w : Summaries S) (next : Place) → parent ≡ Some next → PassesOn n v y w next was is → PassesOn n v z w p from to
     passed_on w next on passes d c b [] t up h ht s u a =
         absurd (none_not next (sym (subtree_parent n v [] (put_in (frame d c p b) t) p (subtree_put n v d c p b [] t h) (top_put d c p b t)) ∙ (parent_is ∙ on)))
@@ -228,12 +228,12 @@ module _ {E S : Type 0} (n : E → Node) (v : Table E) where
         passes_q e g m fs x (Some q) i done.0 (seen_now d c b t) (upper_now d c b (frame e g q m ∷ fs) t h done.1)
         (above_now d c b (frame e g q m ∷ fs) t up h a)
 
-  -- the summary of the place is stale, so the change is not passed on
+  -- if the summary of the place p is stale, the change is not passed on
   pub passed_stale : (z : Summaries S) (p : Place) (from to : S) → z.fresh p ≡ None → PassesOn n v z z p from to
   passed_stale z p from to none d c b fs t up h ht s u a =
       closes z (z.fresh p) (z.upper p) fs (put_in (frame d c p b) t) (λ f. ap (seen z) (top_put d c p b t)) (λ f. ap (seen_upper z) (top_put d c p b t)) (stale_put z d c p b t none ht a.1) a.2
 
-  -- THE CLIMB goes on from a place whose summary was recomputed
+  -- the summary of the place p was recomputed, and the climb goes on from p
   module _ (z y : Summaries S) (p edge : Place) (is : S) (parent : Option Place) (parent_is : (n (v.entry p)).parent ≡ parent) (is_there : Some is ≡ y.fresh p)
       (here : (u : Option Place) (t : Tree) → IsTree n v.entry u t → Some p ≡ top t → Refreshes IsConsistentBelow z y parent t 67) where
     climbed_tree : (fs : List Frame) (t : Tree) → IsSubtree n v fs t → top t ≡ Some p → IsConsistentBelow z t → IsSummed y parent t
@@ -262,7 +262,7 @@ module _ {E S : Type 0} (n : E → Node) (v : Table E) where
     climbed_ends none [] t h e below at = summed_consistent_tree y parent t (climbed_tree [] t h e below)
     climbed_ends none (frame d c q b ∷ fs) t h e below at = absurd (none_not q (sym none ∙ parent_above (frame d c q b ∷ fs) t h e))
 
-    -- the climb has not reached the edge yet, and goes on at the parent
+    -- if the climb has not reached the edge yet, it goes on at the parent
     pub climbed_on : (w : Summaries S) (next : Place) → parent ≡ Some next → p ≢ edge → ClimbsTo n v y w next edge → ClimbsTo n v z w p edge
     climbed_on w next on other climbs [] t h e below at = absurd (none_not next (sym (parent_above [] t h e) ∙ on))
     climbed_on w next on other climbs (frame d c q b ∷ fs) t h e below (inl x) = absurd (other x.0)
@@ -273,13 +273,13 @@ module _ {E S : Type 0} (n : E → Node) (v : Table E) where
         climbs_q fs (put_in (frame d c q b) t) (subtree_put n v d c q b fs t h) (top_put d c q b t)
         (below_put y d c q b t (summed_consistent_tree y parent t (climbed_tree (frame d c q b ∷ fs) t h e below)) k.0) k.1
 
-    -- the climb has reached the edge, whose summary was stale, and ends
+    -- if the climb has reached the edge, whose summary was stale, it ends
     pub climbed_stale : p ≡ edge → z.fresh p ≡ None → ClimbsTo n v z y p edge
     climbed_stale i none fs t h e below at =
         closes y None (z.upper p) fs t (λ f. let k : false ≡ true = f in cc) (λ f. let k : false ≡ true = f in cc) (summed_consistent_tree y parent t (climbed_tree fs t h e below))
         (subst (λ (o : Option S). IsConsistentAbove y o (z.upper p) fs) none (above_there fs t h e (at_edge fs t i h e at)))
 
-    -- the climb has reached the edge, whose summary has not changed, and ends
+    -- if the climb has reached the edge, whose summary has not changed, it ends
     pub climbed_same : (was : S) → p ≡ edge → z.fresh p ≡ Some was → was ≡ is → ClimbsTo n v z y p edge
     climbed_same was i fresh same fs t h e below at =
         let tree = climbed_tree fs t h e below in
@@ -287,7 +287,7 @@ module _ {E S : Type 0} (n : E → Node) (v : Table E) where
         (λ f. ap (seen_upper y) e ∙ (summed_upper y parent p t e tree ∙ parent_above fs t h e)) (summed_consistent_tree y parent t tree)
         (under_now y (Some was) (z.upper p) fs (subst (λ (o : Option S). IsConsistentAbove y o (z.upper p) fs) fresh (above_there fs t h e (at_edge fs t i h e at))))
 
-    -- the climb has reached the edge, whose summary has changed, and the change is passed on to the parent
+    -- if the climb has reached the edge, whose summary has changed, the change is passed on to the parent
     pub climbed_edge : (w : Summaries S) (next : Place) (was : S) → p ≡ edge → z.fresh p ≡ Some was → parent ≡ Some next → PassesOn n v y w next was is → ClimbsTo n v z w p edge
     climbed_edge w next was i fresh on passes [] t h e below at = absurd (none_not next (sym (parent_above [] t h e) ∙ on))
     climbed_edge w next was i fresh on passes (frame d c q b ∷ fs) t h e below at =
@@ -303,7 +303,7 @@ module _ {E S : Type 0} (n : E → Node) (v : Table E) where
   climbed_there z y p edge i climbs fs t h e below at =
       climbs fs t h e below (subst (λ (q : Place). IsEdgeAt z q p fs) (sym i) at)
 
--- FROM A SEQUENCE, in which each fresh summary is right, except maybe at the edge, these lemmas lead to its tree
+-- in the sequence s each fresh summary is right, except maybe at the edge. These lemmas say which fresh summaries are right in the tree of s
 module _ {E S : Type 0} (n : E → Node) (v : Table E) (z : Summaries S) (s : List Place) (edge : Place) (h : IsConsistentBut n v z s (Some edge)) where
   right_at : (q : Place) → 1 ≤ times_in q s → q ≢ edge → (x : S) → z.fresh q ≡ Some x → IsJoined z q (n (v.entry q)).left (n (v.entry q)).right x
   right_at q m other x e = h q m (λ i. other (sym (some_same i))) x e
@@ -392,7 +392,7 @@ module _ {E : Type 0} (n : E → Node) (v : Table E) where
       inr (on fs (put_in (frame d c a b) t) (subtree_put n v d c a b fs t h) (top_put d c a b t ∙ (sym (subtree_parent n v (frame d c a b ∷ fs) t p h e) ∙ is)))
 
 module _ {E S : Type 0} (n : E → Node) (v : Table E) where
-  -- THE EDGE IS SETTLED: after the climb each fresh summary of the represented tree is right
+  -- after a climb to the edge, each fresh summary of the represented tree is right
   pub settled : (z y : Summaries S) (root : Option Place) (front : List Place) (p edge : Place) (back : List Place) → ClimbsTo n v z y p edge
       → ((fs : List Frame) (t : Tree) → IsSubtree n v fs t → top t ≡ Some p → IsAmong edge fs) → (h : Represents n v root (front ++ p ∷ back))
       → IsConsistentBut n v z (front ++ p ∷ back) (Some edge) → IsConsistentTree y h.tree
@@ -417,7 +417,7 @@ module _ {E S : Type 0} (n : E → Node) (v : Table E) where
       λ q m i. let here : 1 ≤ times q (plug x.fs u) = subst (λ (r : Place). 1 ≤ times r (plug x.fs u)) (some_same i) there in absurd (omega (arith, here, out q m)) in
       (others_consistent n v z y other t ej (λ q m. stays x.fs u x.subtree refl q (out q m)) (k, λ q m none. but q m (other_than q m))).1
 
--- THE EDGE IS SETTLED by a climb that begins at the edge, if the edge is a member
+-- if the edge is a member, each fresh summary is right after a climb that begins at the edge
 module _ {E S : Type 0} (n : E → Node) (v : Table E) (z y : Summaries S) (root : Option Place) (s : List Place) (edge : Place) (h : Represents n v root s) (member : IsMember edge s) where
   pub settled_here : ClimbsTo n v z y edge edge → IsConsistentBut n v z s (Some edge) → IsConsistent n v y s
   settled_here climbs k q m but x e =

@@ -1,4 +1,4 @@
--- Each write keeps fresh summaries right, and stale summaries are written again.
+-- Each write keeps fresh summaries right, and stale summaries are written again. The edge is the place whose summary may be wrong during an edit.
 use Rattle.std.proofs.Common.{◌≡◌, ◌≢◌, ◌≤◌, ◌+◌, ℕ, suc, zero, ◌-◌, true, false, Option, Some, None, List, refl, sym, ap, ◌∙◌, subst, arith, inl, inr, ◌⊎◌}
 use Rattle.std.proofs.Math.Nat.{le-max_left, le-max_right}
 use Rattle.ic_link_ops.specs.Prelude.{Place, Table, ChangesOnly}
@@ -66,7 +66,7 @@ module _ {S : Type 0} where
       → ((c : Place) → l ≡ Some c → IsSameAt z w c) → ((c : Place) → r ≡ Some c → IsSameAt z w c) → IsJoined w q l r x
   joined_same z w q l r x h ej kl kr = joined_at z w q l r x h (ap (λ (f : Place → Option S → Option S → S). f q) ej) kl kr
 
-  -- A TREE STAYS CONSISTENT if its members keep their summaries and their stored parents
+  -- a tree stays consistent if its members keep their summaries and their stored parents
   pub consistent_kept : (z w : Summaries S) (t : Tree) → w.join ≡ z.join → ((q : Place) → 1 ≤ times q t → IsSameAt z w q) → IsConsistentTree z t → IsConsistentTree w t
   consistent_kept z w leaf ej k h = tt
   consistent_kept z w (fork c a p b) ej k h = (
@@ -123,7 +123,7 @@ module _ {S : Type 0} where
       let right = under_summed z q b j.right_is h.2 in
       (f.1 ∙ ap Some (j.joined ∙ join_seen z q (Some q) a b left right), u.1, left, right)
 
-  -- a consistent tree is summed, if its root has a fresh summary and stores the given parent
+  -- a consistent tree is summed, if its root has a fresh summary and stores the parent `up`
   pub fresh_summed : (z : Summaries S) (up : Option Place) (t : Tree) → ((p : Place) → top t ≡ Some p → (is_fresh (z.fresh p) ≡ true) × (z.upper p ≡ up)) → IsConsistentTree z t → IsSummed z up t
   fresh_summed z up leaf f h = tt
   fresh_summed z up (fork c a p b) f h =
@@ -220,7 +220,7 @@ module _ {S : Type 0} where
       let joined : z2.join p x y ≡ z2.join p (total z2 a) (total z2 b) = ap (λ (o : Option S). z2.join p o y) tx ∙ ap (λ (o : Option S). z2.join p (total z2 a) o) ty in
       summed_written z2 z3 up p c a b a2 b2 (subst (λ (o : S). Writes z2 z3 p (Some o) up) joined k) once
 
-  -- the first place has a stale summary after the first turn, and in each turn after that
+  -- if q is made stale, and q is p or p has a stale summary already, then p has a stale summary afterwards
   pub stale_on : (z w : Summaries S) (p q : Place) (o : Option Place) → Invalidates z w q → o ≡ Some q → (o ≡ Some p) ⊎ (z.fresh p ≡ None) → w.fresh p ≡ None
   stale_on z w p q o k is h = elim h [
     | inl e ↦ ap w.fresh (some_same (sym e ∙ is)) ∙ k.stale
@@ -253,7 +253,7 @@ module _ {S : Type 0} where
   ]
 
 module _ {E S : Type 0} (n : E → Node) where
-  -- THE CLIMB makes the summary of a place stale, and then only the summary of the place above may be wrong
+  -- if at most the summary of p is wrong, and it is made stale, then at most the summary of the parent that p stores is wrong
   pub invalidated_on : (v : Table E) (z w : Summaries S) (s : List Place) (p : Place) → Invalidates z w p → IsConsistentBut n v z s (Some p) → IsConsistentBut n v w s (w.upper p)
   invalidated_on v z w s p k h q m but x e =
       let other : q ≢ p = not_stale w p q x k.stale e in
@@ -268,7 +268,7 @@ module _ {E S : Type 0} (n : E → Node) where
   pub invalidated_up : (v : Table E) (z w : Summaries S) (s : List Place) (p q : Place) → Invalidates z w p → z.upper p ≡ Some q → IsConsistentBut n v z s (Some p) → IsConsistentBut n v w s (Some q)
   invalidated_up v z w s p q k up h = subst (λ (o : Option Place). IsConsistentBut n v w s o) (k.upper p ∙ up) (invalidated_on v z w s p k h)
 
-  -- a summary is made stale from which no fresh summary was computed, so the set of summaries that may be wrong does not change
+  -- if a summary is made stale from which no fresh summary was computed, the same summaries may be wrong as before
   pub invalidated_alone : (v : Table E) (z w : Summaries S) (s : List Place) (p : Place) (o : Option Place) → Invalidates z w p → IsBelowStale z p → IsConsistentBut n v z s o → IsConsistentBut n v w s o
   invalidated_alone v z w s p o k below h q m but x e =
       let other : q ≢ p = not_stale w p q x k.stale e in
@@ -281,7 +281,7 @@ module _ {E S : Type 0} (n : E → Node) where
       joined_same z w q _ _ x j k.join
       (λ c i. same c (under_upper z q _ c j.left_is i)) (λ c i. same c (under_upper z q _ c j.right_is i))
 
-  -- the climb ends at a place with a stale summary, or above the root, and then each fresh summary is right
+  -- if at most the summary of p is wrong, and it is stale, each fresh summary is right. In the next two lemmas no summary is wrong
   pub invalidated_stale : (v : Table E) (z : Summaries S) (s : List Place) (p : Place) (o : Option Place) → o ≡ Some p → is_fresh (z.fresh p) ≡ false → IsConsistentBut n v z s o → IsConsistent n v z s
   invalidated_stale v z s p o is f h q m but x e =
       h q m (λ i. let k : is_fresh (z.fresh p) ≡ true = ap (λ (y : Place). is_fresh (z.fresh y)) (some_same (sym is ∙ i)) ∙ ap is_fresh e in let l : true ≡ false = sym k ∙ f in cc) x e
@@ -296,12 +296,13 @@ module _ {E S : Type 0} (n : E → Node) where
   pub edge_there : (v : Table E) (z : Summaries S) (s : List Place) (p q : Place) (o : Option Place) → o ≡ Some p → p ≡ q → IsConsistentBut n v z s o → IsConsistentBut n v z s (Some q)
   edge_there v z s p q o is e h = subst (λ (y : Option Place). IsConsistentBut n v z s y) (is ∙ ap Some e) h
 
-  -- AN ENTRY IS WRITTEN at a place with a stale summary, or its children stay. Fresh summaries that were right still are, except maybe at the edge
+  -- if an entry is written at a place with a stale summary, fresh summaries that were right still are, except maybe at the edge
   pub edge_written : (v w : Table E) (z : Summaries S) (s : List Place) (p : Place) (o : Option Place) → z.fresh p ≡ None → ChangesOnly v w p → IsConsistentBut n v z s o → IsConsistentBut n w z s o
   edge_written v w z s p o none only h q m but x e =
       subst (λ (k : E). IsJoined z q (n k).left (n k).right x) (sym (only.others q (not_stale z p q x none e))) (h q m but x e)
 
-  -- an entry is written at a place with a stale summary or at the edge, and fresh summaries that were right still are, except maybe at the edge
+  -- an entry is written at a place with a stale summary or at the edge (`edge_rewritten`), or its children stay the same (`edge_beside`). Then fresh summaries
+  -- that were right still are, except maybe at the edge
   pub edge_rewritten : (v w : Table E) (z : Summaries S) (s : List Place) (p : Place) (o : Option Place) → (z.fresh p ≡ None) ⊎ (o ≡ Some p) → ChangesOnly v w p → IsConsistentBut n v z s o → IsConsistentBut n w z s o
   edge_rewritten v w z s p o k only h q m but x e =
       let other : q ≢ p = elim k [
@@ -320,7 +321,8 @@ module _ {E S : Type 0} (n : E → Node) where
     | inr other ↦ subst (λ (k : E). IsJoined z q (n k).left (n k).right x) (sym (only.others q other)) (h q m but x e)
   ]
 
-  -- an entry is written at a place with a stale summary, and each fresh summary that was right still is
+  -- if an entry is written at a place with a stale summary (`written_stale`), or its children stay the same (`written_beside`), each fresh summary that was
+  -- right still is
   pub written_stale : (v w : Table E) (z : Summaries S) (s : List Place) (p : Place) → z.fresh p ≡ None → ChangesOnly v w p → IsConsistent n v z s → IsConsistent n w z s
   written_stale v w z s p none only h = edge_written v w z s p None none only h
 
@@ -354,7 +356,7 @@ module _ {E S : Type 0} (n : E → Node) where
     ]
   ]
 
-  -- both subtrees are refreshed, and then the summary of the root is written
+  -- if both subtrees are refreshed, and then the summary of the root is written, the whole tree is refreshed
   joined_here : (v : Table E) (z0 z1 z2 z3 : Summaries S) (up u : Option Place) (p : Place) (c : Color) (a b : Tree) (l r : Option Place) (x y : Option S) (fuel : ℕ)
       → IsTree n v.entry u (fork c a p b) → l ≡ top a → r ≡ top b
       → Refreshes IsConsistentTree z0 z1 (Some p) a fuel → Refreshes IsConsistentTree z1 z2 (Some p) b fuel

@@ -34,7 +34,7 @@ total_count es (fork c a p b) few =
 pub seen_count : (es : List (Cell ⊤ ℕ)) (up : Option Place) (t : Tree) → IsSummed (counts_in es) up t → length (in_order t) ≤ 8589934591 → or_zero (seen (counts_in es) (top t)) ≡ length (in_order t)
 seen_count es up t h few = ap or_zero (summed_seen (counts_in es) up t h) ∙ total_count es t few
 
--- THE POSITIONS IN A SEQUENCE are those before the member p, the position of p, and those after p
+-- a position in a sequence with the member p is before the position of p, the position of p, or after it
 get_left : (a b : List Place) (p : Place) (i : ℕ) → i < length a → slice_get (a ++ p ∷ b) i ≡ slice_get a i
 get_left [] b p i h = absurd (omega (arith, h))
 get_left (x ∷ a) b p zero h = refl
@@ -49,7 +49,7 @@ get_right [] b p k = let e : 0 + suc k ≡ suc k = omega arith in ap (slice_get 
 get_right (x ∷ a) b p k = let e : length (x ∷ a) + suc k ≡ suc (length a + suc k) = omega arith in ap (slice_get (x ∷ (a ++ p ∷ b))) e ∙ get_right a b p k
 
 module _ {E : Type 0} (n : E → Node) (v : Table E) (es : List (Cell ⊤ ℕ)) (u : Option Place) where
-  -- the count of the left subtree of a place is the number of members before the place in its subtree
+  -- the count of the left subtree of the place p is the number of members before p in the subtree at p
   record Split (t : Tree) (p : Place) (l : Option Place) (before turns : ℕ) : Type 0 where
     c : Color
     a : Tree
@@ -91,7 +91,7 @@ module _ {E : Type 0} (n : E → Node) (v : Table E) (es : List (Cell ⊤ ℕ)) 
         low_right = omega (arith, low, le-max_right (height a) (height b));
       }
 
-  -- the result of a search in a subtree is the member at the position
+  -- the result of a search in the subtree at `place` is the member at `position`
   abbrev pub Answers : Option Place → ℕ → ℕ → Option Place → Type 0
   Answers place position turns result = (x : Option Place) (t : Tree) → IsTree n v.entry x t → place ≡ top t → IsSummed (counts_in es) x t
       → length (in_order t) ≤ 8589934591 → height t ≤ turns → result ≡ slice_get (in_order t) position
@@ -121,7 +121,7 @@ module _ {E : Type 0} (n : E → Node) (v : Table E) (es : List (Cell ⊤ ℕ)) 
   few_members : length (in_order h.shows.tree) ≤ 8589934591
   few_members = subst (λ (y : List Place). length y ≤ 8589934591) (sym h.shows.held.order) (few_places s h.shows.held.distinct)
 
-  -- THE COUNT OF THE ROOT is the length of the sequence
+  -- the count that the root stores is the length of the sequence
   pub length_is : (o : Option Place) → o ≡ root → or_zero (seen (counts_in es) o) ≡ length s
   length_is o e =
       ap (λ (y : Option Place). or_zero (seen (counts_in es) y)) (e ∙ h.shows.starts) ∙ (seen_count es None h.shows.tree h.summed few_members ∙ ap length h.shows.held.order)

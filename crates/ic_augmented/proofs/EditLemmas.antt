@@ -1,4 +1,4 @@
--- Edits of a tree keep each fresh summary right.
+-- Edits of a tree keep each fresh summary right. The edge is the place whose summary may be wrong during an edit.
 use Rattle.std.specs.declared.cmp.Ordering.{Ordering}
 use Rattle.std.proofs.Common.{◌≡◌, ◌≢◌, ◌≤◌, ◌+◌, Bool, true, false, Option, Some, None, List, [], ◌∷◌, ◌++◌, refl, sym, ap, ◌∙◌, subst, arith, inl, inr}
 use Rattle.ic_link_ops.specs.Prelude.{Place, Objects, Cut, join, insert, IsAbsent, IsDisjoint, Table, ChangesOnly}
@@ -71,7 +71,7 @@ module _ {E : Type 0} (n : E → Node) where
       → IsNode n v p → IsAbsent p (join gap) → Represents n v root (join gap) → IsInsertPos n v parent d gap → Represents n w new_root (insert gap p)
   attached_represents v w root new_root parent d p gap done linked out h insert_pos = represents_of n (done v gap [] (loose_represented v root (join gap) p h out linked) insert_pos)
 
-  -- the set of the tree's members and the inserted place is closed, and it has the place and the parent
+  -- the set of the tree's members and the inserted place is closed, and it contains the inserted place and its parent
   pub attach_closed : (v : Table E) (root parent : Option Place) (d : Side) (p : Place) (gap : Cut) → IsNode n v p → IsAbsent p (join gap) → Represents n v root (join gap) → IsInsertPos n v parent d gap
       → IsClosedBut n v root (Some p) (fence_of n v root p) × AreIn (fence_of n v root p) (Some p ∷ parent ∷ [])
   attach_closed v root parent d p gap linked out h insert_pos =
@@ -79,7 +79,7 @@ module _ {E : Type 0} (n : E → Node) where
       subst (λ (S : Place → Bool). IsClosedBut n v root (Some p) S × AreIn S (Some p ∷ parent ∷ [])) (sym (fence_is n p h))
       (represented_closed_but n there, (with_itself n there, (insert_pos_in n v p parent d gap insert_pos, tt)))
 
-  -- the set of the tree's members is closed, and it has the member that is to be removed
+  -- the set of the tree's members is closed, and it contains the member that is to be removed
   pub unlink_closed : (v : Table E) (root : Option Place) (front : List Place) (p : Place) (back : List Place) → Represents n v root (front ++ p ∷ back)
       → IsClosed n v root (members_of n v root) × (members_of n v root p ≡ true)
   unlink_closed v root front p back h =
@@ -216,7 +216,7 @@ module _ {E S : Type 0} (n : E → Node) where
   pub all_fresh : (v : Table E) (z : Summaries S) (root : Option Place) (s : List Place) → RepresentsAugmented n z v root s → RepresentsFresh n z v root s
   all_fresh v z root s h = record { summed = h; consistent = still_consistent v z root s h }
 
-  -- an insert in order, after which no summary is stale, is also an insert in order for the definition that includes this fact
+  -- an insert in order, after which no summary is stale, is also an insert in order for `RepresentsFresh`
   pub inserts_fresh : {at : Place → Ordering} (old w : Table E) (x : Summaries S) (root : Option Place) (s : List Place) (p : Place) (gap : Cut) → RepresentsFresh n x w root (insert gap p)
       → InsertsInOrder (Represents n) at old w root s p → InsertsInOrder (RepresentsFresh n x) at old w root s p
   inserts_fresh old w x root s p gap h i = record {

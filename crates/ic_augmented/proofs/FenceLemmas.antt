@@ -40,13 +40,13 @@ times_on : (q : Place) (xs ps : List Piece) → times_all q (xs ++ ps) ≡ times
 times_on q [] ps = omega arith
 times_on q (x ∷ xs) ps = omega (arith, times_on q xs ps)
 
--- a tree with one member more than another has the place p once more, and each other place as often
+-- if the tree u has the members of the tree t and also p, it has p once more than t, and each other place as often as t
 counted : (q : Place) (front : List Place) (p : Place) (back : List Place) (t : Tree) → in_order t ≡ front ++ back → (u : Tree) → in_order u ≡ front ++ p ∷ back
     → times q u + 0 ≡ times q t + (one_at q p + 0)
 counted q front p back t e u f = omega (arith, times_order q u, ap (times_in q) f, times_append q front (p ∷ back), times_order q t, ap (times_in q) e, times_append q front back)
 
 module _ {E : Type 0} (n : E → Node) where
-  -- the members of the subtree at an end, which are read from the entries, at most the given number of steps down
+  -- the members of the subtree at the end `o`, which are read from the entries, down to a depth of at most k
   abbrev listed : (Place → E) → ℕ → Option Place → List Place
   listed entry zero o = []
   listed entry (suc k) None = []
@@ -149,7 +149,7 @@ module _ {E : Type 0} (n : E → Node) where
             ]
           ]
 
-      -- A REPRESENTED TREE is also represented with the fence, together with the first of the parts beside it
+      -- a tree that is represented beside the parts `xs` and `ps` is also represented with the fence, beside the parts `xs`
       module _ {base : Table E} {s : List Place} (xs ps : List Piece) (h : Represented n base v root s (xs ++ ps)) (out : (x : Place) → 1 ≤ times x h.tree → but ≡ Some x → ⊥) where
         represented_after : ArePieces (fenced_node n) (λ q. (inside q, v.entry q)) xs → Represented (fenced_node n) (fenced inside v) (fenced inside v) root s xs
         represented_after here = record {
@@ -165,7 +165,7 @@ module _ {E : Type 0} (n : E → Node) where
           shape = h.shape;
         }
 
-        -- an edit's result with the fence is also its result in the table without the fence, with all other parts beside the tree
+        -- if the result of an edit with the fence is a tree beside the parts `ys`, the result without the fence is this tree beside the parts `ys` and `ps`
         module _ {w : Table E} {new_root : Option Place} {u : List Place} (ys : List Piece) (linked : KeepsNodes n v w) (r : Represented (fenced_node n) (fenced inside v) (fenced inside w) new_root u ys)
             (count : (q : Place) → times q r.tree + times_all q ys ≡ times q h.tree + times_all q xs) (are : ArePieces n w.entry ys) where
           kept : (q : Place) → times q r.tree + times_all q ys ≡ 0 → w.entry q ≡ v.entry q
@@ -191,7 +191,7 @@ module _ {E : Type 0} (n : E → Node) where
             shape = r.shape;
           }
 
-    -- A PLACE IS INSERTED, and the fence is closed except at this place
+    -- the place p is inserted, and the fence is closed except at p
     module _ {v : Table E} {root : Option Place} {p : Place} (closed : IsClosedBut n v root (Some p) inside) (here : inside p ≡ true) where
       pub safe_after : (parent : Option Place) → IsIn inside parent → IsSafeBut (fenced_node n) (fenced inside v) root p (Some p ∷ parent ∷ [])
       safe_after parent i = (inside, closed_after closed, (here, (i, tt)))
@@ -205,7 +205,7 @@ module _ {E : Type 0} (n : E → Node) where
           let r = done (fenced inside v) gap [] (represented_after closed (loose p ∷ []) ps h out (and_from _ _ here h.stands.are.1.1.0, tt)) (insert_pos_after v parent d gap insert_pos) in
           represented_before closed (loose p ∷ []) ps h out [] linked r (λ q. counted q gap.front p gap.back h.tree h.order r.tree r.order) tt
 
-    -- A MEMBER IS REMOVED, and the fence is closed
+    -- a member is removed, and the fence is closed
     module _ {v : Table E} {root : Option Place} (closed : IsClosed n v root inside) where
       pub safe_within : {p : Place} → inside p ≡ true → IsSafe (fenced_node n) (fenced inside v) root (Some p ∷ [])
       safe_within here = (inside, closed_after closed, (here, tt))

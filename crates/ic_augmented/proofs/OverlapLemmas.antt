@@ -1,4 +1,4 @@
--- A search finds the first interval that overlaps, below a place or after it.
+-- A search finds the first interval that overlaps [from, to), below a place or after it.
 use Rattle.std.proofs.Common.{◌≡◌, ◌≢◌, ◌≤◌, ◌<◌, ◌-◌, ◌&&◌, nat_lt, ◌⊎◌, ℕ, Bool, true, false, cond, Option, Some, None, List, [], ◌∷◌, ◌++◌, length, map, max, refl, sym, ap, ◌∙◌, subst, arith, inl, inr, append_assoc}
 use Rattle.std.proofs.Math.Nat.{le-max_left, le-max_right, max-le}
 use Rattle.std.proofs.lemmas.Bool.{ltb-true, ltb-false, lt-ltb, le-ltb}
@@ -106,12 +106,12 @@ module _ (start : Place → ℕ) (es : List (Cell ℕ ℕ)) (from to : ℕ) wher
     pick true k = let l : q ∷ filter test s ≡ [] = sym (takes q s k) ∙ e in cc
     pick false k = k
 
-  -- if a member starts at `to` or later, no later member overlaps
+  -- if a member starts at `to` or later, no later member overlaps [from, to)
   late : (q : Place) (s : List Place) → to ≤ start q → IsSorted nat_cmp (map start (q ∷ s)) → filter test (q ∷ s) ≡ []
   late q [] h sorted = drops q [] (starts_after q h)
   late q (r ∷ s) h sorted = drops q (r ∷ s) (starts_after q h) ∙ late r s (omega (arith, h, not_later start q r sorted.0)) sorted.1
 
-  -- if the greatest end in a tree is not after `from`, no member of the tree overlaps
+  -- if the greatest end in a tree is not after `from`, no member of the tree overlaps [from, to)
   none_below : (t : Tree) → or_zero (total (greatest_in es) t) ≤ from → filter test (in_order t) ≡ []
   none_below leaf h = refl
   none_below (fork c a p b) h =
@@ -123,7 +123,7 @@ module _ (start : Place → ℕ) (es : List (Cell ℕ ℕ)) (from to : ℕ) wher
       ∙ (ap (λ (s : List Place). s ++ filter test (p ∷ in_order b)) (none_below a (omega (arith, h, m2, le-max_left x y)))
       ∙ (drops p (in_order b) (ends_before p (omega (arith, h, m1))) ∙ none_below b (omega (arith, h, m2, le-max_right x y))))
 
-  -- if the greatest end in a tree is after `from`, some member of the tree ends there
+  -- if the greatest end in a tree is after `from`, some member q of the tree ends after `from`
   record Reaches (s : List Place) : Type 0 where
     front : List Place
     back : List Place
@@ -150,7 +150,7 @@ module _ (start : Place → ℕ) (es : List (Cell ℕ ℕ)) (from to : ℕ) wher
       | inr less ↦ absurd (omega (arith, h, max-le low (max-le lower less)))
     ]
 
-  -- if some member of the front part ends after `from`, the first member that overlaps is in the front part, or no member overlaps
+  -- if some member of the front part ends after `from`, the first member that overlaps [from, to) is in the front part, or no member overlaps it
   first_left : (s rest : List Place) → Reaches s → IsSorted nat_cmp (map start (s ++ rest)) → first (filter test s) ≡ first (filter test (s ++ rest))
   first_left s rest r sorted = pick (filter test s) refl where
     pick : (w : List Place) → filter test s ≡ w → first (filter test s) ≡ first (filter test (s ++ rest))
@@ -169,7 +169,7 @@ module _ (start : Place → ℕ) (es : List (Cell ℕ ℕ)) (from to : ℕ) wher
   skipped a rest low = filter-append test (in_order a) rest ∙ ap (λ (y : List Place). y ++ filter test rest) (none_below a low)
 
   module _ {E : Type 0} (n : E → Node) (v : Table E) (u : Option Place) (turns : ℕ) where
-    -- the result of a search in a subtree is the first member that overlaps
+    -- the result of a search in a subtree is the first member of the subtree that overlaps [from, to)
     abbrev pub FindsFirst : Option Place → ℕ → Option Place → Type 0
     FindsFirst o fuel result = (x : Option Place) (t : Tree) → IsTree n v.entry x t → o ≡ top t → IsSummed (greatest_in es) x t → IsSorted nat_cmp (map start (in_order t)) → height t ≤ fuel
         → result ≡ first (filter test (in_order t))
@@ -204,7 +204,7 @@ module _ (start : Place → ℕ) (es : List (Cell ℕ ℕ)) (from to : ℕ) wher
           ∙ sym (ap first (skipped a (p ∷ in_order b) (omega (arith, less, left_greatest c a b h s)) ∙ drops p (in_order b) (ends_before p ends))))
 
   module _ {E : Type 0} (n : E → Node) (v : Table E) where
-    -- A SEARCH FROM THE ROOT finds the first member that overlaps
+    -- a search from the root finds the first member that overlaps [from, to)
     pub first_is : {root : Option Place} (s : List Place) (h : RepresentsAugmented n (greatest_in es) v root s) → IsSorted nat_cmp (map start s) → (o result : Option Place) → o ≡ root → FindsFirst n v None 67 o 67 result
         → result ≡ first (filter test s)
     first_is s h sorted o result e found =
@@ -242,7 +242,7 @@ module _ {E T : Type 0} (n : E → Node) (v : Table E) (objects : Objects T) (u 
 
 module _ {E : Type 0} (n : E → Node) (v : Table E) where
   module _ {T : Type 0} (objects : Objects T) where
-    -- the subtree of the parent: if the members after a subtree have objects, the members after its parent's subtree have objects
+    -- if the members after a subtree have objects, so have the members after the subtree of its parent
     pub after_up : (fs : List Frame) (t : Tree) (up : Place) → IsSubtree n v fs t → ArePlaced objects (after fs) → above fs ≡ Some up
         → (gs : List Frame) × (u : Tree) × IsSubtree n v gs u × (top u ≡ Some up) × ArePlaced objects (after gs)
     after_up [] t up h placed e = absurd (none_not up e)
@@ -267,7 +267,7 @@ module _ {E : Type 0} (n : E → Node) (v : Table E) where
       after_tree (frame Right c q b ∷ fs) t h e placed eu = absurd (absurd_right fs t c q b h e eu)
 
   module _ (start : Place → ℕ) (es : List (Cell ℕ ℕ)) (from to : ℕ) where
-    -- the result of a search after the subtree at p is the first later member that overlaps
+    -- the result of a search after the subtree at p is the first later member that overlaps [from, to)
     abbrev pub FindsAfter : Place → ℕ → Option Place → Type 0
     FindsAfter p turns result = (fs : List Frame) (t : Tree) → IsSubtree n v fs t → IsSummed (greatest_in es) None (plug fs t) → top t ≡ Some p → IsSorted nat_cmp (map start (after fs)) → length fs ≤ turns
         → result ≡ first (filter (test start es from to) (after fs))
@@ -332,7 +332,7 @@ module _ {E : Type 0} (n : E → Node) (v : Table E) where
     after_spent (f ∷ fs) e = absurd (omega (arith, e))
 
     module _ (root : Option Place) (front : List Place) (p : Place) (back : List Place) (right : Option Place) (g : ℕ) (result : Option Place) (right_is : right ≡ (n (v.entry p)).right) (g_is : g ≡ or_zero (seen (greatest_in es) right)) where
-      -- the result of a search after the member p is the first later member that overlaps
+      -- the result of a search after the member p is the first later member that overlaps [from, to)
       abbrev FindsNext : Type 0
       FindsNext = RepresentsAugmented n (greatest_in es) v root (front ++ p ∷ back) → IsSorted nat_cmp (map start (front ++ p ∷ back)) → result ≡ first (filter (test start es from to) back)
 

@@ -29,11 +29,11 @@ module _ {S : Type 0} where
   consistent_parts z (frame Right c p b ∷ fs) t h = let r = consistent_parts z fs (fork c b p t) h in (r.0.2, (r.0.1, r.1))
 
 module _ {E S : Type 0} (n : E → Node) (v : Table E) where
-  -- each place outside the whole tree that has the subtree at p keeps its summary and its stored parent
+  -- each place outside the tree of p keeps its summary and its stored parent
   abbrev pub OthersStay : Summaries S → Summaries S → Place → Type 0
   OthersStay z w p = (fs : List Frame) (t : Tree) → IsSubtree n v fs t → top t ≡ Some p → (q : Place) → times q (plug fs t) ≡ 0 → IsSameAt z w q
 
-  -- from state z to state w the whole tree that has the subtree at p has been summed
+  -- from state z to state w the whole tree of p has been summed
   abbrev pub RefreshesPath : Summaries S → Summaries S → Place → ℕ → Type 0
   RefreshesPath z w p turns = (fs : List Frame) (t : Tree) → IsSubtree n v fs t → top t ≡ Some p → length fs < turns → IsConsistentBeside z fs → IsConsistentBelow z t → IsSummed w None (plug fs t)
 
@@ -49,12 +49,12 @@ module _ {E S : Type 0} (n : E → Node) (v : Table E) where
         let r = here (above fs) t h.tree (sym e) in
         beside_kept z y fs r.join (λ q m. r.frame q (omega (arith, m, h.once q, times_plug q fs t))) beside
 
-    -- AT THE ROOT the path ends, and the whole tree is summed
+    -- at the root the path ends, and the whole tree is summed
     pub path_ends : (turns : ℕ) → upper ≡ None → RefreshesPath z y p turns
     path_ends turns none [] t h e low beside below = rw (← none) (summed_here [] t h e below)
     path_ends turns none (frame d c q b ∷ fs) t h e low beside below = absurd (none_not q (sym none ∙ upper_is (frame d c q b ∷ fs) t h e))
 
-    -- BELOW A PARENT the path goes on at this parent
+    -- if the place has a parent, the path goes on at this parent
     pub path_on : (w : Summaries S) (up : Place) (turns : ℕ) → upper ≡ Some up → RefreshesPath y w up (turns - 1) → RefreshesPath z w p turns
     path_on w up turns is on [] t h e low beside below = absurd (none_not up (sym (upper_is [] t h e) ∙ is))
     path_on w up turns is on (frame Left c q b ∷ fs) t h e low beside below =

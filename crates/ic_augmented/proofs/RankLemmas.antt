@@ -56,14 +56,14 @@ module _ {E : Type 0} (n : E → Node) (v : Table E) (es : List (Cell ⊤ ℕ)) 
   CountsBefore p turns r = (fs : List Frame) (t : Tree) → IsSubtree n v fs t → IsSummed (counts_in es) None (plug fs t) → top t ≡ Some p → length fs ≤ turns → r ≡ length (before fs)
 
   module _ (up : Place) (turns r : ℕ) (above_it : CountsBefore up (turns - 1) r) (right : Option Place) (right_is : right ≡ (n (v.entry up)).right) where
-    -- THE STEP UP FROM A LEFT CHILD: before its subtree come the members that come before the parent's subtree
+    -- before the subtree of a left child come exactly the members that come before the subtree of its parent
     pub before_left : (p : Place) (fs : List Frame) (t : Tree) → above fs ≡ Some up → is_end right p ≡ false → IsSubtree n v fs t → IsSummed (counts_in es) None (plug fs t) → top t ≡ Some p → length fs ≤ turns → r ≡ length (before fs)
     before_left p [] t eu other h s e low = absurd (none_not up eu)
     before_left p (frame Left c q b ∷ fs) t eu other h s e low = above_it fs (fork c t q b) (subtree_left n v c q b fs t h) s eu (omega (arith, low))
     before_left p (frame Right c q b ∷ fs) t eu other h s e low =
         absurd (not_end right p other (right_is ∙ (ap (λ (y : Place). (n (v.entry y)).right) (sym (some_same eu)) ∙ (h.around.0.right ∙ e))))
 
-    -- a step up from a right child: before its subtree come the members before the parent's subtree, the left subtree, and the parent
+    -- before the subtree of a right child come the members before the subtree of its parent, the parent's left subtree, and the parent
     pub before_right : (p : Place) (left : Option Place) (k m : ℕ) (fs : List Frame) (t : Tree) → above fs ≡ Some up → is_end right p ≡ true → left ≡ (n (v.entry up)).left → k ≡ or_zero (seen (counts_in es) left)
         → m ≡ min (min (r + k) (2 ^ 64 - 1) + 1) (2 ^ 64 - 1) → IsSubtree n v fs t → IsSummed (counts_in es) None (plug fs t) → top t ≡ Some p → length fs ≤ turns → m ≡ length (before fs)
     before_right p left k m [] t eu same el ek em h s e low = absurd (none_not up eu)

@@ -25,7 +25,7 @@ module _ {E S : Type 0} (n : E → Node) where
   right_in : (v : Table E) (z : Summaries S) (q : Place) → IsConsistent n v z (q ∷ []) → IsRightAt n v z q
   right_in v z q h = h q (omega (arith, one_at_self q)) (none_not q)
 
-  -- a child is written at a place with a stale summary, and each fresh summary that was right still is
+  -- if a child is written at a place with a stale summary, each fresh summary that was right still is
   pub set_stale : (v w : Table E) {z y : Summaries S} {p : Place} → y.fresh p ≡ None → KeepsConsistent n v v z y → ChangesOnly v w p → (q : Place) → ⊥ ⊎ IsRightAt n v z q → IsRightAt n w y q
   set_stale v w {z} {y} {p} none keeps only q h = elim h [
     | inl a ↦ absurd a
@@ -40,7 +40,7 @@ module _ {E S : Type 0} (n : E → Node) where
     | inr r ↦ right_in w z q (written_beside n v w z (q ∷ []) p el er only (at_one v z q r))
   ]
 
-  -- A LINK IS WRITTEN, and then the summary of its place is made stale, so that the place has no wrong summary
+  -- if a link is written, and then the summary of its place is made stale, the place has no wrong summary, and each fresh summary that was right still is
   written_then_stale : (v w : Table E) {z y : Summaries S} {p : Place} → ((q : Place) → q ≢ p → w.entry q ≡ v.entry q) → ((s : List Place) → IsConsistentBut n w z s (Some p) → IsConsistent n w y s)
       → (q : Place) → (p ≡ q) ⊎ IsRightAt n v z q → IsRightAt n w y q
   written_then_stale v w {z} {y} {p} others closed q h = right_in w y q (closed (q ∷ []) but_p) where
@@ -55,7 +55,7 @@ module _ {E S : Type 0} (n : E → Node) where
       ]
     ]
 
-  -- a place is linked by the step, or its summary was right before, and in both cases its fresh summary is right
+  -- if a place is linked by the step, or its fresh summary was right before, its fresh summary is right afterwards
   pub acquired_right : (v w : Table E) {z y : Summaries S} {p : Place} → ((q : Place) → q ≢ p → w.entry q ≡ v.entry q) → ((s : List Place) → IsConsistentBut n w z s (Some p) → IsConsistent n w y s)
       → (q : Place) → IsAcquired q (acquires p ∷ []) ⊎ IsRightAt n v z q → IsRightAt n w y q
   acquired_right v w {z} {y} {p} others closed q h = elim h [
@@ -73,7 +73,7 @@ module _ {E S : Type 0} (n : E → Node) where
     | inr r ↦ written_then_stale v w others closed q (inr r)
   ]
 
--- WHAT STEPS KEEP of a sequence: if each of its places had a right summary or was linked by a step, each fresh summary is right
+-- if each place of a sequence had a right summary or was linked by a step, each fresh summary of the sequence is right after the steps
 module _ {N M E S : Type 0} {Trace : N → N → List LinkStep → Type 0} {n : E → Node} {table : N → Table E} {summaries : M → Summaries S} {Covers : M → Place → Type 0} {old new : Augmented N M} {steps : List LinkStep} where
   pub kept_right : TraceAugmented Trace n table summaries Covers old new steps → (s t : List Place) → ((q : Place) → 1 ≤ times_in q t → IsAcquired q steps ⊎ (1 ≤ times_in q s))
       → IsConsistent n (table old.links) (summaries old.summaries) s → IsConsistent n (table new.links) (summaries new.summaries) t
@@ -109,7 +109,7 @@ module _ {N M E S : Type 0} {Trace : N → N → List LinkStep → Type 0} {n : 
       → IsConsistent n (table new.links) (summaries new.summaries) (front ++ back)
   removed_right front back d h = kept_right d (front ++ p ∷ back) (front ++ back) (λ q m. inr (omega (arith, m, times_append q front back, times_append q front (p ∷ back)))) h
 
--- IF A CALL WAS REFUSED, its step on the links was refused
+-- if a call was refused, its step on the links was refused
 pub links_refused : {X Y : Type 0} (R Same : Type 0) (r : Result X Y) → OnErr r (R × Same) → OnErr r R
 links_refused R Same (Ok x) refused = tt
 links_refused R Same (Err y) refused = refused.0

@@ -1,4 +1,4 @@
--- A subtree of a represented tree is found by a member of the sequence, is read at its root, and is left upwards.
+-- These lemmas find the subtree at a member of the sequence, read the entry of its root, and step up to the subtree of its parent.
 use Rattle.std.proofs.Common.{◌≡◌, ◌≤◌, ◌<◌, ◌+◌, ℕ, suc, zero, true, Option, Some, None, List, [], ◌∷◌, ◌++◌, length, refl, sym, ap, ◌∙◌, subst, arith, append-nil}
 use Rattle.std.proofs.Math.Nat.{le-max_left, le-max_right}
 use Rattle.ic_link_ops.specs.Prelude.{Place, IsMember, Table}
@@ -18,7 +18,7 @@ use Rattle.ic_rbtree.specs.Height.{height}
 use Rattle.ic_rbtree.proofs.Climbed.{path_few}
 use Rattle.ic_augmented.specs.Subtrees.{IsSubtree}
 
--- how many places come from an end up to the root, if they are at most k
+-- the number of places from the place `o` up to the root, or k if there are more than k
 abbrev pub above_end : {E : Type 0} (n : E → Node) (v : Table E) → ℕ → Option Place → ℕ
 above_end n v zero o = 0
 above_end n v (suc k) None = 0
@@ -140,7 +140,7 @@ module _ {E : Type 0} (n : E → Node) where
     above_length (frame Right c q b ∷ fs) t p (suc k) h e less =
         ap suc (ap (above_end n v k) (subtree_parent (frame Right c q b ∷ fs) t p h e) ∙ above_length fs (fork c b q t) q k (subtree_right c q b fs t h) refl (omega (arith, less)))
 
-    -- fewer places come from the parent up to the root than from its child
+    -- there are fewer places from the parent up to the root than from its child up to the root
     pub fewer_above : (fs : List Frame) (t : Tree) (p up : Place) → IsSubtree n v fs t → top t ≡ Some p → above fs ≡ Some up → above_end n v 68 (Some up) < above_end n v 68 (Some p)
     fewer_above fs t p up h e is =
         let u = subtree_up fs t up h is in

@@ -18,8 +18,8 @@ abbrev pub IsRightAt : {E S : Type 0} → (E → Node) → Table E → Summaries
 IsRightAt {S = S} n v z q = (x : S) → z.fresh q ≡ Some x → IsJoined z q (n (v.entry q)).left (n (v.entry q)).right x
 
 module _ {N M E S : Type 0} (Trace : N → N → List LinkStep → Type 0) (n : E → Node) (table : N → Table E) (summaries : M → Summaries S) (Covers : M → Place → Type 0) where
-  -- the links took these steps, and no summary was written. Fresh summaries that were right still are, and fresh summaries of places that the steps link
-  -- are right
+  -- the links made the link steps `steps`, and no summary was written. Fresh summaries that were right still are, and fresh summaries of places that the steps
+  -- link are right
   pub record TraceAugmented (old new : Augmented N M) (steps : List LinkStep) : Type 0 where
     pub links : Trace (links_of old) (links_of new) steps
     pub right : (q : Place) → IsAcquired q steps ⊎ IsRightAt n (table (links_of old)) (summaries (summaries_of old)) q → IsRightAt n (table (links_of new)) (summaries (summaries_of new)) q

@@ -32,8 +32,8 @@ module _ {S : Type 0} where
   join_on Left join x y = join x y
   join_on Right join x y = join y x
 
-  -- the summary y of the place q was computed from x and from the summary of the child `other`. The fresh summary x is that of the child on side d, and
-  -- its stored parent `up` is q
+  -- the summary y of the place q was computed from x and from the summary of the child `other`. Here x is the fresh summary of the child on side d, and the
+  -- parent `up` that is stored with x is q
   pub record IsJoinedOn (z : Summaries S) (d : Side) (q : Place) (x : Option S) (up other : Option Place) (y : S) : Type 0 where
     pub fresh : is_fresh x ≡ true
     pub under : up ≡ Some q
@@ -52,14 +52,14 @@ module _ {S : Type 0} where
   IsEdgeAbove z edge (frame d c p b ∷ fs) =
       IsConsistentTree z b × (((p ≡ edge) × IsConsistentAbove z (z.fresh p) (z.upper p) fs) ⊎ IsEdgeAbove z edge fs)
 
-  -- the place `edge` is p, which is below the path, or is on the path. Each fresh summary above `edge` is right, and so is each fresh summary in the trees
-  -- beside the path from there
+  -- the place `edge` is p, which is at the lower end of the path, or `edge` is on the path. Each fresh summary above `edge` is right, and so is each fresh
+  -- summary in the trees beside the path
   abbrev pub IsEdgeAt : Summaries S → Place → Place → List Frame → Type 0
   IsEdgeAt z edge p fs = ((p ≡ edge) × IsConsistentAbove z (z.fresh p) (z.upper p) fs) ⊎ IsEdgeAbove z edge fs
 
 module _ {E S : Type 0} (n : E → Node) (v : Table E) where
-  -- from state z to state y the summary of the place p was recomputed, because that of one child had changed from `from` to `to`. The place p now stores
-  -- the given parent
+  -- from state z to state y the summary of the place p was recomputed, because the summary of one child had changed from `from` to `to`. In state y the place p
+  -- stores the parent `parent`
   abbrev pub RecomputesAt : Summaries S → Summaries S → Place → S → S → Option Place → Type 0
   RecomputesAt z y p from to parent = (d : Side) (c : Color) (b : Tree) (fs : List Frame) (t : Tree) (up : Option Place)
       → IsSubtree n v (frame d c p b ∷ fs) t → IsConsistentTree z t → seen z (top t) ≡ Some to → seen_upper z (top t) ≡ Some p

@@ -44,8 +44,8 @@ module _ {S : Type 0} where
   IsConsistentBeside z [] = Unit {0}
   IsConsistentBeside z (frame d c p b ∷ fs) = IsConsistentTree z b × IsConsistentBeside z fs
 
-  -- from state z to state w nothing outside the tree t has changed. If t was consistent, has no place twice, and is at most `fuel` high, each of its
-  -- members has the right summary now
+  -- from state z to state w nothing outside the tree t has changed. If t was consistent, has no place twice, and is at most `fuel` high, each member of t has
+  -- the right summary in state w
   pub record Refreshes (IsConsistent : Summaries S → Tree → Type 0) (z w : Summaries S) (up : Option Place) (t : Tree) (fuel : ℕ) : Type 0 where
     pub frame : (q : Place) → times q t ≡ 0 → IsSameAt z w q
     pub join : w.join ≡ z.join
@@ -72,11 +72,11 @@ module _ {E S : Type 0} (n : E → Node) where
     pub marks : WritesNoSummary z y
     pub join : y.join ≡ z.join
 
-  -- THE TABLE REPRESENTS s as the tree with this root, and each fresh summary of a member is right
+  -- the table represents s as the tree with the root `root`, and each fresh summary of a member is right
   abbrev pub RepresentsConsistent : Summaries S → Table E → Option Place → List Place → Type 0
   RepresentsConsistent z v root s = Represents n v root s × IsConsistent v z s
 
-  -- THE TABLE REPRESENTS s, SUMMED: s has the members of the tree with this root, and each member stores the summary of its subtree
+  -- the table represents s as the tree with the root `root`, and this tree is summed: each member stores the summary of its subtree
   pub record RepresentsAugmented (z : Summaries S) (v : Table E) (root : Option Place) (s : List Place) : Type 0 where
     pub shows : Represents n v root s
     pub summed : IsSummed z None shows.tree

@@ -12,7 +12,7 @@ use Rattle.ic_augmented.specs.Summaries.{Summaries}
 use Rattle.ic_augmented.specs.declared.augmented.Augmented.{Augmented}
 
 module _ {E S : Type 0} (n : E → Node) where
-  -- THE TABLE REPRESENTS s as the tree with this root, and no member of s has a stale summary
+  -- the table represents s as the tree with the root `root`, and no member of s has a stale summary
   pub record RepresentsFresh (z : Summaries S) (v : Table E) (root : Option Place) (s : List Place) : Type 0 where
     -- each member stores the summary of its subtree, which every query requires
     pub summed : RepresentsAugmented n z v root s
@@ -21,13 +21,13 @@ module _ {E S : Type 0} (n : E → Node) where
 
 -- `kept` gives what the tree stores of its members, for example its root
 module _ {A H N E M S : Type 0} (kept : H → Kept) (n : E → Node) (table : N → Table E) (summaries : M → Summaries S) (Covers : M → Place → Type 0) where
-  -- AN EDIT CHANGES ONLY ONE TREE and keeps the other trees of the table, if they have neither members of the edited tree nor places of `apart`. It may
-  -- write the summaries of members and of places in `written`
+  -- an edit turns `tree` into `new_tree`. It keeps each other tree of the table that has neither members of `tree` nor places of `apart`. It may write the
+  -- summaries of the members of `tree` and of the places in `written`
   pub record ChangesOnlyInTree (apart written : List Place) (tree new_tree : RBTree A H) (old new : Augmented N M) : Type 0 where
     -- each other tree is represented as before the edit, and each of its fresh summaries is right
     pub others : (s t : List Place) (other : Option Place) → Represents n (table (links_of old)) (root_in kept tree) s → IsDisjoint t (apart ++ s)
         → RepresentsConsistent n (summaries (summaries_of old)) (table (links_of old)) other t → RepresentsConsistent n (summaries (summaries_of new)) (table (links_of new)) other t
-    -- if the tree's fresh summaries were written below its own members, as in a summed tree, each place outside the tree keeps its summary and its stored
+    -- if each parent that is stored in the tree is a member, as in a summed tree, each place outside the tree and `written` keeps its summary and its stored
     -- parent
     pub same : (s : List Place) → Represents n (table (links_of old)) (root_in kept tree) s → IsWrittenWithin (summaries (summaries_of old)) (written ++ s)
         → (q : Place) → IsAbsent q (written ++ s) → IsSameAt (summaries (summaries_of old)) (summaries (summaries_of new)) q

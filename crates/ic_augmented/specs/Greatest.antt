@@ -24,6 +24,6 @@ module _ {A : Type 0} where
   abbrev pub number_at : AugmentedTable ℕ ℕ A → Place → ℕ
   number_at t p = number_in t.cells.items p
 
--- THE NUMBER of the place p IS GREATER than the bound
+-- whether the number of the place p is greater than `bound`
 abbrev pub is_greater : (number : Place → ℕ) → ℕ → Place → Bool
 is_greater number bound p = nat_lt bound (number p)

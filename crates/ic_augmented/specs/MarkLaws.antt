@@ -19,11 +19,11 @@ module _ {S : Type 0} where
     printed None is k = cc
     printed (Some a) is k = rw (h.fresh q a is) refl
 
-  -- if the summaries of a set were written within the set, this still holds after an edit that writes no summary
+  -- if the parents that are stored inside a set are in the set, they still are after an edit that writes no summary
   pub written_still : (x y : Summaries S) → WritesNoSummary x y → (inside : Place → Bool) → IsWrittenIn x inside → IsWrittenIn y inside
   written_still x y h inside k q p m e up = k q p m (fresh_before x y h q e) (sym (h.upper q) ∙ up)
 
-  -- an edit that changes nothing stays inside a set, and two edits that stay inside the set do so together
+  -- an edit that changes nothing stays inside a set. If each of two edits stays inside the set, both together stay inside the set
   pub inside_still : (z : Summaries S) (o : Option Place) (inside : Place → Bool) → StaysInside z z o o inside
   inside_still z o inside i = (i, λ k q out. record { fresh = refl; upper = refl })
 

@@ -31,19 +31,19 @@ module _ {S : Type 0} where
   IsSummed z up leaf = Unit {0}
   IsSummed z up (fork c a p b) = (z.fresh p ≡ total z (fork c a p b)) × (z.upper p ≡ up) × IsSummed z (Some p) a × IsSummed z (Some p) b
 
-  -- no summary was written from state `old` to state `new`: each summary is unchanged or stale now, and each stored parent is unchanged
+  -- no summary was written from state `old` to state `new`: in `new` each summary is unchanged or stale, and each stored parent is unchanged
   pub record WritesNoSummary (old new : Summaries S) : Type 0 where
     pub fresh : (q : Place) (x : S) → new.fresh q ≡ Some x → old.fresh q ≡ Some x
     pub upper : (q : Place) → new.upper q ≡ old.upper q
 
-  -- the place p has a stale summary now, and nothing else has changed
+  -- in the state `new` the place p has a stale summary, and nothing else has changed since the state `old`
   pub record Invalidates (old new : Summaries S) (p : Place) : Type 0 where
     pub stale : new.fresh p ≡ None
     pub others : (q : Place) → q ≢ p → new.fresh q ≡ old.fresh q
     pub upper : (q : Place) → new.upper q ≡ old.upper q
     pub join : new.join ≡ old.join
 
-  -- the place p has the summary x and the stored parent `up` now, and nothing else has changed
+  -- in the state `new` the place p has the summary x and the stored parent `up`, and nothing else has changed since the state `old`
   pub record Writes (old new : Summaries S) (p : Place) (x : Option S) (up : Option Place) : Type 0 where
     pub fresh : new.fresh p ≡ x
     pub upper : new.upper p ≡ up

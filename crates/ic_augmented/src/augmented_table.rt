@@ -51,12 +51,12 @@ pub trait Summarize<S>: Copy + Drop {
     fn is_same(a: &S, b: &S) -> bool
         ensures { IsTrue result → a.now ≡ b.now };
 
-    // The law: the summaries determine the value, because two different values give different summaries with some subtrees.
+    // The law: if two values give equal summaries with each pair of summaries of two subtrees, the values are equal.
     ghost tells: { (x y : Self) → ((a b : Option S) → join x a b ≡ join y a b) → x ≡ y };
 }
 
-/// The cell of a place has its value and the summary of the subtree there, or no summary if the summary is stale. It also has the parent that the place
-/// had when the summary was written.
+/// The cell of a place has its value, the summary of the subtree there, and the stored parent. The stored parent is the parent that the place had when the
+/// summary was written. If the summary is stale, the cell has no summary.
 ///
 /// A copy of a cell belongs to no place, so it has the initial value and no summary.
 #[derive(Drop)]
@@ -148,7 +148,7 @@ impl<V: Summarize<S>, S: Copy + Drop, A: Allocator> AugmentedTable<V, S, A> {
         }
     }
 
-    /// The stored summary of the subtree at the place `end`. It is `None` if the summary is stale or there is no place. O(1).
+    /// The stored summary of the subtree at the place `end`. It is `None` if the summary is stale or `end` is `None`. O(1).
     #[inline]
     pub fn summary(&self, end: Option<Place>) -> Option<S>
         ensures { result ≡ seen (joined V.join V.initial self.now) end }
@@ -166,7 +166,7 @@ impl<V: Summarize<S>, S: Copy + Drop, A: Allocator> AugmentedTable<V, S, A> {
 impl<V: Summarize<u64>, A: Allocator> AugmentedTable<V, u64, A> {
     ghost use Rattle.ic_augmented.specs.AugmentedTables.{joined, or_zero};
 
-    /// The stored number of the subtree at the place `end`. It is 0 if the number is stale or there is no place. O(1).
+    /// The stored summary, a number, of the subtree at the place `end`. It is 0 if the summary is stale or `end` is `None`. O(1).
     #[inline]
     pub fn total(&self, end: Option<Place>) -> u64
         ensures { result ≡ or_zero (seen (joined V.join V.initial self.now) end) }
@@ -235,7 +235,7 @@ impl<V: Summarize<S>, S: Copy + Drop, A: Allocator> RecomputeSummaries for Augme
         let was = cell.summary?;
         let is = cell.value.rejoin(was, from, to)?;
         let recomputed = &mut self.cells[index];
-        // The summary is fresh already, so the mark for a fresh summary is not written.
+        // `recomputed.summary` is `Some` already, so only the summary inside it is written.
         if let Some(summary) = &mut recomputed.summary {
             *summary = is;
         }
@@ -266,8 +266,8 @@ impl<V: Summarize<S>, S: Copy + Drop, A: Allocator> RecomputeSummaries for Augme
 
 /// Sets the value of `place`, and makes each summary stale that depends on the value.
 ///
-/// It requires that there is room for the place. Each fresh summary of every tree in the table stays right. Summaries of other trees also stay fresh, if
-/// the summaries of the place's tree were written below its own members, as in a summed tree. O(log n).
+/// It requires that there is room for the place. Each fresh summary of every tree in the table stays right. Summaries of other trees also stay fresh, if the
+/// parents that are stored in the place's tree are members of this tree. In a summed tree they are. O(log n).
 pub fn set_value<N: NodeStore, V: Summarize<S>, S: Copy + Drop, A: Allocator>(
     summed: &mut Augmented<N, AugmentedTable<V, S, A>>,
     place: Place,

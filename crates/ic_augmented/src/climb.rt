@@ -24,7 +24,7 @@ use crate::summaries::RecomputeSummaries;
 use ic_rbtree::NodeStore;
 use ic_unsafe_ref::Place;
 
-// Whether the edge is above the place in its tree.
+// Whether `edge` is above `place` in the tree of `place`.
 fn is_above<N: NodeStore>(links: &N, place: Place, edge: Place) -> bool
     requires { (fs : List Frame) × (t : Tree) × IsSubtree N.node (N.table links.now) fs t × (top t ≡ Some place) }
     ensures { IsTrue result → (fs : List Frame) (t : Tree) → IsSubtree N.node (N.table links.now) fs t → top t ≡ Some place → IsAmong edge fs }
@@ -38,8 +38,8 @@ fn is_above<N: NodeStore>(links: &N, place: Place, edge: Place) -> bool
     is_above(links, above, edge)
 }
 
-// Writes the summary of a place, after the stale summaries below it. The function reads the place's parent itself, because the callers need no parent for
-// most summaries. This function is not inlined.
+// Writes the summary of the place `here`, after the stale summaries below it. The function reads the parent of `here` itself, because its callers need no
+// parent for most summaries. It is not inlined.
 #[inline(never)]
 fn recompute_whole<N: NodeStore, M: RecomputeSummaries>(
     links: &N,
@@ -57,8 +57,8 @@ fn recompute_whole<N: NodeStore, M: RecomputeSummaries>(
     recompute(links, summaries, here, upper, 66)
 }
 
-// Recomputes the summary of a place, because the summary of one child has changed from `from` to `to`. Returns the old and the new summary of the place,
-// or `None` if its summary was stale.
+// Recomputes the summary of `place`, because the summary of one child has changed from `from` to `to`. Returns the old and the new summary of `place`, or
+// `None` if the old one was stale.
 #[inline(always)]
 fn recompute_at<N: NodeStore, M: RecomputeSummaries>(
     links: &N,
@@ -87,7 +87,7 @@ fn recompute_at<N: NodeStore, M: RecomputeSummaries>(
     Some((was, recompute_whole(links, summaries, place)))
 }
 
-// Recomputes the summaries from a place upwards for as long as they change, because the summary of one child has changed from `from` to `to`.
+// Recomputes the summaries from `place` upwards for as long as they change, because the summary of one child of `place` has changed from `from` to `to`.
 fn pass_on<N: NodeStore, M: RecomputeSummaries>(
     links: &N,
     summaries: &mut M,
@@ -117,7 +117,7 @@ fn pass_on<N: NodeStore, M: RecomputeSummaries>(
     pass_on(links, summaries, above, was, is);
 }
 
-// Recomputes the summary of the edge, and the summaries above the edge for as long as they change.
+// Recomputes the summary of `edge`, and the summaries above `edge` for as long as they change.
 #[inline(always)]
 fn climb_on<N: NodeStore, M: RecomputeSummaries>(links: &N, summaries: &mut M, edge: Place)
     requires covered { (q : Place) → IsNode N.node (N.table links.now) q → M.Covers summaries.old q }
@@ -143,7 +143,7 @@ fn climb_on<N: NodeStore, M: RecomputeSummaries>(links: &N, summaries: &mut M, e
     pass_on(links, summaries, above, was, is);
 }
 
-// Recomputes the summaries from a place up to the edge, and the summaries above the edge for as long as they change.
+// Recomputes the summaries from `place` up to `edge`, and the summaries above `edge` for as long as they change.
 fn climb<N: NodeStore, M: RecomputeSummaries>(
     links: &N,
     summaries: &mut M,
@@ -170,8 +170,8 @@ fn climb<N: NodeStore, M: RecomputeSummaries>(
     climb(links, summaries, above, edge);
 }
 
-// Recomputes the summaries that an insert of the place has left stale below the edge, and the summaries above the edge that change. If the edge is not
-// above the place, the function makes the summaries from the edge upwards stale.
+// After an insert of `place`, recomputes the summaries from `place` up to `edge`, and those above `edge` for as long as they change. If `edge` is not above
+// `place`, the function makes the summaries from `edge` upwards stale. If there is no edge, it does nothing.
 pub(crate) fn settle<N: NodeStore, M: RecomputeSummaries>(
     links: &N,
     summaries: &mut M,
@@ -201,8 +201,8 @@ pub(crate) fn settle<N: NodeStore, M: RecomputeSummaries>(
     climb(links, summaries, place, edge);
 }
 
-// Recomputes the summaries that the removal of the place has left stale below the edge, and the summaries above the edge that change. If the edge is the
-// removed place, the summary of every member is right or stale already.
+// After the removal of `place`, recomputes the summary of `edge`, the stale summaries below it, and the summaries above it for as long as they change. If there
+// is no edge, or `edge` is `place`, it does nothing, because the summary of every member is right or stale.
 pub(crate) fn settle_without<N: NodeStore, M: RecomputeSummaries>(
     links: &N,
     summaries: &mut M,

@@ -1,4 +1,4 @@
-//! These calls recompute the summaries that edits of a tree have made stale, and some of them make the edit, too.
+//! These calls recompute the summaries that edits of a tree have made stale, and some of the calls also make the edit.
 //!
 //! ```text
 //! tree.insert_keyed(&mut summed, object)?;
@@ -32,11 +32,11 @@ use std::marker::Brand;
 
 /// Inserts `place`, as [`RBTree::attach`] does, and recomputes the stale summaries of the tree. Afterwards each member has the summary of its subtree.
 ///
-/// The call does what `RBTree::attach` and [`refresh`] do, but is faster. It recomputes the summaries above the place only as far as they change, each
-/// from the changed summary below. Each fresh summary of another tree in the table stays right. If the summaries of this tree were written below its own
-/// members, as in a summed tree, summaries of other trees also stay fresh. It requires what `RBTree::attach` requires, and that there is room for a
-/// summary at each linked place. The links must represent a tree in which the place can be inserted at this side of the parent. O(log n + v) for v
-/// summaries that were stale before.
+/// The call does what `RBTree::attach` and [`refresh`] do, but is faster. It recomputes the summaries above the place only as far as they change, each from the
+/// changed summary below. Each fresh summary of another tree in the table stays right. Summaries of other trees also stay fresh, if the parents that are stored
+/// in this tree are members of this tree, as in a summed tree. The call requires what `RBTree::attach` requires, and that there is room for a summary at each
+/// linked place. The links must represent a tree in which `place` can be inserted on this side of `parent`. O(log n + v) for v summaries that were stale
+/// before.
 pub fn attach_fresh<A, E: TreeHead, N: NodeStore, M: RecomputeSummaries>(
     tree: &mut RBTree<A, E>,
     summed: &mut Augmented<N, M>,
@@ -70,9 +70,9 @@ pub fn attach_fresh<A, E: TreeHead, N: NodeStore, M: RecomputeSummaries>(
 /// its subtree. The place stays linked, and its own summary is stale.
 ///
 /// The call does what `RBTree::unlink` and [`refresh`] do. It recomputes the summaries above the place only as far as they change, each from the changed
-/// summary below. Each fresh summary of another tree in the table stays right. If the summaries of this tree were written below its own members, as in a
-/// summed tree, summaries of other trees also stay fresh. It requires that the place is that of a member, and that there is room for a summary at each
-/// linked place. O(log n + v) for v summaries that were stale before.
+/// summary below. Each fresh summary of another tree in the table stays right. Summaries of other trees also stay fresh, if the parents that are stored in this
+/// tree are members of this tree, as in a summed tree. The call requires that `place` is a member, and that there is room for a summary at each linked place.
+/// O(log n + v) for v summaries that were stale before.
 pub fn unlink_fresh<A, E: TreeHead, N: NodeStore, M: RecomputeSummaries>(
     tree: &mut RBTree<A, E>,
     summed: &mut Augmented<N, M>,

@@ -1,4 +1,4 @@
-//! The first member whose number exceeds a bound, found by the greatest numbers of subtrees.
+//! This call finds the first member whose number exceeds a bound, by the greatest numbers of subtrees.
 //!
 //! ```text
 //! let region = first_greater(&tree, &summed, length - 1)?; // the first region that is long enough
@@ -21,7 +21,7 @@ use ic_rbtree::{NodeStore, RBTree, TreeHead};
 use ic_unsafe_ref::Place;
 use std::alloc::Allocator;
 
-// The first member whose number is greater than `bound`, in the subtree at a place. Returns `None` if no member of the subtree has such a number.
+// The first member of the subtree at `place` whose number is greater than `bound`. Returns `None` if no member of the subtree has such a number.
 fn first_greater_below<N: NodeStore, A: Allocator>(
     links: &N,
     numbers: &Greatest<A>,
@@ -52,7 +52,7 @@ fn first_greater_below<N: NodeStore, A: Allocator>(
 /// The first member whose number is greater than `bound`, or `None` if no number is greater. The members need not be in the order of their numbers. O(log
 /// n).
 ///
-/// It requires that the links represent a tree.
+/// It requires that the links represent a tree. The result is right if the tree is summed.
 pub fn first_greater<T, E: TreeHead, N: NodeStore, A: Allocator>(
     tree: &RBTree<T, E>,
     summed: &Augmented<N, Greatest<A>>,

@@ -80,9 +80,9 @@ pub fn insert_fresh<
 
 /// Removes the object as [`RBTree::remove`] does, and recomputes the stale summaries of the tree. Afterwards each member has the summary of its subtree.
 ///
-/// The call does what `remove` and [`refresh`](crate::refresh) do. It recomputes the summaries above the object only as far as they change. The summary of
-/// the object's place is stale afterwards. Each fresh summary of another tree in the table stays right. If the summaries of this tree were written below
-/// its own members, as in a summed tree, summaries of other trees also stay fresh. It requires that the object is a member, and that there is room for a
+/// The call does what `remove` and [`refresh`](crate::refresh) do. It recomputes the summaries above the object only as far as they change. The summary of the
+/// object's place is stale afterwards. Each fresh summary of another tree in the table stays right. Summaries of other trees also stay fresh, if the parents
+/// that are stored in this tree are members of this tree, as in a summed tree. The call requires that the object is a member, and that there is room for a
 /// summary at each covered place. O(log n + v) for v summaries that were stale before.
 pub fn remove_fresh<A: KeyAdapter, E: TreeHead, L: RBTreeOps, M: RecomputeSummaries>(
     tree: &mut RBTree<A, E>,

@@ -11,8 +11,8 @@ ghost use Rattle.std.specs.Prelude.{◌≡◌, max, IfSome};
 use crate::augmented_table::{AugmentedTable, Summarize};
 use std::alloc::Global;
 
-/// A table with a number for each place, which is 0 until another one is set, and the greatest number in the subtree there. The numbers are for example
-/// the ends of intervals, or the lengths of regions.
+/// A table that stores a number for each place, and the greatest number in the subtree there. A number is 0 until another one is set. The numbers are for
+/// example the ends of intervals, or the lengths of regions.
 pub type Greatest<A = Global> = AugmentedTable<u64, u64, A>;
 
 // The greater of two numbers.

@@ -1,5 +1,5 @@
-//! Red-black trees with a summary of each subtree, stored beside the links: the number of its members, the greatest of their numbers, or a summary of your
-//! own.
+//! Red-black trees can store a summary of each subtree beside the links. It is the number of the subtree's members, the greatest of the members' numbers, or a
+//! summary of your own.
 //!
 //! An edit marks each summary that may have changed as stale, and `refresh` recomputes the stale summaries. Therefore several edits can share one
 //! `refresh`.

@@ -1,5 +1,5 @@
-//! A tree's edit inserts or removes one place, and writes to links and summaries that also record the edge. The edge is the place above the stale
-//! summaries.
+//! An edit of a tree inserts or removes one place. It writes to links and summaries by a `Marking`, which also records the edge. The edge is the place above
+//! the summaries that the edit makes stale.
 //!
 //! ```text
 //! let edge = attach_marking(&mut tree, &mut summed, parent, side, place); // its summary is as it was
@@ -9,16 +9,15 @@
 ghost use Rattle.std.specs.Prelude.{◌≡◌, ◌⊎◌, Bool, true, Some, None, List, [], ◌∷◌, ◌++◌};
 ghost use Rattle.ic_link_ops.specs.Prelude.{Place, Cut, join, insert, IsDistinct};
 ghost use Rattle.ic_link_ops.specs.RedBlackTree.{Represents};
-ghost use Rattle.ic_rbtree.specs.Closed.{AreIn, IsIn, IsClosed, IsClosedBut, KeepsNodes};
+ghost use Rattle.ic_rbtree.specs.Closed.{AreIn, IsClosed, IsClosedBut};
 ghost use Rattle.ic_rbtree.specs.Insertion.{Attaches};
 ghost use Rattle.ic_rbtree.specs.Kept.{TellsEnds, IsBelow};
 ghost use Rattle.ic_rbtree.specs.Transplants.{TakesAway};
 ghost use Rattle.ic_rbtree.specs.Tree.{head_of, root_in, adapter_of};
-ghost use Rattle.ic_augmented.specs.Beside.{IsWrittenIn, IsSameBeside, StaysInside};
-ghost use Rattle.ic_augmented.specs.Consistent.{IsConsistent, IsConsistentBut, KeepsEdge};
-ghost use Rattle.ic_augmented.specs.Marking.{links_in, MarksOnly};
+ghost use Rattle.ic_augmented.specs.Beside.{StaysInside};
+ghost use Rattle.ic_augmented.specs.Consistent.{KeepsEdge};
+ghost use Rattle.ic_augmented.specs.Marking.{links_in, MarksOnly, MarksBelow};
 ghost use Rattle.ic_augmented.specs.Augmented.{links_of, summaries_of};
-ghost use Rattle.ic_augmented.specs.Summaries.{WritesNoSummary};
 
 use crate::augmented::Augmented;
 use crate::stale::invalidate_from;
@@ -51,7 +50,7 @@ pub(crate) struct Marking<'a, N, M, F> {
 impl<'a, N, M, F> Marking<'a, N, M, F> {
     ghost use Rattle.ic_augmented.specs.Marking.{edge_in, Borrows};
 
-    // Borrows links and summaries, together with a first edge.
+    // Borrows the links and the summaries of `summed`, and begins with the edge `edge`.
     #[inline]
     fn new(summed: &'a mut Augmented<N, M>, edge: Option<Place>) -> Marking<'a, N, M, F>
         ensures borrows { Borrows summed.entry result }
@@ -82,7 +81,8 @@ fn invalidate_in<N: NodeStore, M: Summaries>(
     invalidate_from(&summed.links, &mut summed.summaries, edge, place)
 }
 
-/// If a child of a place with a fresh summary is written, this place becomes the edge. The summaries from the old edge up to this place become stale.
+/// A write of a child at a place with a fresh summary makes this summary stale, or makes the place the edge. If the place becomes the edge, the summaries from
+/// the old edge up to the place become stale.
 impl<N: NodeStore, M: Summaries, F: Fence> NodeStore for Marking<'_, N, M, F> {
     ghost use Rattle.ic_augmented.specs.Fences.{fenced, fenced_node};
     ghost use Rattle.ic_augmented.specs.Marking.{summaries_in, edge_in};
@@ -151,7 +151,7 @@ impl<N: NodeStore, M: Summaries, F: Fence> NodeStore for Marking<'_, N, M, F> {
     ghost keeps_links_keeps = { λ old new x q. ap (λ is. F.inside q && is) (N.keeps_links_keeps (links_in old) (links_in new) x.keeps_links q) };
 }
 
-// Inserts the place, as `RBTree::attach` does. The tree and the place are inside the fence, and the call writes nothing outside the fence.
+// Inserts `place`, as `RBTree::attach` does. The tree and `place` are inside the fence, and the call writes nothing outside the fence.
 fn attach_inside<F: Fence, A, E: TreeHead, N: NodeStore, M: Summaries>(
     tree: &mut RBTree<A, E>,
     marking: &mut Marking<'_, N, M, F>,
@@ -170,9 +170,9 @@ fn attach_inside<F: Fence, A, E: TreeHead, N: NodeStore, M: Summaries>(
     tree.attach(marking, parent, side, place);
 }
 
-// Inserts the place, as `RBTree::attach` does, and returns the edge, which is the place above the stale summaries. The edge's own summary is unchanged and
-// may be wrong. The edit changes no summary at a place to which no place inside the fence leads. At first the edge is the parent, because its child is
-// written in any case.
+// Inserts `place`, as `RBTree::attach` does, and returns the edge, which is the place above the stale summaries. The edge's own summary is unchanged and may be
+// wrong. If the parents that are stored inside the fence are inside the fence, too, no summary outside the fence changes. At first the edge is `parent`,
+// because the edit writes its child in any case.
 pub(crate) fn attach_marking<F: Fence, A, E: TreeHead, N: NodeStore, M: Summaries>(
     tree: &mut RBTree<A, E>,
     summed: &mut Augmented<N, M>,
@@ -185,15 +185,7 @@ pub(crate) fn attach_marking<F: Fence, A, E: TreeHead, N: NodeStore, M: Summarie
     ensures attached { Attaches N.node (N.table (links_of summed.old)) (N.table (links_of summed.new)) (root_in E.kept tree.old) (root_in E.kept tree.new) parent side place }
     ensures ends { (gap : Cut) → IsBelow parent side gap → IsDistinct (join gap) → TellsEnds (E.kept (head_of tree.old)) (join gap)
         → TellsEnds (E.kept (head_of tree.new)) (insert gap place) }
-    ensures linked { KeepsNodes N.node (N.table (links_of summed.old)) (N.table (links_of summed.new)) }
-    ensures keeps_links { N.KeepsLinks (links_of summed.old) (links_of summed.new) }
-    ensures consistent { (s : List Place) → IsConsistent N.node (N.table (links_of summed.old)) (M.summaries (summaries_of summed.old)) s
-        → IsConsistentBut N.node (N.table (links_of summed.new)) (M.summaries (summaries_of summed.new)) s result }
-    ensures marks { WritesNoSummary (M.summaries (summaries_of summed.old)) (M.summaries (summaries_of summed.new)) }
-    ensures inside { IsIn F.inside result }
-    ensures beside { IsWrittenIn (M.summaries (summaries_of summed.old)) F.inside → IsSameBeside (M.summaries (summaries_of summed.old)) (M.summaries (summaries_of summed.new)) F.inside }
-    ensures join { (M.summaries (summaries_of summed.new)).join ≡ (M.summaries (summaries_of summed.old)).join }
-    ensures covers { (q : Place) → M.Covers (summaries_of summed.old) q → M.Covers (summaries_of summed.new) q }
+    ensures marked { MarksBelow N.KeepsLinks N.node N.table M.summaries M.Covers F.inside summed.old summed.new result }
     ensures adapter { adapter_of tree.new ≡ adapter_of tree.old }
 {
     let mut marking: Marking<'_, N, M, F> = Marking::new(summed, parent);
@@ -206,7 +198,7 @@ pub(crate) fn attach_marking<F: Fence, A, E: TreeHead, N: NodeStore, M: Summarie
     edge
 }
 
-// Removes the member, as `RBTree::unlink` does. The tree is inside the fence, and the call writes nothing outside the fence.
+// Removes the member `place`, as `RBTree::unlink` does. The tree is inside the fence, and the call writes nothing outside the fence.
 fn unlink_inside<F: Fence, A, E: TreeHead, N: NodeStore, M: Summaries>(
     tree: &mut RBTree<A, E>,
     marking: &mut Marking<'_, N, M, F>,
@@ -223,8 +215,8 @@ fn unlink_inside<F: Fence, A, E: TreeHead, N: NodeStore, M: Summaries>(
     tree.unlink(marking, place);
 }
 
-// Removes the member, as `RBTree::unlink` does, and returns the edge, which is the place above the stale summaries. The edge's own summary is unchanged
-// and may be wrong. The edit changes no summary at a place to which no place inside the fence leads.
+// Removes the member `place`, as `RBTree::unlink` does, and returns the edge, which is the place above the stale summaries. The edge's own summary is unchanged
+// and may be wrong. If the parents that are stored inside the fence are inside the fence, too, no summary outside the fence changes.
 pub(crate) fn unlink_marking<F: Fence, A, E: TreeHead, N: NodeStore, M: Summaries>(
     tree: &mut RBTree<A, E>,
     summed: &mut Augmented<N, M>,
@@ -235,15 +227,7 @@ pub(crate) fn unlink_marking<F: Fence, A, E: TreeHead, N: NodeStore, M: Summarie
     ensures taken { TakesAway N.node (N.table (links_of summed.old)) (N.table (links_of summed.new)) (root_in E.kept tree.old) (root_in E.kept tree.new) place }
     ensures ends { (front back : List Place) → Represents N.node (N.table (links_of summed.old)) (root_in E.kept tree.old) (front ++ place ∷ back)
         → TellsEnds (E.kept (head_of tree.old)) (front ++ place ∷ back) → TellsEnds (E.kept (head_of tree.new)) (front ++ back) }
-    ensures linked { KeepsNodes N.node (N.table (links_of summed.old)) (N.table (links_of summed.new)) }
-    ensures keeps_links { N.KeepsLinks (links_of summed.old) (links_of summed.new) }
-    ensures consistent { (s : List Place) → IsConsistent N.node (N.table (links_of summed.old)) (M.summaries (summaries_of summed.old)) s
-        → IsConsistentBut N.node (N.table (links_of summed.new)) (M.summaries (summaries_of summed.new)) s result }
-    ensures marks { WritesNoSummary (M.summaries (summaries_of summed.old)) (M.summaries (summaries_of summed.new)) }
-    ensures inside { IsIn F.inside result }
-    ensures beside { IsWrittenIn (M.summaries (summaries_of summed.old)) F.inside → IsSameBeside (M.summaries (summaries_of summed.old)) (M.summaries (summaries_of summed.new)) F.inside }
-    ensures join { (M.summaries (summaries_of summed.new)).join ≡ (M.summaries (summaries_of summed.old)).join }
-    ensures covers { (q : Place) → M.Covers (summaries_of summed.old) q → M.Covers (summaries_of summed.new) q }
+    ensures marked { MarksBelow N.KeepsLinks N.node N.table M.summaries M.Covers F.inside summed.old summed.new result }
     ensures adapter { adapter_of tree.new ≡ adapter_of tree.old }
 {
     let mut marked: Marking<'_, N, M, F> = Marking::new(summed, None);

@@ -28,7 +28,7 @@ use ic_rbtree::{NodeStore, RBTree, TreeHead};
 use ic_unsafe_ref::{Place, Values};
 use std::alloc::Allocator;
 
-// The first interval of the subtree at a place that overlaps `[from, to)`, or `None` if none does.
+// The first member of the subtree at `place` whose interval overlaps `[from, to)`, or `None` if no interval of the subtree does.
 fn first_overlap_below<N: NodeStore, O: Values<u64>, A: Allocator>(
     links: &N,
     ends: &Greatest<A>,
@@ -63,9 +63,9 @@ fn first_overlap_below<N: NodeStore, O: Values<u64>, A: Allocator>(
 
 /// The first member whose interval overlaps `[from, to)`, which means that the interval starts before `to` and ends after `from`.
 ///
-/// The end of each interval is the number at its place in the summaries. The start of each interval is the number that `starts` has for the member, and
-/// the tree is in the order of the starts. It requires that the links represent a tree with a start at each member. It returns `None` if no member
-/// overlaps. O(log n).
+/// The end of each interval is the number at its place in the summaries. The start of each interval is the number that `starts` has for the member. It requires
+/// that the links represent a tree with a start at each member. The result is right if the tree is summed, and in the order of the starts. It returns `None` if
+/// no member overlaps. O(log n).
 pub fn first_overlap<T, E: TreeHead, N: NodeStore, O: Values<u64>, A: Allocator>(
     tree: &RBTree<T, E>,
     summed: &Augmented<N, Greatest<A>>,
@@ -90,7 +90,7 @@ pub fn first_overlap<T, E: TreeHead, N: NodeStore, O: Values<u64>, A: Allocator>
     )
 }
 
-// The first interval that overlaps `[from, to)` after the subtree at a place, or `None` if none does.
+// The first member after the subtree at `place` whose interval overlaps `[from, to)`, or `None` if no later interval does.
 fn first_overlap_after<N: NodeStore, O: Values<u64>, A: Allocator>(
     links: &N,
     ends: &Greatest<A>,
@@ -127,9 +127,9 @@ fn first_overlap_after<N: NodeStore, O: Values<u64>, A: Allocator>(
 
 /// The first member after the member at `place` whose interval overlaps `[from, to)`.
 ///
-/// It requires that `place` is that of a member of some tree, that the tree is in the order of the starts, and that each member has a start. It returns
-/// `None` if no later member overlaps. To get all members that overlap, in order, call `first_overlap`, and then `next_overlap` until it returns `None`.
-/// O(log n).
+/// It requires that `place` is a member of some tree, and that each member of this tree has a start. The result is right if the tree is summed, and in the
+/// order of the starts. It returns `None` if no later member overlaps. To get all members that overlap, in order, call `first_overlap`, and then `next_overlap`
+/// until it returns `None`. O(log n).
 pub fn next_overlap<N: NodeStore, O: Values<u64>, A: Allocator>(
     summed: &Augmented<N, Greatest<A>>,
     starts: &O,

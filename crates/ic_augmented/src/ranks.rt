@@ -26,7 +26,7 @@ use ic_rbtree::{NodeStore, RBTree, TreeHead};
 use ic_unsafe_ref::Place;
 use std::alloc::Allocator;
 
-/// The number of members of the tree. O(1).
+/// The number of members of the tree, if the tree is summed. O(1).
 #[inline]
 pub fn len<T, E: TreeHead, N: NodeStore, A: Allocator>(
     tree: &RBTree<T, E>,
@@ -39,7 +39,7 @@ pub fn len<T, E: TreeHead, N: NodeStore, A: Allocator>(
     summed.summaries.total(tree.root())
 }
 
-// The member at a position of the subtree at a place, counted from 0.
+// The member at `position` of the subtree at `place`, counted from 0. Returns `None` if the subtree has no such position.
 fn nth_below<N: NodeStore, A: Allocator>(
     links: &N,
     summaries: &Counts<A>,
@@ -68,7 +68,7 @@ fn nth_below<N: NodeStore, A: Allocator>(
     nth_below(links, summaries, right, position - before - 1, turns - 1)
 }
 
-/// The member at a position, counted from 0, or `None` if the position is not less than the number of members. O(log n).
+/// The member at a position, counted from 0, or `None` if the position is not less than the number of members. It requires that the tree is summed. O(log n).
 pub fn nth<T, E: TreeHead, N: NodeStore, A: Allocator>(
     tree: &RBTree<T, E>,
     summed: &Augmented<N, Counts<A>>,
@@ -82,7 +82,7 @@ pub fn nth<T, E: TreeHead, N: NodeStore, A: Allocator>(
     nth_below(&summed.links, &summed.summaries, tree.root(), position, 67)
 }
 
-// Whether `end` is the place `place`.
+// Whether `end` is `place`.
 #[inline]
 pub(crate) fn is_at(end: Option<Place>, place: Place) -> bool
     ensures { result ≡ is_end end place }
@@ -93,7 +93,7 @@ pub(crate) fn is_at(end: Option<Place>, place: Place) -> bool
     }
 }
 
-// The number of members that come before the subtree at a place.
+// The number of members that come before the subtree at `place`.
 fn count_before<N: NodeStore, A: Allocator>(
     links: &N,
     summaries: &Counts<A>,
@@ -120,7 +120,7 @@ fn count_before<N: NodeStore, A: Allocator>(
 
 /// The position of the member at `place`, which is the number of members before it.
 ///
-/// It requires that the place is that of a member of some tree. The result is its position if the tree is summed. O(log n).
+/// It requires that `place` is a member of some tree. The result is the position of the member if this tree is summed. O(log n).
 pub fn index_of<N: NodeStore, A: Allocator>(summed: &Augmented<N, Counts<A>>, place: Place) -> u64
     requires { (root : Option Place) × HasMember (Represents N.node (N.table (links_of summed.now)) root) place }
     ensures { (root : Option Place) (front back : List Place)

@@ -1,4 +1,4 @@
-//! Some of these functions make summaries stale, and others write them again.
+//! Some of these functions make summaries stale, and others write them again. The edge is the place whose summary may be wrong during an edit.
 //!
 //! ```text
 //! invalidate_up(&links, &mut summaries, place); // that of the place, and all above
@@ -24,7 +24,7 @@ use ic_link_ops::PlaceWord;
 use ic_rbtree::NodeStore;
 use ic_unsafe_ref::Place;
 
-// Makes the summary of a place stale, and then each summary above that was computed from it, up to a summary that is stale already.
+// Makes the summary of `place` stale, and then the summaries of the stored parents, one above the other. It ends at a summary that is stale already.
 #[inline]
 pub(crate) fn invalidate_up<N: NodeStore, M: Summaries>(_links: &N, summaries: &mut M, place: Place)
     ensures stale { (M.summaries summaries.new).fresh place ≡ None }
@@ -45,7 +45,7 @@ pub(crate) fn invalidate_up<N: NodeStore, M: Summaries>(_links: &N, summaries: &
     }
 }
 
-// Makes the summaries from `edge` up to a place stale, except the summary of the place itself. Only the place's own summary may be wrong afterwards.
+// Makes the summaries from `edge` up to `place` stale, except the summary of `place`. Only the summary of `place` may be wrong afterwards.
 #[inline]
 fn invalidate_up_to<N: NodeStore, M: Summaries>(
     _links: &N,
@@ -71,7 +71,7 @@ fn invalidate_up_to<N: NodeStore, M: Summaries>(
     }
 }
 
-// Returns whether no fresh summary was computed from the summary of the place.
+// Returns true only if no fresh summary was computed from the summary of `place`.
 #[inline]
 fn is_below_stale<M: Summaries>(summaries: &M, place: Place) -> bool
     ensures { IsTrue result → IsBelowStale (M.summaries summaries.now) place }
@@ -82,9 +82,9 @@ fn is_below_stale<M: Summaries>(summaries: &M, place: Place) -> bool
     }
 }
 
-// Prepares a place with a fresh summary for the write of a child, and returns the new edge. If no fresh summary was computed from the summary of the
-// place, only this summary becomes stale. A sibling that moves up in a rotation is an example. Otherwise the place becomes the edge. Few writes of a child
-// need this function, so it is not inlined.
+// Prepares `place`, which has a fresh summary, for the write of a child, and returns the new edge. If no fresh summary was computed from the summary of
+// `place`, only this summary becomes stale. A sibling that moves up in a rotation is an example. Otherwise `place` becomes the edge. Few writes of a child need
+// this function, so it is not inlined.
 #[inline(never)]
 fn move_edge<N: NodeStore, M: Summaries>(
     links: &N,
@@ -97,7 +97,7 @@ fn move_edge<N: NodeStore, M: Summaries>(
     ensures edge { KeepsEdge N.node (N.table links.now) (N.table links.now) (M.summaries summaries.old) (M.summaries summaries.new) (Some edge) (Some result) }
     ensures beside { (inside : Place → Bool) → inside place ≡ true → StaysInside (M.summaries summaries.old) (M.summaries summaries.new) (Some edge) (Some result) inside }
 {
-    // In most cases the place is the parent of the edge, or it is a place above the edge.
+    // In most cases `place` is the parent of `edge`, or another place above `edge`.
     if is_at(summaries.upper(edge), place) {
         summaries.invalidate(edge);
         return place;
@@ -110,8 +110,8 @@ fn move_edge<N: NodeStore, M: Summaries>(
     place
 }
 
-// Prepares a place for the write of a child. Afterwards its summary is stale, or the place is the edge and the summaries from the old edge up to it are
-// stale. Returns the edge.
+// Prepares `place` for the write of a child, and returns the edge. Afterwards the summary of `place` is stale, or `place` is the edge, and the summaries from
+// the old edge up to `place` are stale.
 #[inline]
 pub(crate) fn invalidate_from<N: NodeStore, M: Summaries>(
     links: &N,
@@ -136,8 +136,7 @@ pub(crate) fn invalidate_from<N: NodeStore, M: Summaries>(
     Some(move_edge(links, summaries, from, place))
 }
 
-// Writes the stale summaries at a place and below it, and returns the summary of the place. The function descends only into subtrees whose summary is
-// stale.
+// Writes the stale summaries at `place` and below it, and returns the summary of `place`. The function descends only into subtrees whose summary is stale.
 #[inline(always)]
 #[cycle(refresh)]
 pub(crate) fn refresh_below<N: NodeStore, M: RecomputeSummaries>(
@@ -161,8 +160,8 @@ pub(crate) fn refresh_below<N: NodeStore, M: RecomputeSummaries>(
     Some(summary)
 }
 
-// Writes the summary of a place, and the stale summaries below the place. The parent is passed as a word, which is one argument, while an `Option` would
-// be two.
+// Writes the summary of the place `here`, and the stale summaries below it. The parent `upper` is passed as a word, which is one argument, while an `Option`
+// would be two.
 #[cycle(refresh)]
 fn refresh_at<N: NodeStore, M: RecomputeSummaries>(
     links: &N,
@@ -184,7 +183,7 @@ fn refresh_at<N: NodeStore, M: RecomputeSummaries>(
     Some(recompute(links, summaries, here, upper.get(), turns - 1))
 }
 
-// Writes the summary of a place, after the stale summaries below it. The function is inlined into the loop that climbs towards the root.
+// Writes the summary of the place `here`, after the stale summaries below it. The function is inlined into the loop that climbs towards the root.
 #[inline(always)]
 #[cycle(refresh)]
 pub(crate) fn recompute<N: NodeStore, M: RecomputeSummaries>(
@@ -208,7 +207,7 @@ pub(crate) fn recompute<N: NodeStore, M: RecomputeSummaries>(
     summaries.write(here, below_left, below_right, upper)
 }
 
-// Writes the summaries of a place and of all places above it, and the stale summaries below each of these places.
+// Writes the summaries of `place` and of all places above it, and the stale summaries below each of these places.
 pub(crate) fn refresh_path<N: NodeStore, M: RecomputeSummaries>(
     links: &N,
     summaries: &mut M,

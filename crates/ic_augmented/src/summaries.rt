@@ -12,15 +12,16 @@ ghost use Rattle.ic_augmented.specs.Summaries.{is_fresh, Invalidates, Writes};
 
 use ic_unsafe_ref::Place;
 
-/// A store with a summary for each place, which is fresh or stale, and with the parent that the place had when the summary was written.
+/// A store with a summary and a stored parent for each place. The summary is fresh or stale, and the stored parent is the parent that the place had when the
+/// summary was written.
 pub trait Summaries {
     /// The type of a subtree's summary.
     type Summary: Drop;
 
-    // For each place the stored summary and parent, and the function that computes a place's summary from the summaries of its two subtrees.
+    // The stored summary and parent of each place, and the function that computes a place's summary from the summaries of its two subtrees.
     ghost summaries: { Self → specs.Summaries Self.Summary };
 
-    // The store has room for a summary of the place.
+    // `Covers t p`: the store t has room for a summary of the place p.
     ghost Covers: { Self → Place → Type 0 };
 
     // The number of places whose summary is fresh.
@@ -41,7 +42,7 @@ pub trait Summaries {
         ensures fewer { is_fresh ((summaries self.old).fresh place) ≡ true → count self.new < count self.old };
 }
 
-/// A store of summaries that can be recomputed.
+/// A store whose summaries can be recomputed.
 pub trait RecomputeSummaries: Summaries {
     /// Stores `upper` as the parent of `place`, and returns the summary of `place`. If the summary is stale, it returns `None` and changes nothing. It
     /// requires room for a summary of `place`. O(1).

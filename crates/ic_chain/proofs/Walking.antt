@@ -1,4 +1,4 @@
--- The walk over a list's objects: the member to which it goes from a member, one step of the walk, and the end of the walk.
+-- Lemmas about a walk over a list's objects: how it goes from a member to the next one, what one step returns, and where the walk ends.
 use Rattle.std.proofs.Common.{◌≡◌, inl, inr, Bool, Option, Some, None, List, [], ◌∷◌, ◌++◌, true, false, Bor, refl, sym, ◌∙◌, ap, subst}
 use Rattle.std.specs.Option.{option_copied}
 use Rattle.std.specs.List.{cons_option}
@@ -19,7 +19,7 @@ last_after : (p : Place) {q : Place} (r : List Place) → Some q ≡ first r →
 last_after p {q} [] e = absurd (none_not q (sym e))
 last_after p (x ∷ r) e = refl
 
--- A LAST MEMBER IS GIVEN: if a place p is given to a splice as the last member (`KnowsLast`), p is the last member
+-- if a splice is given the place p as the last member of a list (`KnowsLast`), then p is its last member
 pub told_some : (keeps : Bool) (after : Option Place) {p : Place} {last : Option Place} → KnowsLast keeps (Some p) after last → Some p ≡ last
 told_some keeps after (inl e) = e
 told_some true after (inr e) = e
@@ -31,8 +31,8 @@ told_none keeps after x t (inl e) = absurd (last_some x t (sym e))
 told_none true after x t (inr e) = absurd (last_some x t (sym e))
 told_none false after x t (inr e) = (refl, e.1)
 
--- if `at` is none, then there is no entry whose previous place changes, so the statement holds for every `to'`. `turned_to_none` says that no entry's
--- next place changes if `to` is none
+-- `TurnsBefore` says that the previous place of `at` changes from `from` to `to`. If `at` is none, there is no such entry, so `TurnsBefore` also holds for
+-- every other place `to'`. `turned_to_none` says that `TurnsAfter` from none to none changes no entry
 pub turned_nowhere : {E : Type 0} {between : E → Option Place → Option Place → Type 0} {old new : Place → E} {at from to to' : Option Place} → at ≡ None
     → TurnsBefore between old new at from to → TurnsBefore between old new at from to'
 turned_nowhere none turns = record { turned = λ q b e h. absurd (none_not q (sym none ∙ e)); others = turns.others }
@@ -40,7 +40,8 @@ turned_nowhere none turns = record { turned = λ q b e h. absurd (none_not q (sy
 pub turned_to_none : {E : Type 0} {between : E → Option Place → Option Place → Type 0} {t : Place → E} {at to : Option Place} → to ≡ None → TurnsAfter between t t at None to
 turned_to_none none = record { turned = λ q a e h. rw none h; others = λ q apart. refl }
 
--- A PART OF A CHAIN up to the end of the chain. `leads`: the law that an entry, with the place before it, names the place after it
+-- Lemmas about a part of a chain that reaches up to the end of the chain. `leads`: the law that `step` returns the next place, given an entry and the
+-- previous place
 module _ {E : Type 0} {between : E → Option Place → Option Place → Type 0} {step : E → Option Place → Option Place}
     (leads : (e : E) (b a : Option Place) → between e b a → step e b ≡ a) {t : Place → E} {b : Option Place} {p : Place} where
   -- the part w of the chain begins with p, and the rest of w is a part of the chain that begins with the place after p
@@ -54,7 +55,7 @@ module _ {E : Type 0} {between : E → Option Place → Option Place → Type 0}
         record { distinct = k.distinct.1; chain = rw e k.chain.1; starts = rw e (leads _ _ _ k.chain.0); ends = refl },
       )
 
-  -- if the entry of p names a next place q, the rest of w begins with q, and it has the same last member as w
+  -- if the entry of p names a next place q, the rest of w begins with q, and the rest has the same last member as w
   pub rest_goes_on : {q : Place} {w : List Place} → IsStretch between t b (Some p) (last w) None w → step (t p) b ≡ Some q
       → (r : List Place) × (w ≡ p ∷ r) × IsStretch between t (Some p) (Some q) (last r) None r × (last w ≡ last r)
   rest_goes_on {q} k e =
@@ -68,15 +69,15 @@ module _ {E : Type 0} {between : E → Option Place → Option Place → Type 0}
       let more = rest_more k in
       sym (ap last (more.1 ∙ ap (λ (r : List Place). p ∷ r) (stretch_empty e more.2)))
 
--- A PART OF A CHAIN, AND THE PLACE AT WHICH A WALK OVER IT ENDS
+-- Lemmas about a part w of a chain, and about the member `end` at which a walk over w ends
 module _ {E : Type 0} {between : E → Option Place → Option Place → Type 0} {t : Place → E} {b a : Option Place} where
-  -- if lists of the kind store their last member, then `end` is the last member of w
+  -- if lists of the kind store their last member, and a walk over w ends at `end`, then w is a part of the chain whose last member is `end`
   pub at_end : {keeps : Bool} → keeps ≡ true → {from end : Option Place} {w : List Place} → IsStretch between t b from (last w) a w → WalkEnds keeps end a (last w)
       → IsStretch between t b from end a w
   at_end closed {end = end} {w} k e =
       record { distinct = k.distinct; chain = k.chain; starts = k.starts; ends = subst (λ keeps. WalkEnds keeps end a (last w)) closed e }
 
-  -- if lists of the kind store their last member and w ends at `end`, then a walk over w ends at `end`
+  -- if lists of the kind store their last member, and the last member of w is `end`, then a walk over w ends at `end`
   pub to_last : {keeps : Bool} → keeps ≡ true → {from end : Option Place} {w : List Place} → IsStretch between t b from end a w
       → IsStretch between t b from (last w) a w × WalkEnds keeps end a (last w)
   to_last closed {end = end} {w} k = (
@@ -85,13 +86,13 @@ module _ {E : Type 0} {between : E → Option Place → Option Place → Type 0}
   )
 
 module _ {E : Type 0} {between : E → Option Place → Option Place → Type 0} {t : Place → E} {b a : Option Place} where
-  -- if the walk over w is at its end when it is on p, then p is the only member of w
+  -- if a walk over w ends at the first member p of w, then p is the only member of w
   pub comes_to_end : (keeps : Bool) (end : Option Place) (p : Place) {w : List Place} → IsStretch between t b (Some p) (last w) a w → WalkEnds keeps end a (last w)
       → is_end end p ≡ true → (w ≡ p ∷ []) × WalkEnds keeps None a None
   comes_to_end true end p k e ends = (stretch_one (rw (is_end_yes end p ends) at (at_end refl k e)), refl)
   comes_to_end false end p k e ends = let never : false ≡ true = rw e.0 at ends in absurd (cc)
 
-  -- if the walk over w is not at its end when it is on p, then it goes on with the rest of w, at the place after p
+  -- if a walk over w does not end at the first member p of w, then the walk goes on with the rest of w, from the place after p
   pub goes_on : (step : E → Option Place → Option Place) → ((e : E) (b a : Option Place) → between e b a → step e b ≡ a) → (keeps : Bool) (end : Option Place) (p : Place)
       {w : List Place} → IsStretch between t b (Some p) (last w) a w → WalkEnds keeps end a (last w) → is_end end p ≡ false
       → (r : List Place) × (w ≡ p ∷ r) × IsStretch between t (Some p) (step (t p) b) (last r) a r × WalkEnds keeps end a (last r)
@@ -114,7 +115,7 @@ pub members_represented : {E W : Type 0} {between : E → Option Place → Optio
 members_represented step leads t covered shown = stretch_through step leads t covered (stretch_of shown)
 
 module _ {K T L O E : Type 0} (keeps : Bool) (between : E → Option Place → Option Place → Type 0) (table : L → Table E) (values : O → Objects T) where
-  -- THE WALK RETURNED the member p, and `members` remain. Before the step, p and then `members` were left
+  -- A STEP of the walk from `old` to `new` returned the member p, and `members` remain. Before the step, p and then `members` were left
   pub record Steps (old new : Iter K T L O) (p : Place) : Type 0 where
     pub members : List Place
     pub walk : IsLeft keeps between table values new members
@@ -135,7 +136,7 @@ module _ {K T L O E : Type 0} (keeps : Bool) (between : E → Option Place → O
         objects = refl;
       }
 
-  -- THE WALK RETURNED the member p from the back, and `members` remain. Before the step, `members` and then p were left
+  -- A STEP FROM THE BACK of the walk from `old` to `new` returned the member p, and `members` remain. Before the step, `members` and then p were left
   pub record StepsBack (old new : Iter K T L O) (p : Place) : Type 0 where
     pub members : List Place
     pub walk : IsLeft keeps between table values new members
@@ -162,9 +163,9 @@ module _ {K T L O E : Type 0} (keeps : Bool) (between : E → Option Place → O
   pub can_walk_back : {old new : Iter K T L O} {p : Place} → StepsBack old new p → CanWalk keeps between table values new
   can_walk_back k = (k.members, k.walk, rw k.objects (all_but_last _ k.members _ k.placed).0)
 
-  -- `leads`: the law that an entry, with the place before it, names the place after it
+  -- `leads`: the law that `step` returns the next place, given an entry and the previous place
   module _ (step : E → Option Place → Option Place) (leads : (e : E) (b a : Option Place) → between e b a → step e b ≡ a) where
-    -- if the walk is not at its last member, a step returns p and the walk goes on at the next place
+    -- if the walk is at the member p, which is not its last member, a step returns p and the walk goes on at the next place
     pub steps_more : (t : Iter K T L O) (p : Place) (next : Option Place) → CanWalk keeps between table values t → t.head ≡ Some p → is_end t.tail p ≡ false
         → next ≡ step ((table t.links.now).entry p) t.before → Steps t (record t { before = Some p; head = next }) p
     steps_more t p next can at end is_next =
@@ -177,7 +178,7 @@ module _ {K T L O E : Type 0} (keeps : Bool) (between : E → Option Place → O
           objects = refl;
         }
 
-    -- if the walk from the back is not at its last member, a step returns p and the walk goes on at the previous place
+    -- if p is the last of several remaining members, a step from the back returns p and the walk goes on at the previous place
     pub steps_back_more : (back : E → Option Place → Option Place) → ((e : E) (b a : Option Place) → between e b a → back e a ≡ b) → keeps ≡ true → (t : Iter K T L O) (p : Place) (prev : Option Place)
         → CanWalk keeps between table values t → t.tail ≡ Some p → is_end t.head p ≡ false
         → prev ≡ back ((table t.links.now).entry p) t.after → StepsBack t (record t { tail = prev; after = Some p }) p
@@ -203,7 +204,7 @@ module _ {K T L O E : Type 0} (keeps : Bool) (between : E → Option Place → O
       pub none_left_back : keeps ≡ true → (t : Iter K T L O) → CanWalk keeps between table values t → t.tail ≡ None → objects_left step table values t ≡ []
       none_left_back closed t can at = left_is t can.0 can.1 ∙ ap (values_at (values t.objects.now)) (stretch_empty_back at (at_end closed can.1.0 can.1.1))
 
-      -- if a step returns the object at p, the step returns the first of the objects that were left
+      -- if a step returns the object at its member p, this object is the first of the objects that were left
       pub gives : {old new : Iter K T L O} {p : Place} (r : Option (Bor T)) → Steps old new p → option_copied r ≡ object_at (values old.objects.now) p
           → GivesFirst (objects_left step table values) old r new
       gives {old} {new} {p} r k is =
@@ -211,12 +212,12 @@ module _ {K T L O E : Type 0} (keeps : Bool) (between : E → Option Place → O
           (left_is old (p ∷ k.members) k.whole
           ∙ ap (cons_option (object_at (values old.objects.now) p)) (sym (left_is new k.members k.walk ∙ ap (λ o. values_at o k.members) k.objects)))
 
-      -- if a step returns the object at p, one object less is left after the step, and the walk can still be walked to its end
+      -- after a step that returns the object at its member p, one object less is left, and the walk can still be walked to its end
       pub goes : {old new : Iter K T L O} {p : Place} (r : Option (Bor T)) → Steps old new p → option_copied r ≡ object_at (values old.objects.now) p
           → MakesProgress (CanWalk keeps between table values) (item_count (objects_left step table values)) old r new
       goes {old} {new} {p} r k is = makes_progress (objects_left step table values) (CanWalk keeps between table values) old new r (can_walk k) (gives r k is)
 
-      -- if a step from the back returns the object at p, the step returns the last of the objects that were left
+      -- if a step from the back returns the object at its member p, this object is the last of the objects that were left
       pub gives_back : {old new : Iter K T L O} {p : Place} (r : Option (Bor T)) → StepsBack old new p → option_copied r ≡ object_at (values old.objects.now) p
           → GivesLast (objects_left step table values) old r new
       gives_back {old} {new} {p} r k is =

@@ -1,4 +1,4 @@
--- What follows if two calls are made on one collection, one after the other. Every kind of list uses these definitions.
+-- What follows if two calls are made on one list, one after the other. These definitions serve every kind of list.
 use Rattle.std.specs.Prelude.{◌≡◌, Bool, Option, Some, IfSome, List, [], ◌∷◌}
 use Rattle.ic_link_ops.specs.Prelude.{Place, Cut, insert, IsAfter, Table, ChangesOnlyIn, KeepsLinked, CursorState, RepresentsAt, IsValidCursor, LinkStep, acquires, releases}
 use Rattle.ic_link_ops.specs.EditsAt.{SplicesBeside, SplitsAfter}

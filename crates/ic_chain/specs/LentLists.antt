@@ -1,4 +1,4 @@
--- A value that borrows a list together with the table of its links, and what stays borrowed.
+-- What a `LentList` borrows, which is a list and the table of its links.
 use Rattle.std.specs.Prelude.{◌≡◌}
 use Rattle.ic_chain.specs.declared.lent_list.LentList.{LentList}
 

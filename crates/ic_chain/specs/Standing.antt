@@ -2,14 +2,15 @@
 use Rattle.std.specs.Prelude.{◌≡◌, Option, Some, List, ◌∷◌, ◌++◌}
 use Rattle.ic_link_ops.specs.Prelude.{Place, Cut, join, first, last, IsAfter, Table}
 
--- p is a member of the represented sequence, and `prev` is the member before p, or none if p is the first member
+-- p is a member of the represented sequence, and `prev` is the member before p, or none if p is the first member. `shows s`: a table represents the sequence
+-- s
 pub record HasMemberAfter (shows : List Place → Type 0) (p : Place) (prev : Option Place) : Type 0 where
   pub front : List Place
   pub back : List Place
   pub shown : shows (front ++ p ∷ back)
   pub neighbor : prev ≡ last front
 
--- p is a member of the represented sequence, and `next` is the member after p, or none if p is the last member
+-- p is a member of the represented sequence, and `next` is the member after p, or none if p is the last member. `shows s`: a table represents the sequence s
 pub record HasMemberBefore (shows : List Place → Type 0) (p : Place) (next : Option Place) : Type 0 where
   pub front : List Place
   pub back : List Place

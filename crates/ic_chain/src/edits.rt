@@ -1,8 +1,8 @@
 //! How a list of any kind implements the calls of cursors: the moves from a position, and the edits at a position.
 //!
-//! An edit "after" a position is made in the gap after the position's member, or in the first gap if the position is null. An edit "before" a
-//! position is made in the gap before its member, or in the last gap if the position is null. After an edit after the position, the position stores
-//! its new next place. The traits in `ic_cursors` document what each call does.
+//! An edit "after" a position is made in the gap after the position's member, or in the first gap if the position is null. An edit "before" a position is
+//! made in the gap before its member, or in the last gap if the position is null. An edit after the position also renews what the position stores about the
+//! next place. The traits in `ic_cursors` document what each call does.
 
 ghost use Rattle.std.specs.Prelude.{◌≡◌, List, ⊤};
 ghost use Rattle.ic_link_ops.specs.Sequences.{Cut, join, IsAfter, IsBefore};
@@ -58,7 +58,8 @@ impl<K: ListKind, T> LinkList<K, T> {
     /// The position on the member `current`, or at null if `current` is `None`, in the form that a cursor of the list stores. `prev` is the member
     /// before the position.
     ///
-    /// If the kind of list reads the member's entry, the call requires that `prev` is the member's neighbor. It reads at most one entry: O(1).
+    /// If the kind of list makes a position from the member's entry, the call requires that `prev` is the member before `current`. The call reads at most one
+    /// entry: O(1).
     #[inline]
     pub fn position_at<L: LinkOps>(
         &self,

@@ -23,8 +23,8 @@ use std::marker::PhantomData;
 /// A walk over the objects of a list. `next` returns objects from the front. `next_back` returns objects from the back, if the kind stores both ends
 /// and its entries can be read from back to front.
 ///
-/// The walk stores the first and the last of the remaining members, and the places before and after these two. When `next` and `next_back` meet, no
-/// member is left. In a list that does not store its last member, the walk ends at the member that no member follows.
+/// The walk stores the first and the last of the remaining members, the place before the first, and the place after the last. When `next` and `next_back`
+/// meet, no member is left. In a list that does not store its last member, the walk ends at the member that no member follows.
 pub struct Iter<'a, K, T, L, O = Objects<T>> {
     links: &'a L,
     objects: &'a O,
@@ -51,7 +51,7 @@ impl<K, T, L, O> Drop for Iter<'_, K, T, L, O> {
     }
 }
 
-// Whether `place` is the last member of the walk, which is `end`.
+// Whether `place` is `end`, the member at which a walk ends. If `end` is `None`, the result is false.
 #[inline]
 fn is_at(end: Option<Place>, place: Place) -> bool
     ensures { result ≡ is_end end place }
@@ -98,7 +98,7 @@ impl<'a, K: DoubleEnded + BidirectionalLinks<L>, T, L: LinkOps, O: Values<T>> Do
 
     ghost next_back_gives = { GivesLast (objects_left K.step L.table O.values) };
 
-    /// Returns the next object from the back, or `None` if no object is left. O(1), as `next` costs.
+    /// Returns the next object from the back, or `None` if no object is left. The call costs as much as `next`: O(1).
     fn next_back(&mut self) -> Option<&'a T> {
         let place = self.tail?;
         let objects: &'a O = self.objects;
@@ -119,7 +119,7 @@ impl<K, T, L, O> Clone for Iter<'_, K, T, L, O> {
 
     ghost is_infallible = { λ _. ⊤ };
 
-    /// A second walk over the objects that this walk has left. The call never fails.
+    /// A second walk over the objects that this walk has not returned yet. The call never fails.
     fn clone(&self) -> Result<Self, AllocError> {
         Ok(Iter {
             links: self.links,
@@ -162,8 +162,8 @@ impl<K: ListKind, T> LinkList<K, T> {
             after: None,
         }
     }
-    /// A value that prints the objects of the list, in order: `{:?}` writes `[10, 20]`, and `{:#?}` writes each object on lines of its own.
-    /// The call requires that an object is at each member. It takes O(1) and no memory.
+    /// A value that prints the objects of the list, in order: `{:?}` writes `[10, 20]`, and `{:#?}` writes each object on lines of its own. The call requires
+    /// that an object is at each member. The call takes O(1) and no memory.
     pub fn debug<'a, L: LinkOps, O: Values<T>>(
         &self,
         links: &'a L,

@@ -27,7 +27,7 @@ pub trait ListKind {
     /// What a cursor of the list stores about its position.
     type Position: ListPosition;
 
-    // What the list stores about its last member, given this member, or none for an empty list.
+    // What a list stores about the given last member, or about none if the list is empty.
     ghost kept: { Option Place → Self.Tail };
 
     // The last member, read from what the list stores about it, or none if the list stores nothing. `keeps_last` says whether the kind stores its
@@ -82,7 +82,7 @@ pub trait ForwardLinks<L: LinkOps>: ListKind {
     // The entry is linked between the given previous place and the given next place, each of which is none beyond an end.
     ghost Between: { L.Entry → Option Place → Option Place → Type 0 };
 
-    // The place after the place of an entry, given the place before it.
+    // The next place, which an entry determines together with the given previous place.
     ghost step: { L.Entry → Option Place → Option Place };
 
     // Whether the entries of the kind name the previous place. `ReadsNext` says whether a position on a member is made by reading the member's entry.
@@ -146,8 +146,8 @@ pub trait ForwardLinks<L: LinkOps>: ListKind {
         ensures refused { OnFalse result (L.Refused links.old links.new place) }
         ensures frame { ChangesOnly (L.table links.old) (L.table links.new) place };
 
-    // The laws: if an entry is linked between two places, it says that its place is linked. The entry and the place before it determine the place
-    // after it.
+    // The laws: if an entry is linked between two places, it says that its place is linked, and `step` returns the next place for the entry and the previous
+    // place.
     ghost between_linked: { (e : L.Entry) (b a : Option Place) → Between e b a → L.linked e ≡ true };
 
     ghost leads: { (e : L.Entry) (b a : Option Place) → Between e b a → step e b ≡ a };
@@ -155,7 +155,7 @@ pub trait ForwardLinks<L: LinkOps>: ListKind {
 
 /// How lists of a kind read the links of a table also in the direction from the last member to the first.
 pub trait BidirectionalLinks<L: LinkOps>: ForwardLinks<L> {
-    // The place before the place of an entry, given the place after it.
+    // The previous place, which an entry determines together with the given next place.
     ghost step_back: { L.Entry → Option Place → Option Place };
 
     /// The place before `place`, if `next` is the place after it. The call reads one entry.
@@ -163,12 +163,12 @@ pub trait BidirectionalLinks<L: LinkOps>: ForwardLinks<L> {
         requires linked { IsLinked L.linked (L.table links.now) place }
         ensures { result ≡ step_back ((L.table links.now).entry place) next };
 
-    // The law: if an entry is linked between two places, `step_back` with the place after it returns the place before it.
+    // The law: if an entry is linked between two places, `step_back` returns the previous place for the entry and the next place.
     ghost leads_back: { (e : L.Entry) (b a : Option Place) → Self.Between e b a → step_back e a ≡ b };
 }
 
 /// A kind of lists in which an entry names each neighbor of its place without knowledge of the other neighbor.
 pub trait NamesBoth<L: LinkOps>: BidirectionalLinks<L> {
-    // The law: the entry determines the place before it, whatever place is after it.
+    // The law: the entry alone determines the previous place, because `step_back` returns the same place for every given next place.
     ghost tells_before: { (e : L.Entry) (a a' : Option Place) → Self.step_back e a ≡ Self.step_back e a' };
 }

@@ -7,8 +7,8 @@
 //! `split_then_splice` and the two laws of pushes and pops have an empty body, because their clauses are about calls that the caller makes. Call such
 //! a function where your proof needs its law. The other laws make their calls themselves.
 //!
-//! Laws of collections of every kind are lemmas for proofs (`CollectionLaws` of `ic_link_ops`). Every table represents the empty sequence for a new
-//! collection. No table represents two sequences for one collection. An edit leaves all other collections as they were.
+//! The laws of collections of every kind are lemmas for proofs (`CollectionLaws` of `ic_link_ops`). They say that every table represents the empty sequence
+//! for a new collection, and at most one sequence for any collection. They also say that an edit leaves all other collections as they were.
 
 ghost use Rattle.std.specs.Prelude.{◌≡◌, List, [], ◌∷◌, None, IsTrue};
 ghost use Rattle.ic_link_ops.specs.Prelude.{Place, insert, remove, at_front, at_back, first, last, but_last, IsCovered, ChangesOnlyIn, acquires};
@@ -25,8 +25,8 @@ use ic_unsafe_ref::{Place, UnsafeRef};
 /// Moves a cursor from null to the next member and back, and then to the previous member and back. The call returns the first member and the last
 /// member.
 ///
-/// At the end the cursor is at null again. Both results are `None` for an empty collection. The call requires that the cursor is valid and at null,
-/// and a kind whose cursors move in both directions.
+/// At the end the cursor is at null again. Both results are `None` for an empty collection. The call requires that the cursor is valid and at null, and that
+/// its kind of collection has moves in both directions.
 pub fn null_there_and_back<C: Bidirectional<L>, L: LinkOps>(
     cursor: &mut Cursor<'_, C, L>,
 ) -> (Option<Place>, Option<Place>)
@@ -104,15 +104,15 @@ pub fn fields_are_apart<K: ForwardLinks<L>, J: ForwardLinks<M>, T, L: LinkOps, M
     in_first && in_second
 }
 
-/// The law of a push and a pop at the front: `pop_front` returns the object that `push_front` accepted, and the list and the table are as they were.
+/// The law of a push and a pop at the front: `pop_front` returns the object that `push_front` accepted, and the list has its old members again.
 ///
-/// The list, the linked places and every other list are as they were, over any table. The law is about the results of `push_front` and `pop_front`,
-/// and makes no call.
+/// After both calls the same places are linked as before, and every other list is as it was, over any table. The law is about the results of `push_front` and
+/// `pop_front`, and makes no call.
 pub fn push_then_pop_front<K: ForwardLinks<L>, L: LinkOps>()
     ensures { PushThenPop (RepresentsChain K.Between K.kept) L.table L.Trace L.linked at_front first (λ s. remove (at_front s)) }
 {}
 
-/// The law of a push and a pop at the back: `pop_back` returns the object that `push_back` accepted, and the list and the table are as they were.
+/// The law of a push and a pop at the back: `pop_back` returns the object that `push_back` accepted, and the list has its old members again.
 pub fn push_then_pop<K: DoubleEnded + BidirectionalLinks<L>, L: LinkOps>()
     ensures { PushThenPop (RepresentsChain K.Between K.kept) L.table L.Trace L.linked at_back last but_last }
 {}

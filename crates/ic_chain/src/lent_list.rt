@@ -20,15 +20,14 @@ use ic_unsafe_ref::UnsafeRef;
 
 /// A list and the table of its links, while both are borrowed together.
 ///
-/// Each call over `&mut LinkList` reads the list's ends from memory. In a loop over a `LentList` the ends can stay in registers. Over a view of the
-/// links ([`LentTable`](ic_link_ops::LentTable)), no call reads the address of the links again. When the `LentList` goes out of scope, the borrowed
-/// list gets its current members back. A function that takes a `LentList` by `&mut` makes all other calls on its fields:
-/// `lent.list.cursor_mut(lent.links)`.
+/// Each call over `&mut LinkList` reads the list's ends from memory. In a loop over a `LentList` the ends can stay in registers. Over a view of the links
+/// ([`LentTable`](ic_link_ops::LentTable)), no call reads the address of the links again. When the `LentList` goes out of scope, the borrowed list gets its
+/// current members back. Calls that a `LentList` lacks can be made on its fields, for example `lent.list.cursor_mut(lent.links)`.
 pub struct LentList<'a, K: ListKind, T, L> {
     original: &'a mut LinkList<K, T>,
     /// The list, whose ends are part of the `LentList` until it is dropped.
     pub list: LinkList<K, T>,
-    /// The table of its links.
+    /// The table of the list's links.
     pub links: &'a mut L,
 }
 

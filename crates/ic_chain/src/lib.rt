@@ -1,8 +1,8 @@
 //! A list over a table of links, written once for every kind: doubly linked, singly linked and XOR lists.
 //!
-//! Each operation takes the table of the link field. Linking takes no memory, and one object can be in lists of several fields.
-//! [`LinkList`] has all calls. The crate of a kind of list implements two groups of traits. They say which words a list stores ([`ListKind`]), and how
-//! the list reads and writes the links of a table ([`ForwardLinks`], [`BidirectionalLinks`]).
+//! Each operation takes the table of the link field. Linking takes no memory, and one object can be in lists of several fields. [`LinkList`] has all calls.
+//! The crate of a kind of list implements two groups of traits, which say which words a list stores ([`ListKind`]), and how the list reads and writes the
+//! links of a table ([`ForwardLinks`], [`BidirectionalLinks`]).
 //!
 //! ```text
 //! pub type LinkedList<T> = LinkList<DoublyLinked, T>;
@@ -17,8 +17,9 @@
 //! inserts, removes, replaces, splices and splits, each in O(1). `CursorOwning` also edits, and owns its list, so a struct can contain such a cursor.
 //! Each of its calls takes the table. [`Iter`] lends the objects, and [`IntoIter`] removes the members.
 //!
-//! You may store lists in words of your own. For an edit, make a `LinkList` of the words, and call the layer that works below the calls of `LinkList`. Then
-//! store the words that the `LinkList` has. This layer requires only that the places which it writes are linked.
+//! You may store lists in words of your own. For an edit, make a `LinkList` of the words, call a function such as `insert_linked`, and store the words that
+//! the `LinkList` then has. The functions whose names end in `_linked`, and `bypass`, `splice_between` and `split_between`, require only that the places
+//! which they write are linked.
 //!
 //! ```text
 //! let mut list: LinkedList<Job> = LinkList::from_ends(first, last);

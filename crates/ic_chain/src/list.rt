@@ -98,8 +98,8 @@ impl<K: ListKind, T> LinkList<K, T> {
         self.head.get()
     }
 
-    // The first member, for a cursor that moves from null. A walk around the list makes this move once, so the call is not inlined, and a move from a
-    // member is one load.
+    // The first member, for a cursor that moves from null. A walk around the list makes this move only once. Therefore the call is not inlined, so that the
+    // code for a move from a member is one load.
     #[cold]
     #[inline(never)]
     pub(crate) fn head_from_null(&self) -> Option<Place>
@@ -132,7 +132,7 @@ impl<K: SingleEnded, T> LinkList<K, T> {
 impl<K: ListKind, T> LinkList<K, T> {
     /// Inserts the object at the front of the list, unless its link is refused. O(1), and it takes no memory.
     ///
-    /// The call requires and returns what [`LinkList::push_back`] does. It is good for stacks, and for lists in the order of the last use.
+    /// The call requires and returns what [`LinkList::push_back`] does. The call is good for stacks, and for lists in the order of the last use.
     #[inline]
     pub fn push_front<L: LinkOps>(
         &mut self,
@@ -180,8 +180,8 @@ impl<K: ListKind, T> LinkList<K, T> {
         Some(UnsafeRef::new(front))
     }
 
-    // The last member, to which `after` is to be linked as the next member. The list stores it, or a walk finds it if the kind does not store it. If
-    // `after` is `None`, no walk is made.
+    // The last member of the list, right after which a splice is to link `after`. If the kind does not store the last member, a walk finds it, or the result
+    // is `None` if `after` is `None`.
     #[inline]
     pub(crate) fn last_before<L: LinkOps>(&self, links: &L, after: Option<Place>) -> Option<Place>
     where
@@ -363,10 +363,10 @@ impl<K: DoubleEnded, T> LinkList<K, T> {
     }
 }
 
-// The layer below the calls of `LinkList`, for callers who store lists in words of their own and test these words themselves. No call of this layer
-// requires that the table represents a sequence.
+// These calls are for callers who store lists in words of their own, and test these words themselves. None of the calls requires that the table represents a
+// sequence.
 impl<K: ListKind, T> LinkList<K, T> {
-    /// Inserts a place between two neighbors; the place must be linked already. O(1).
+    /// Inserts `place`, which must be linked already, between two neighbors. O(1).
     ///
     /// The call requires only that the places which it writes are linked: `place`, and those neighbors that are not `None`.
     #[inline]

@@ -16,7 +16,7 @@ use ic_unsafe_ref::Place;
 use std::mem;
 
 impl<K: ListKind, T> LinkList<K, T> {
-    /// Whether the place is a member of the list. The call walks from the front: O(n), and no memory.
+    /// Whether the place is a member of the list. The call walks from the front, and takes no memory: O(n).
     pub fn contains<L: LinkOps>(&self, links: &L, place: Place) -> bool
     where
         K: ForwardLinks<L>,

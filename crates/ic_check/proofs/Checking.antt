@@ -1,5 +1,5 @@
--- A walk along a list whose words may contain anything. Each sequence that the table represents begins with the members that the walk has passed, and at the
--- end of the walk these are all members.
+-- Lemmas on a walk along a list whose words may contain anything. Each sequence that the table represents begins with the members that the walk has passed. At
+-- the end of the walk, the passed members are all members.
 use Rattle.std.proofs.Common.{◌≡◌, ℕ, ◌+◌, ◌<◌, ◌⊎◌, inl, inr, Option, Some, None, List, [], ◌∷◌, ◌++◌, drop, length, length-append, refl, sym, ◌∙◌, ap, subst, arith, append_assoc, append-nil}
 use Rattle.ic_link_ops.specs.Prelude.{Place, IsAbsent, IsMember, IsDistinct, first_or, last_or, first, last, Table, IsCovered}
 use Rattle.ic_unsafe_ref.proofs.PlaceLemmas.{same_or_not}
@@ -17,7 +17,8 @@ absent_or q (x ∷ s) = elim (same_or_not q x) [
 ]
 
 module _ {E : Type 0} (between : E → Option Place → Option Place → Type 0) where
-  -- The walk has passed `count` members and has come to the place `current`. Every sequence that the table represents begins with the passed members
+  -- a walk that began at `head` has passed `count` members, the last of them `before`, and has come to the place `current`. Every sequence that the table
+  -- represents begins with the passed members
   pub record Checks (t : Table E) (head before current : Option Place) (count : ℕ) : Type 0 where
     pub done : List Place
     pub chain : IsChain between t.entry None done current
@@ -26,7 +27,7 @@ module _ {E : Type 0} (between : E → Option Place → Option Place → Type 0)
     pub counted : count ≡ length done
     pub leads : (s : List Place) → IsChain between t.entry None s None → head ≡ first s → (rest : List Place) × (s ≡ done ++ rest) × (current ≡ first rest)
 
--- `law` says: an entry and the place before it determine the place after it
+-- `law` says that an entry and the place before it determine the place after it
 module _ {E : Type 0} {between : E → Option Place → Option Place → Type 0} (step : E → Option Place → Option Place) (law : (e : E) (b a : Option Place) → between e b a → step e b ≡ a) where
   module _ {t : Table E} {head before current : Option Place} {count : ℕ} where
     -- at the beginning of the walk no member is passed
@@ -40,7 +41,7 @@ module _ {E : Type 0} {between : E → Option Place → Option Place → Type 0}
       leads = λ s chain starts. (s, refl, sym e ∙ starts);
     }
 
-  -- THE MEMBER IN EACH SEQUENCE: each represented sequence has the passed members first, then the member p that the walk has come to, and then a rest
+  -- each sequence s that the table represents consists of the passed members, the place p that the walk has come to, and some further members
   pub checks_stands : {t : Table E} {head before current : Option Place} {p : Place} {count : ℕ} (k : Checks between t head before current count) → current ≡ Some p
       → (s : List Place) → IsChain between t.entry None s None → head ≡ first s
       → (rest : List Place) × (s ≡ k.done ++ p ∷ rest) × between (t.entry p) before (first rest)
@@ -51,7 +52,7 @@ module _ {E : Type 0} {between : E → Option Place → Option Place → Type 0}
       let cut = chain_cut between t.entry None k.done (p ∷ drop 1 l.0) None (subst (λ (m : List Place). IsChain between t.entry None m None) parts chain) in
       (drop 1 l.0, parts, rw k.ends cut.1.0)
 
-  -- ONE STEP: the walk goes on if the entry of the member p says that p is between the place before and the next place
+  -- the walk goes on to the place `ahead` if the entry of the place p says that p is between `before` and `ahead`
   unfoldable pub checks_more : {t : Table E} {head before current ahead : Option Place} {p : Place} {count more : ℕ} → Checks between t head before current count → current ≡ Some p
       → between (t.entry p) before ahead → more ≡ count + 1 → Checks between t head (Some p) ahead more
   checks_more {t} {head} {before} {current} {ahead} {p} {count} {more} k is stands counts = record {
@@ -74,7 +75,7 @@ module _ {E : Type 0} {between : E → Option Place → Option Place → Type 0}
       let whole : s ≡ k.done = l.1 ∙ ap (λ (m : List Place). k.done ++ m) none ∙ append-nil k.done in
       k.ends ∙ ap last (sym whole)
 
-  -- TOO MANY MEMBERS: if the walk has come to a member of a represented sequence, it has passed fewer members than the table covers places
+  -- if the table represents a sequence and the walk has come to a member, the walk has passed fewer members than the table covers places
   pub checks_few : {t : Table E} {head before current : Option Place} {p : Place} {count : ℕ} → ((q : Place) (b a : Option Place) → between (t.entry q) b a → IsCovered t q)
       → (k : Checks between t head before current count) → current ≡ Some p
       → (s : List Place) → IsDistinct s → IsChain between t.entry None s None → head ≡ first s → count < t.extent.places
@@ -83,7 +84,7 @@ module _ {E : Type 0} {between : E → Option Place → Option Place → Type 0}
       let few = stretch_length {between = between} t covered {b = None} {from = first s} {to = last s} {a = None} {w = s} (record { distinct = distinct; chain = chain; starts = refl; ends = refl }) in
       omega (arith, few, k.counted, ap length l.1, length-append k.done (p ∷ l.0))
 
--- `law` says: an entry alone determines the place after it
+-- `law` says that an entry alone determines the place after it
 module _ {E : Type 0} {between : E → Option Place → Option Place → Type 0} (next : E → Option Place) (law : (e : E) (b a : Option Place) → between e b a → next e ≡ a) where
   -- two chains that begin with the same place are equal, whatever places are before them
   one_chain : (t : Place → E) (b c : Option Place) (s r : List Place) → first s ≡ first r → IsChain between t b s None → IsChain between t c r None → s ≡ r
@@ -95,7 +96,7 @@ module _ {E : Type 0} {between : E → Option Place → Option Place → Type 0}
       let k' = rw same at k in
       rw same (ap (λ (l : List Place). x ∷ l) (one_chain t (Some x) (Some x) s r (sym (law (t x) b (first s) h.0) ∙ law (t x) c (first r) k'.0) h.1 k'.1))
 
-  -- A CHAIN THAT ENDS contains no place twice
+  -- a chain that ends contains no place twice
   pub chain_distinct : (t : Place → E) (b : Option Place) (s : List Place) → IsChain between t b s None → IsDistinct s
   chain_distinct t b [] h = tt
   chain_distinct t b (x ∷ s) h = (once (absent_or x s), chain_distinct t (Some x) s h.1) where
@@ -107,7 +108,7 @@ module _ {E : Type 0} {between : E → Option Place → Option Place → Type 0}
         let same : x ∷ s ≡ x ∷ parts.1 = one_chain t b (last_or (Some x) parts.0) (x ∷ s) (x ∷ parts.1) refl h cut.1 in
         absurd (omega (arith, ap length same, ap length parts.2, length-append parts.0 (x ∷ parts.1)))
 
-  -- THE END OF THE WALK: the passed members are a chain that begins with the list's first member, ends, and contains no place twice
+  -- if the walk has ended, the passed members are a chain that begins with the list's first member, ends, and contains no place twice
   pub checks_all : {t : Table E} {head before current : Option Place} {count : ℕ} (k : Checks between t head before current count) → current ≡ None
       → IsDistinct k.done × IsChain between t.entry None k.done None × (head ≡ first k.done)
   checks_all {t} k over = let chain = rw over at k.chain in (chain_distinct t.entry None k.done chain, chain, k.starts ∙ ap (first_or k.done) over)
@@ -121,6 +122,6 @@ module _ {E : Type 0} {between : E → Option Place → Option Place → Type 0}
       → (e : E) (b a : Option Place) → between e b a → next_of step e ≡ a
   leads_on blind leads e b a h = blind e None b ∙ leads e b a h
 
-  -- if an entry is between b and a, it is between b and the place to which it leads from b
+  -- if the entry e is between b and a, e is also between b and the place to which e leads from b
   pub stands_after : ((e : E) (b a : Option Place) → between e b a → step e b ≡ a) → {e : E} {b a : Option Place} → between e b a → between e b (step e b)
   stands_after leads {e} {b} {a} h = subst (between e b) (sym (leads e b a h)) h

@@ -1,5 +1,5 @@
--- A check of a hash table, chain by chain. Each sequence that the table holds begins with the members of the checked chains, and at the end these are all
--- members.
+-- Lemmas on the check of a hash table, which checks one chain after the other. Each sequence that the table holds begins with the members of the checked
+-- chains. At the end, the members of the checked chains are all members.
 use Rattle.std.proofs.Common.{◌≡◌, ℕ, suc, ◌+◌, ◌<◌, ◌≤◌, Bool, true, false, eqb, is_some, IsSome, Option, Some, None, List, [], ◌∷◌, ◌++◌, drop, length, length-append, ltb, ltb-true, lt-ltb, eqb-true, eq-eqb, true≢false, slice_index_or, refl, sym, ap, ◌∙◌, subst, arith, append_assoc, append-nil}
 use Rattle.std.specs.Bool.{Decides}
 use Rattle.std.specs.List.{AllByRecursion}
@@ -46,7 +46,7 @@ module _ {V : Type 0} (slots : Slots) (hash : V → ℕ) (objects : Objects V) (
     λ own. eq-eqb slot i (same ∙ ap (λ v. slot_of slots (hash v)) (some_same (sym is ∙ own.1)) ∙ own.2),
   )
 
-  -- A PLACE AND ITS OBJECT: a place has an object that belongs in chain i exactly if it has an object and belongs in chain i
+  -- the place p satisfies `IsPlacedIn` exactly if it has an object and satisfies `BelongsIn`
   pub own_placed : IsPlacedIn slots hash objects i p → IsSome (object_at objects p)
   own_placed own = ap is_some own.1
 
@@ -64,8 +64,8 @@ abbrev pub IsPlacedBefore : {V : Type 0} → Slots → (V → ℕ) → Objects V
 IsPlacedBefore slots hash objects i p = (j : ℕ) × (j < i) × IsPlacedIn slots hash objects j p
 
 module _ {V : Type 0} (slots : Slots) (hash : V → ℕ) (objects : Objects V) (i : ℕ) where
-  -- Places that have objects which belong in chain i belong in chain i. Conversely, if all places of s have objects and belong in chain i, their objects belong
-  -- in chain i
+  -- if all places of s satisfy `IsPlacedIn`, they satisfy `BelongsIn`. Conversely, if all places of s have objects and satisfy `BelongsIn`, they satisfy
+  -- `IsPlacedIn`
   all_belong : (s : List Place) → AllByRecursion (IsPlacedIn slots hash objects i) s → AllByRecursion (BelongsIn slots hash objects i) s
   all_belong [] own = tt
   all_belong (p ∷ s) own = (own_belongs slots hash objects i p own.0, all_belong s own.1)
@@ -74,7 +74,7 @@ module _ {V : Type 0} (slots : Slots) (hash : V → ℕ) (objects : Objects V) (
   all_own [] placed own = tt
   all_own (p ∷ s) placed own = (placed_own slots hash objects i p placed.0 own.0, all_own s placed.1 own.1)
 
-  -- places that belong in chains below number i belong in chains below number i + 1, and so do places that belong in chain i
+  -- places that belong in chains with numbers below i, or in chain i, belong in chains with numbers below i + 1
   all_before : (s : List Place) → AllByRecursion (IsPlacedBefore slots hash objects i) s → AllByRecursion (IsPlacedBefore slots hash objects (suc i)) s
   all_before [] h = tt
   all_before (p ∷ s) h = ((h.0.0, omega (arith, h.0.1), h.0.2), all_before s h.1)
@@ -87,7 +87,7 @@ module _ {V : Type 0} (slots : Slots) (hash : V → ℕ) (objects : Objects V) (
   before_placed [] h = tt
   before_placed (p ∷ s) h = (own_placed slots hash objects h.0.0 p h.0.2, before_placed s h.1)
 
-  -- a place that belongs in chain i is not among places that belong in chains below number i
+  -- a place that belongs in chain i is not among the places `done`, which belong in chains with numbers below i
   apart_from : (p : Place) → IsPlacedIn slots hash objects i p → (done : List Place) → AllByRecursion (IsPlacedBefore slots hash objects i) done → IsAbsent p done
   apart_from p own [] before = tt
   apart_from p own (q ∷ done) before = (differ, apart_from p own done before.1) where
@@ -112,7 +112,7 @@ module _ {E : Type 0} {between : E → Option Place → Option Place → Type 0}
   owns_none linked starts = record { walk = releases_none linked starts; own = tt }
 
   module _ {p : Place} (k : Owns between Own t chain (Some p)) where
-    -- ONE MEMBER MORE: if the member p satisfies `Own`, the walk goes on to the next place
+    -- if the member p, to which the walk has come, satisfies `Own`, the walk goes on to the next place
     pub owns_more : {next : Option Place} → IsDistinct chain → Own p → next ≡ first (drop 1 k.walk.rest) → (more : Owns between Own t chain next) × (k.walk.rest ≡ p ∷ more.walk.rest)
     owns_more distinct own is_next =
         let m = releases_more distinct k.walk (λ q n. refl) is_next in
@@ -122,14 +122,15 @@ module _ {E : Type 0} {between : E → Option Place → Option Place → Type 0}
     pub owns_there : AllByRecursion Own chain → Own p
     owns_there all = (subst (AllByRecursion Own) (first_is k.walk.rest k.walk.at) (all_back Own k.walk.done k.walk.rest (subst (AllByRecursion Own) k.walk.parts all))).0
 
-  -- THE WHOLE CHAIN: if the walk has ended, all members of the chain satisfy `Own`
+  -- if the walk has ended, all members of the chain satisfy `Own`
   pub owns_all : {current : Option Place} (k : Owns between Own t chain current) → current ≡ None → AllByRecursion Own chain
   owns_all k over =
       let none = nothing_first k.walk.rest (sym over ∙ k.walk.at) in
       subst (AllByRecursion Own) (sym (k.walk.parts ∙ ap (λ l. k.walk.done ++ l) none ∙ append-nil k.walk.done)) k.own
 
 module _ {E A B V : Type 0} (successor : E → Successor) (hash : A → V → ℕ) (fronts : B → List (Option Place)) (t : Table E) (table : HashTable A B) (objects : Objects V) where
-  -- THE CHAINS BELOW NUMBER i ARE CHECKED: their members are `done`, in which no place occurs twice, and `rest` are the first members of the other chains
+  -- the chains with numbers below i are checked: their `count` members are `done`, and no place occurs twice in `done`. `rest` has the first members of the
+  -- other chains
   pub record ChecksChains (i : ℕ) (rest : List (Option Place)) (count : ℕ) : Type 0 where
     pub done : List Place
     pub counted : count ≡ length done
@@ -157,7 +158,7 @@ module _ {E A B V : Type 0} {successor : E → Successor} {hash : A → V → �
     pub few_checked : {n : ℕ} → IsRepresented (RepresentsOwn successor hash fronts t table objects i) n → count + n ≤ 8589934591
     few_checked (chain, c, many) = omega (arith, few_places (k.done ++ chain) (both_distinct chain c), k.counted, many, length-append k.done chain)
 
-    -- ONE CHAIN MORE: if chain i is represented with members that belong there, the chains below number i + 1 are checked
+    -- if the table represents chain i, and its members belong in chain i, the chains with numbers below i + 1 are checked
     chains_one_more : {n more : ℕ} → i < length (fronts table.buckets) → IsRepresented (RepresentsOwn successor hash fronts t table objects i) n → more ≡ count + n
         → ChecksChains successor hash fronts t table objects (suc i) (drop (suc i) (fronts table.buckets)) more
     chains_one_more {n} {more} in_bounds (chain, c, many) counts = record {
@@ -180,7 +181,7 @@ module _ {E A B V : Type 0} {successor : E → Successor} {hash : A → V → �
     chains_more {more = more} in_bounds shown counts is_next =
         subst (λ (j : ℕ). ChecksChains successor hash fronts t table objects j (drop j (fronts table.buckets)) more) is_next (chains_one_more in_bounds shown counts)
 
-    -- if chain i is not represented with members that belong there, the hash table holds no sequence
+    -- if the table does not represent chain i with members that belong in chain i, the hash table holds no sequence
     pub not_held : i < length (fronts table.buckets) → RepresentsNone (RepresentsOwn successor hash fronts t table objects i) → HoldsSome successor hash fronts t table objects → ⊥
     not_held in_bounds never (s, held) =
         let l = k.leads s held.chained in
@@ -189,7 +190,7 @@ module _ {E A B V : Type 0} {successor : E → Successor} {hash : A → V → �
         let placed : ArePlaced objects h.0 = all_front (λ q. IsSome (object_at objects q)) h.0 h.1 (subst (ArePlaced objects) h.2 left) in
         never h.0 (record { shown = h.3; own = all_own table.slots (hash table.adapter) objects i h.0 placed h.4 })
 
-    -- ALL CHAINS ARE CHECKED: each sequence that the hash table holds is then the list of the checked members
+    -- if all chains are checked, each sequence that the hash table holds is the list of the checked members
     all_held : drop i (fronts table.buckets) ≡ [] → (s : List Place) → Holds successor hash fronts t table objects s → s ≡ k.done
     all_held none s held =
         let l = k.leads s held.chained in

@@ -1,4 +1,4 @@
--- A walk along a list whose words may contain anything. The walk marks each place that it comes to.
+-- Lemmas on a walk along a list whose words may contain anything. The walk marks each place that it visits.
 use Rattle.std.proofs.Common.{◌≡◌, ℕ, ◌+◌, ◌<◌, ◌≤◌, Bool, true, false, Option, Some, None, List, [], ◌∷◌, length, slice_set, refl, sym, ◌∙◌, ap, subst, arith, true≢false}
 use Rattle.ic_link_ops.specs.Prelude.{Place, index_of, IsDistinct, first_or, first, last, Table, IsCovered}
 use Rattle.ic_link_ops.specs.Chains.{IsChain, RepresentsChain}
@@ -24,8 +24,7 @@ module _ {E : Type 0} {between : E → Option Place → Option Place → Type 0}
   walks_none marks e = record { checks = checks_none step law e refl refl; distinct = tt; free = tt; also = also_none marks }
 
   module _ {head before current : Option Place} {count : ℕ} {old marks : List Bool} (k : Walks between t head before current count old marks) where
-    -- ONE STEP: the walk goes on if the place p is not marked and its entry is between the place before and the next place. The place p is marked after this
-    -- step
+    -- the walk goes on to the place `ahead` if the place p is not marked, and the entry of p is between `before` and `ahead`. This step marks p
     pub walks_more : {ahead : Option Place} {p : Place} {more i : ℕ} → current ≡ Some p → is_marked marks p ≡ false → between (t.entry p) before ahead → more ≡ count + 1 → i ≡ index_of p → i < length marks
         → Walks between t head (Some p) ahead more old (slice_set marks i true)
     unfolding checks_more
@@ -36,7 +35,7 @@ module _ {E : Type 0} {between : E → Option Place → Option Place → Type 0}
       also = also_more p i k.also free at few;
     }
 
-    -- if the walk comes to a marked place, no sequence of unmarked members without a repetition is represented
+    -- if the walk comes to a marked place, the table represents no sequence without repetition whose members are all unmarked in `old`
     pub walks_met : {p : Place} → current ≡ Some p → is_marked marks p ≡ true → (s : List Place) → IsDistinct s → IsChain between t.entry None s None → head ≡ first s → AreUnmarked old s → ⊥
     walks_met {p} is met s distinct chain starts free =
         let l = checks_stands step law k.checks is s chain starts in
@@ -57,8 +56,8 @@ module _ {E : Type 0} {between : E → Option Place → Option Place → Type 0}
     pub walks_only : (linked : E → Bool) → ((e : E) (b a : Option Place) → between e b a → linked e ≡ true) → MarksLinked linked t old marks
     walks_only linked held = only_also linked t k.also (λ p off. chain_absent between linked held t.entry None k.checks.done current p k.checks.chain off)
 
-    -- THE END OF THE WALK: if the list ends with the last passed place, the passed members are a represented sequence, and the walk has marked exactly these
-    -- members
+    -- if the walk has ended and the list stores the last passed place as its end, the table represents the passed members, and the walk has marked exactly
+    -- these members
     pub walks_all : {W : Type 0} {kept : Option Place → W} {tail : W} → current ≡ None → tail ≡ kept before → IsGathered (RepresentsChain between kept t (record { head = head; tail = tail })) old marks count
     walks_all {kept = kept} over ends = (
       k.checks.done,

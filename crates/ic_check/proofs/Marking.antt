@@ -12,11 +12,11 @@ use Rattle.std.proofs.lemmas.List.{length-set, get_or-set_other, get_or_past}
 use Rattle.std.proofs.lemmas.List.Sums.{sum_by-set, sum_by-cons}
 use Rattle.std.proofs.lemmas.Grind.{get_or-set_at}
 
--- NO PLACE IS NEWLY MARKED if the marks stay as they are
+-- no place is newly marked if the marks stay as they are
 pub also_none : (marks : List Bool) → MarksAlso marks marks []
 also_none marks = record { long = refl; more = omega arith; marked = λ p member. absurd (member tt); others = λ p out. refl }
 
--- if a mark is set that was not set, the number of marks is greater by 1
+-- if a mark is set that was not set before, the number of set marks grows by 1
 pub set_more : (marks : List Bool) (i : ℕ) → i < length marks → slice_index_or marks i false ≡ false → many_marked (slice_set marks i true) ≡ many_marked marks + 1
 set_more marks i few free =
     let weigh : Bool → ℕ = λ mark. cond mark 1 0 in
@@ -50,7 +50,7 @@ also_on {s = s} {t} a b = record {
 }
 
 module _ {old new : List Bool} {done : List Place} (a : MarksAlso old new done) where
-  -- places that were not marked and are not among the newly marked members are not marked now
+  -- if no place of s is marked in `old` or newly marked, no place of s is marked in `new`
   pub unmarked_beside : (s : List Place) → IsDisjoint s done → AreUnmarked old s → AreUnmarked new s
   unmarked_beside [] apart free = tt
   unmarked_beside (x ∷ s) apart free = (a.others x apart.0 ∙ free.0, unmarked_beside s apart.1 free.1)
@@ -58,22 +58,22 @@ module _ {old new : List Bool} {done : List Place} (a : MarksAlso old new done) 
   absent_now : (x : Place) → is_marked new x ≡ false → IsAbsent x done
   absent_now x free = elim (absent_or x done) [ inl out ↦ out | inr member ↦ absurd (true≢false (sym (a.marked x member) ∙ free)) ]
 
-  -- places that are not marked now are not among the newly marked members
+  -- if no place of s is marked in `new`, s shares no place with the newly marked members
   pub unmarked_apart : (s : List Place) → AreUnmarked new s → IsDisjoint s done
   unmarked_apart [] free = tt
   unmarked_apart (x ∷ s) free = (absent_now x free.0, unmarked_apart s free.1)
 
-  -- places that are not marked now were not marked before
+  -- if no place of s is marked in `new`, no place of s is marked in `old`
   pub unmarked_before : (s : List Place) → AreUnmarked new s → AreUnmarked old s
   unmarked_before [] free = tt
   unmarked_before (x ∷ s) free = (sym (a.others x (absent_now x free.0)) ∙ free.0, unmarked_before s free.1)
 
--- if no member of s and no member of t is marked, no member of both lists together is marked
+-- if no member of s and no member of t is marked, no member of s ++ t is marked
 pub unmarked_both : (marks : List Bool) (s t : List Place) → AreUnmarked marks s → AreUnmarked marks t → AreUnmarked marks (s ++ t)
 unmarked_both marks [] t h k = k
 unmarked_both marks (x ∷ s) t h k = (h.0, unmarked_both marks s t h.1 k)
 
--- if no member of two lists together is marked, no member of the first list is marked
+-- if no member of s ++ t is marked, no member of s is marked
 pub unmarked_front : (marks : List Bool) (s t : List Place) → AreUnmarked marks (s ++ t) → AreUnmarked marks s
 unmarked_front marks [] t h = tt
 unmarked_front marks (x ∷ s) t h = (h.0, unmarked_front marks s t h.1)
@@ -87,7 +87,7 @@ pub unmarked_all : (marks : List Bool) → ((p : Place) → is_marked marks p �
 unmarked_all marks none [] = tt
 unmarked_all marks none (x ∷ s) = (none x, unmarked_all marks none s)
 
--- two lists that share no place and have no place twice have, one after the other, no place twice
+-- if s and t share no place, and no place occurs twice in s or in t, no place occurs twice in s ++ t
 pub distinct_both : (s t : List Place) → IsDistinct s → IsDistinct t → IsDisjoint t s → IsDistinct (s ++ t)
 distinct_both s t d e apart = distinct_splice [] s t e d (disjoint_sym t s apart)
 
@@ -98,7 +98,7 @@ place_named i few o is =
     let named : o ≡ Some k.0 = is ∙ ap (λ (j : ℕ). place_at (8 * (j + 1))) (sym k.1) ∙ place_at_word (Some k.0) in
     subst (λ (x : Option Place). MatchOption x (8589934591 ≤ i) (λ p. index_of p ≡ i)) (sym named) k.1
 
--- the walk through the members of s has marked the members `front`, and has come to `current`, the first of the rest
+-- a walk through the members of s has marked the members `front`, and has come to `current`, the first of the `left` members `rest`
 pub record Marks (s : List Place) (old marks : List Bool) (current : Option Place) (left : ℕ) : Type 0 where
   pub front : List Place
   pub rest : List Place
@@ -120,7 +120,7 @@ marks_none {s} {marks} e k = record {
 }
 
 module _ {s : List Place} {old marks : List Bool} {current : Option Place} {left : ℕ} (m : Marks s old marks current left) where
-  -- THE MEMBER that the walk has come to is p, and `after` are the members of s after p
+  -- the walk has come to the member p, and `after` are the members of s after p
   pub record Here (p : Place) : Type 0 where
     pub after : List Place
     pub rest_is : m.rest ≡ p ∷ after
@@ -154,7 +154,7 @@ module _ {s : List Place} {old marks : List Bool} {current : Option Place} {left
         also = also_more p i m.also free at few;
       }
 
-  -- if the walk has ended, no member of s was marked before the walk, and all are marked now
+  -- if the walk has ended, no member of s was marked in `old`, and all members of s are newly marked
   pub marks_all : current ≡ None → AreUnmarked old s × MarksAlso old marks s
   marks_all over =
       let none : m.rest ≡ [] = nothing_first m.rest (sym over ∙ m.leads) in
@@ -162,7 +162,7 @@ module _ {s : List Place} {old marks : List Bool} {current : Option Place} {left
       rw whole (m.free, m.also)
 
 module _ {H : Type 0} (shows : H → List Place → Type 0) where
-  -- the collections of `all` before `rest` were checked: their members are `done`, were not marked before, and are newly marked
+  -- the collections of `all` before `rest` were checked: their `count` members `done` were not marked before, and are newly marked
   pub record Gathers (all rest : List H) (old marks : List Bool) (count : ℕ) : Type 0 where
     pub done : List Place
     pub distinct : IsDistinct done
@@ -182,7 +182,7 @@ module _ {H : Type 0} (shows : H → List Place → Type 0) where
         let few = few_places (g.done ++ s) (distinct_both g.done s g.distinct (distinct s shown) (unmarked_apart g.also s free)) in
         omega (arith, few, g.counted, many, length-append g.done s)
 
-    -- ONE COLLECTION MORE: if the check has marked the members of the next collection, one more collection is checked
+    -- if the check has marked the members of the next collection, one more collection is checked
     pub gathers_one : {now : List Bool} {n more : ℕ} → ((s r : List Place) → shows one s → shows one r → s ≡ r) → ((s : List Place) → shows one s → IsDistinct s)
         → IsGathered (shows one) marks now n → more ≡ count + n → Gathers all others old now more
     gathers_one {now} {n} {more} single distinct (s, shown, many, free, also) counts = record {
@@ -199,7 +199,8 @@ module _ {H : Type 0} (shows : H → List Place → Type 0) where
           (k.1, k.3, l.2 ∙ ap (λ (x : List Place). g.done ++ x) (k.4 ∙ ap (λ (x : List Place). x ++ k.1) (single k.0 s k.2 shown)) ∙ sym (append_assoc g.done s k.1));
     }
 
-    -- if the table represents no unmarked sequence for one collection, it represents no unmarked sequence for all collections together
+    -- if the table represents no sequence of unmarked members for the next collection, it represents no sequence of unmarked members for all collections
+    -- together
     pub not_gathered : RepresentsNoneUnmarked (shows one) marks → RepresentsNoneUnmarked (RepresentsEachOnce shows all) old
     not_gathered never whole once free =
         let l = g.leads whole once.each in
@@ -209,7 +210,8 @@ module _ {H : Type 0} (shows : H → List Place → Type 0) where
         let here = unmarked_front old k.0 k.1 (unmarked_back old g.done (k.0 ++ k.1) (subst (AreUnmarked old) parts free)) in
         never k.0 k.2 (unmarked_beside g.also k.0 apart here)
 
-  -- ALL COLLECTIONS ARE CHECKED: the table represents a sequence of `count` members for all of them together, and the check has marked exactly these members
+  -- if all collections are checked, the table represents a sequence of `count` members for all of them together, and the check has newly marked exactly these
+  -- members
   pub gathered : {all rest : List H} {old marks : List Bool} {count : ℕ} (g : Gathers all rest old marks count) → rest ≡ [] → IsGathered (RepresentsEachOnce shows all) old marks count
   gathered {all} g over = (
     g.done,
@@ -219,7 +221,7 @@ module _ {H : Type 0} (shows : H → List Place → Type 0) where
     g.also,
   )
 
-  -- if a table represents at most one sequence for each collection, it represents at most one sequence for a row of collections
+  -- if a table represents at most one sequence for each collection, it represents at most one sequence for all collections of a list together
   pub each_one : ((c : H) (s r : List Place) → shows c s → shows c r → s ≡ r) → (all : List H) (s r : List Place) → RepresentsEach shows all s → RepresentsEach shows all r → s ≡ r
   each_one single [] s r h k = h ∙ sym k
   each_one single (c ∷ all) s r h k = h.4 ∙ ap (λ (x : List Place). x ++ h.1) (single c h.0 k.0 h.2 k.2) ∙ ap (λ (x : List Place). k.0 ++ x) (each_one single all h.1 k.1 h.3 k.3) ∙ sym k.4
@@ -233,7 +235,7 @@ module _ {E : Type 0} (linked : E → Bool) (t : Table E) {old marks : List Bool
   pub not_only : (((p : Place) → IsLinked linked t p → is_marked marks p ≡ true) → ⊥) → ((p : Place) → IsLinked linked t p → IsMember p s) → ⊥
   not_only never only = never (λ p is. also.marked p (only p is))
 
--- THE MARKS THAT ARE LEFT: if no mark was set before, exactly the members of s are marked
+-- if no mark was set in `old` and the members of s are newly marked in `new`, exactly the members of s are marked in `new`
 module _ {old new : List Bool} (none : (p : Place) → is_marked old p ≡ false) (zero_before : many_marked old ≡ 0) {s : List Place} (also : MarksAlso old new s) where
   pub marking : IsMarking new s
   marking p = ((λ e. elim (absent_or p s) [ inl out ↦ absurd (true≢false (sym e ∙ also.others p out ∙ none p)) | inr member ↦ member ]), also.marked p)
@@ -246,12 +248,12 @@ pub left_gathered : (shows : List Place → Type 0) (old new : List Bool) → ((
 left_gathered shows old new none zero_before None h = tt
 left_gathered shows old new none zero_before (Some count) (s, shown, many, free, also) = left_marked none zero_before also shows shown many
 
--- EACH NEWLY MARKED PLACE IS LINKED, in the table t
+-- lemmas on `MarksLinked`: each place that is newly marked is linked in the table t
 module _ {E : Type 0} (linked : E → Bool) (t : Table E) where
   pub only_none : (marks : List Bool) → MarksLinked linked t marks marks
   only_none marks = record { besides = λ p free is. absurd (true≢false (sym is ∙ free)) }
 
-  -- if only the members of s are newly marked, and no unlinked place is a member of s, each newly marked place is linked
+  -- if the members of s are newly marked, and no unlinked place is a member of s, each newly marked place is linked
   pub only_also : {old new : List Bool} {s : List Place} → MarksAlso old new s → ((p : Place) → linked (t.entry p) ≡ false → IsAbsent p s) → MarksLinked linked t old new
   only_also {old} {new} also free = record { besides = λ p was is. by p was is (linked (t.entry p)) refl } where
     by : (p : Place) → is_marked old p ≡ false → is_marked new p ≡ true → (b : Bool) → linked (t.entry p) ≡ b → IsLinked linked t p
@@ -268,7 +270,7 @@ module _ {E : Type 0} (linked : E → Bool) (t : Table E) where
   pub only_linked : {old new : List Bool} → ((p : Place) → is_marked old p ≡ false) → MarksLinked linked t old new → (p : Place) → is_marked new p ≡ true → IsLinked linked t p
   only_linked none h p is = h.besides p (none p) is
 
--- NO MARK IS SET: if no mark below the index i is set and mark i is removed, no mark below i + 1 is set
+-- if no mark with an index below i is set, and the mark with the index i is cleared, no mark with an index below i + 1 is set
 pub cleared_more : (marks : List Bool) (i : ℕ) → i < length marks → ((j : ℕ) → j < i → slice_index_or marks j false ≡ false)
     → (j : ℕ) → j < i + 1 → slice_index_or (slice_set marks i false) j false ≡ false
 cleared_more marks i few before j low = elim (cases_lt j i) [
@@ -297,7 +299,7 @@ drop_none (x ∷ xs) zero h = absurd (omega (arith, h))
 drop_none (x ∷ xs) (suc i) h = drop_none xs i (omega (arith, h))
 
 module _ {E : Type 0} (linked : E → Bool) (t : Table E) (marks : List Bool) where
-  -- if a place is not linked, its index is not the index of a missed place
+  -- if a place is not linked, no place with its index is missed
   pub not_missed : {p : Place} {i : ℕ} → index_of p ≡ i → linked (t.entry p) ≡ false → IsMissed linked t marks i → ⊥
   not_missed {p} {i} at free missed =
       let same : missed.0 ≡ p = same_index missed.0 p (missed.1 ∙ sym at) in
@@ -316,7 +318,7 @@ module _ {E : Type 0} (linked : E → Bool) (t : Table E) (marks : List Bool) wh
     )
     by false e = ((λ h. (p, at, is, subst (λ (j : ℕ). slice_index_or marks j false ≡ false) (sym at) e)), λ missed. refl)
 
-  -- if all linked places below index i are marked and index i is not missed, all linked places below index i + 1 are marked
+  -- if all linked places with indexes below i are marked, and the place with the index i is not missed, all linked places with indexes below i + 1 are marked
   pub marked_more : {i : ℕ} → ((p : Place) → index_of p < i → linked (t.entry p) ≡ true → is_marked marks p ≡ true) → (IsMissed linked t marks i → ⊥)
       → (p : Place) → index_of p < i + 1 → linked (t.entry p) ≡ true → is_marked marks p ≡ true
   marked_more {i} before never p low is = elim (cases_lt (index_of p) i) [

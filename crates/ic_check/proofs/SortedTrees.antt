@@ -1,5 +1,5 @@
--- Two walks through the values of a tree, of which the second is one value ahead. All values are sorted exactly if the values from the first walk on are
--- sorted.
+-- Lemmas on two walks through the values of a tree. The second walk is one value ahead of the first. All values are sorted exactly if the values from the
+-- position of the first walk on are sorted.
 use Rattle.std.proofs.Common.{◌≡◌, true, Option, Some, None, List, [], ◌∷◌, map, sym, ◌∙◌, ap, subst}
 use Rattle.std.specs.Borrow.{Bor}
 use Rattle.std.specs.Option.{IfSome, is_some}
@@ -8,7 +8,7 @@ use Rattle.std.specs.declared.cmp.Ordering.TheVariants.{Greater}
 use Rattle.ic_link_ops.specs.Walk.{GivesFirst}
 use Rattle.ic_rbtree.specs.Borders.{IsSorted}
 
--- if a call has returned a value, its contract for this case holds
+-- if a call has returned `Some`, the guarantee P that its contract gives for this case holds
 pub on_some : {T : Type 0} {P : Type 0} (r : Option T) → is_some r ≡ true → IfSome r (λ x. P) → P
 on_some None some h = absurd (cc)
 on_some (Some x) some h = h
@@ -18,11 +18,12 @@ first_given rest s t None some h = absurd (cc)
 first_given rest s t (Some x) some h = (x.now, h.0)
 
 module _ {V K : Type 0} (cmp : K → K → Ordering) (key : V → K) where
-  -- no key in this list of values is less than the key before it
+  -- no key of the values s is less than the key before it
   abbrev pub Rise : List V → Type 0
   Rise s = IsSorted cmp (map key s)
 
-  -- the second walk is one value ahead of the first, and all values are sorted exactly if the values from the first walk on are sorted
+  -- the values from the first walk on are `after`, and those from the second walk on are `left`, which is one value shorter. All values are sorted exactly if
+  -- `after` is sorted
   pub record GoesOn (all after left : List V) : Type 0 where
     pub value : V
     pub is : after ≡ value ∷ left
@@ -42,7 +43,7 @@ module _ {V K : Type 0} (cmp : K → K → Ordering) (key : V → K) where
     both : after ≡ last ∷ value ∷ rest
     both = was ∙ ap (λ (s : List V). last ∷ s) (rest_same (sym was ∙ g.is) ∙ is)
 
-    -- ONE VALUE MORE: if the next value is not less than the value before it, both walks go on
+    -- if the next value is not less than the value before it, both walks go on
     pub goes_on : (cmp (key last) (key value) ≡ Greater → ⊥) → GoesOn all others rest
     goes_on rises =
         let here : others ≡ value ∷ rest = rest_same (sym was ∙ both) in

@@ -17,7 +17,7 @@ use Rattle.ic_rbtree.proofs.Heights.{height_few, exponent_small}
 use Rattle.ic_check.specs.declared.tree.Subtree.{Subtree}
 use Rattle.ic_check.specs.Subtrees.{AreApart, AreNoRedPair, AreUnlike, IsJoined, IsPathUp, HasPathUp, IsSound, IsTreeBelow, HasNoTree}
 
--- if two equal lists end with w after one more place, this place is the same in both lists
+-- if two equal lists end with r ∷ w and with q ∷ w, the places r and q are the same
 same_before : (f g w : List Place) (r q : Place) → f ++ r ∷ w ≡ g ++ q ∷ w → r ≡ q
 same_before [] [] w r q e = cc
 same_before [] (y ∷ g) w r q e = absurd (omega (arith, ap length e, length-append g (q ∷ w)))
@@ -47,7 +47,7 @@ blacks_low (fork Red a p b) = omega (arith, blacks_low a, le-max_left (height a)
 blacks_low (fork Black a p b) = omega (arith, blacks_low a, le-max_left (height a) (height b))
 
 module _ {E : Type 0} (n : E → Node) (entry : Place → E) where
-  -- there is only one path of parents up from an end
+  -- there is only one path up from o
   one_path : (v w : List Place) (o : Option Place) → IsPathUp n entry o v → IsPathUp n entry o w → v ≡ w
   one_path [] [] o h k = refl
   one_path [] (q ∷ w) o h k = absurd (none_not q (sym h ∙ k.0))
@@ -72,7 +72,7 @@ module _ {E : Type 0} (n : E → Node) (entry : Place → E) where
       longer : (o : Option Place) (z : Place) → Comes o (p ∷ w) z → Comes (Some p) w z
       longer o z k = (k.0 ++ k.1 ∷ [], p, refl, subst (IsPathUp n entry (Some z)) (sym (append_assoc k.0 (k.1 ∷ []) (p ∷ w))) k.3)
 
-  -- A WALK DOWN VISITS NO PLACE TWICE: if two different children name p as their parent, the subtrees below them share no place, and p is in neither subtree
+  -- if two different children name p as their parent, the subtrees below them share no place, and p is in neither subtree
   pub fork_distinct : (c : Color) (a : Tree) (p : Place) (b : Tree) (w : List Place) → IsPathUp n entry (Some p) (p ∷ w)
       → IsTree n entry (Some p) a → IsTree n entry (Some p) b → AreApart (top a) (top b) → IsDistinct (in_order a) → IsDistinct (in_order b)
       → IsDistinct (in_order (fork c a p b))
@@ -101,7 +101,7 @@ module _ {E : Type 0} (n : E → Node) (entry : Place → E) where
       → left ≡ (n (entry p)).left → right ≡ (n (entry p)).right → AreApart left right → MayStandBelow up p
   stands_there linked parent left right apart = record { linked = linked; parent = parent; apart = λ q e f. apart q (left ∙ e) (right ∙ f) }
 
-  -- if the parents lead from `up` to a root, they lead to a root from a place p whose parent is `up`
+  -- if there is a path up from `up`, and p has the parent `up`, there is a path up from p
   pub path_through : {up : Option Place} {p : Place} → (n (entry p)).parent ≡ up → HasPathUp n entry up → HasPathUp n entry (Some p)
   path_through {up} {p} parent path = (p ∷ path.0, (refl, rw parent path.1))
 
@@ -156,7 +156,7 @@ module _ {E : Type 0} (n : E → Node) (entry : Place → E) where
   no_levels {levels} {up} {p} none t s low =
       let k = parts t up p s in omega (arith, none, low, ap height k.is, le-max_left (height k.a) (height k.b))
 
-  -- if the entry of p doesn't allow that p is a member below `up`, there is no subtree with the root p below `up`
+  -- if the entry of p does not allow that p is a member below `up`, there is no subtree with the root p below `up`
   pub stands_not : {levels : ℕ} {up : Option Place} {p : Place} → (MayStandBelow up p → ⊥) → HasNoTree n entry levels up (Some p)
   stands_not {levels} {up} {p} never t s low = never (parts t up p s).stands
 
@@ -191,7 +191,7 @@ module _ {E : Type 0} (n : E → Node) (entry : Place → E) where
         let few = few_places (in_order (fork (n (entry p)).color x.0 p y.0)) (both_distinct path stands) in
         omega (arith, few, x.3.members, y.3.members, length-append (in_order x.0) (p ∷ in_order y.0))
 
-    -- JOINED SUBTREES: if the result of the check joins the results for the two subtrees below p, there is a subtree with the root p and this result
+    -- if `found` joins the results for the two subtrees below p, there is a subtree with the root p and the result `found`
     pub joined : {up : Option Place} {levels : ℕ} {found : Subtree} → HasPathUp n entry up → MayStandBelow up p → few + 1 ≤ levels → IsJoined (n (entry p)).color left right found → IsTreeBelow n entry levels up (Some p) found
     joined {up} {levels} {found} path stands fits j = (
       fork (n (entry p)).color x.0 p y.0,
@@ -221,14 +221,14 @@ module _ {E : Type 0} (n : E → Node) (entry : Place → E) where
         never (x.3.blacks ∙ ap blacks a ∙ k.even ∙ sym (y.3.blacks ∙ ap blacks b))
         (λ red. let r = k.no_red_pair red in (x.3.color ∙ ap top_color a ∙ r.0, y.3.color ∙ ap top_color b ∙ r.1))
 
-    -- WHETHER THERE IS A SUBTREE with the root p follows from whether the results for its two subtrees can be joined
+    -- whether there is a subtree with the root p follows from whether the results for its two subtrees can be joined
     pub told : {up : Option Place} {levels : ℕ} {c : Color} → HasPathUp n entry up → MayStandBelow up p → few + 1 ≤ levels → c ≡ (n (entry p)).color → (o : Option Subtree)
         → MatchOption o (AreUnlike c left right) (IsJoined c left right) → MatchOption o (HasNoTree n entry levels up (Some p)) (IsTreeBelow n entry levels up (Some p))
     told path stands fits color None h = unlike (subst (λ (k : Color). AreUnlike k left right) color h)
     told path stands fits color (Some found) h = joined path stands fits (subst (λ (k : Color). IsJoined k left right found) color h)
 
 module _ {E : Type 0} {n : E → Node} {t : Table E} {root : Option Place} where
-  -- A REPRESENTED TREE is sound, and has at most 66 levels
+  -- a tree that the table represents is sound, and has at most 66 levels
   pub sound : {s : List Place} (shown : Represents n t root s) → IsSound n t.entry None root shown.tree
   sound shown = record {
     entries = shown.held.entries;
@@ -254,7 +254,7 @@ module _ {E : Type 0} {n : E → Node} {t : Table E} {root : Option Place} where
       let color : Red ≡ Black = sym red ∙ x.3.color ∙ ap top_color same ∙ shown.shape.black_root in
       cc
 
-  -- if the check finds a tree with a black root, the table represents a sequence with the number of members that was found
+  -- if the check finds a tree with a black root, the table represents a sequence with as many members as the check has found
   pub black_represented : {levels : ℕ} {found : Subtree} → IsTreeBelow n t.entry levels None root found → found.color ≡ Black
       → (s : List Place) × Represents n t root s × (length s ≡ found.members)
   black_represented x black = (

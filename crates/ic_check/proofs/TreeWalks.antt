@@ -1,4 +1,4 @@
--- A walk along a tree that the table represents. The walk marks each member.
+-- Lemmas on a walk along a tree that the table represents. The walk marks each member.
 use Rattle.std.proofs.Common.{◌≡◌, ℕ, Bool, Option, Some, None, List, [], ◌∷◌, ◌++◌, sym, subst, ◌∙◌, append_assoc}
 use Rattle.ic_link_ops.specs.Prelude.{Place, Cut, join, first, IsAbsent, Table}
 use Rattle.ic_link_ops.specs.declared.side.Side.TheVariants.{Left, Right}
@@ -13,7 +13,7 @@ use Rattle.ic_check.specs.WholeTables.{MarksLinked}
 use Rattle.ic_check.proofs.Marking.{Marks, here, only_also}
 
 module _ {E : Type 0} (n : E → Node) {t : Table E} {root : Option Place} where
-  -- a walk along a represented tree may start before the first member, where the current place is none
+  -- a walk along a represented tree may begin before the first member, at the position none
   pub safe_null : {s : List Place} → Represents n t root s → IsSafe n t root (None ∷ [])
   safe_null {s} h = (λ q. among q s, represented_closed n (represented_of n h), (tt, tt))
 

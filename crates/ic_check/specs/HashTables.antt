@@ -13,7 +13,7 @@ use Rattle.ic_hash_table.specs.HashTable.{front_at}
 abbrev pub IsPlacedIn : {V : Type 0} → Slots → (V → ℕ) → Objects V → ℕ → Place → Type 0
 IsPlacedIn {V} slots hash objects i p = (value : V) × (object_at objects p ≡ Some value) × (slot_of slots (hash value) ≡ i)
 
--- CHAIN i IS REPRESENTED: the table represents chain i as the list `chain`, and each member of the list has an object whose hash leads to chain i
+-- the table represents the sequence `chain` for chain i, and each member of `chain` has an object whose hash leads to chain i
 module _ {E A B V : Type 0} (successor : E → Successor) (hash : A → V → ℕ) (fronts : B → List (Option Place)) (t : Table E) (table : HashTable A B) (objects : Objects V) where
   pub record RepresentsOwn (i : ℕ) (chain : List Place) : Type 0 where
     pub shown : RepresentsFrom successor t (front_at fronts table i) chain

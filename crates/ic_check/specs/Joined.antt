@@ -39,8 +39,8 @@ one_narrow_word w is = narrow_word w.word is
 pub two_narrow_words : (w : TwoNarrowWords) → narrow_doubly.has_words w ≡ true → IsWord (narrow_doubly.next_word_of w)
 two_narrow_words w is = narrow_word w.next is
 
--- A WORD JOINS EACH PLACE WITH ANOTHER: for any end `a`, the word n is the exclusive or of two words. One is the word of `a`, the other is the word of the
--- place that n names if the word of `a` is taken out of n
+-- for any place, or none, as `a`, the word n is the exclusive or of the word of `a` and the word of another place or none. The exclusive or of n and the word
+-- of `a` names this other place
 pub joins_told : (n : ℕ) (a : Option Place) → IsWord n → n ≡ bit_xor (word_of a) (word_of (place_at (bit_xor n (word_of a))))
 joins_told n a is =
     sym (xor_back (word_of a) n) ∙ xor_comm (bit_xor (word_of a) n) (word_of a) ∙ ap (bit_xor (word_of a)) (xor_comm (word_of a) n)

@@ -16,15 +16,15 @@ module _ {H : Type 0} (shows : H → List Place → Type 0) where
     pub each : RepresentsEach lists s
     pub distinct : IsDistinct s
 
-  -- THE WHOLE TABLE IS REPRESENTED: s is the sequences of the collections `lists`, one after the other. No place occurs twice in s, and only members of s are
-  -- linked
+  -- the table represents a sequence for each of the collections `lists`, and has no other members: s is the sequences of the collections `lists`, one after the
+  -- other. No place occurs twice in s, and only members of s are linked
   pub record RepresentsAll {E : Type 0} (linked : E → Bool) (t : Table E) (lists : List H) (s : List Place) : Type 0 where
     pub each : RepresentsEach lists s
     pub distinct : IsDistinct s
     pub only : (p : Place) → IsLinked linked t p → IsMember p s
 
--- THE WHOLE TABLE OF TWO ROWS IS REPRESENTED: s is the sequences of the collections in `first`, and then of the collections in `second`. No place occurs twice
--- in s, and only members of s are linked
+-- the table represents a sequence for each collection in `first` and `second`: s is the sequences of `first`, followed by those of `second`. No place occurs
+-- twice in s, and only members of s are linked
 module _ {H G : Type 0} (shows : H → List Place → Type 0) (others : G → List Place → Type 0) where
   pub record RepresentsBoth {E : Type 0} (linked : E → Bool) (t : Table E) (first : List H) (second : List G) (s : List Place) : Type 0 where
     pub front : List Place
@@ -35,7 +35,7 @@ module _ {H G : Type 0} (shows : H → List Place → Type 0) (others : G → Li
     pub distinct : IsDistinct s
     pub only : (p : Place) → IsLinked linked t p → IsMember p s
 
--- whether the marks say that a place is marked
+-- whether a place is marked: the mark at its index is true
 abbrev pub is_marked : List Bool → Place → Bool
 is_marked = entry_at false
 
@@ -43,7 +43,7 @@ is_marked = entry_at false
 abbrev pub many_marked : List Bool → ℕ
 many_marked marks = count_by (λ mark. mark) marks
 
--- EACH NEWLY MARKED PLACE IS LINKED: a place that is marked in `new` and not in `old` is linked in the table
+-- each place that is marked in `new` and not in `old` is linked in the table t
 pub record MarksLinked {E : Type 0} (linked : E → Bool) (t : Table E) (old new : List Bool) : Type 0 where
   pub besides : (p : Place) → is_marked old p ≡ false → is_marked new p ≡ true → IsLinked linked t p
 
@@ -55,16 +55,15 @@ IsMarking marks s = (p : Place) → Decides (is_marked marks p) (IsMember p s)
 abbrev pub AreUnmarked : List Bool → List Place → Type 0
 AreUnmarked marks s = AllByRecursion (λ p. is_marked marks p ≡ false) s
 
--- THE MEMBERS OF s ARE NEWLY MARKED: in `new` each member of s is marked, and the number of marks is greater by the length of s. Each other place is as in
--- `old`
+-- the members of s are newly marked: they are marked in `new`, every other place is as in `old`, and the number of marked places grows by the length of s
 pub record MarksAlso (old new : List Bool) (s : List Place) : Type 0 where
   pub long : length new ≡ length old
   pub more : many_marked new ≡ many_marked old + length s
   pub marked : (p : Place) → IsMember p s → is_marked new p ≡ true
   pub others : (p : Place) → IsAbsent p s → is_marked new p ≡ is_marked old p
 
--- a check has marked the members of one collection: the table represents a sequence of `count` members, none of them was marked in `old`, and `new` marks them
--- all
+-- a check has marked the members of one collection: the table represents a sequence of `count` members. None of them is marked in `old`, and all of them are
+-- marked in `new`
 module _ (shows : List Place → Type 0) where
   abbrev pub IsGathered : List Bool → List Bool → ℕ → Type 0
   IsGathered old new count = (s : List Place) × shows s × (length s ≡ count) × AreUnmarked old s × MarksAlso old new s
@@ -73,10 +72,10 @@ module _ (shows : List Place → Type 0) where
   abbrev pub RepresentsNoneUnmarked : List Bool → Type 0
   RepresentsNoneUnmarked old = (s : List Place) → shows s → AreUnmarked old s → ⊥
 
-  -- THE MARKS THAT ARE LEFT: the table represents a sequence, exactly the members of this sequence are marked, and `count` marks are set
+  -- the table represents a sequence, exactly the members of this sequence are marked, and `count` marks are set
   abbrev pub LeavesMarked : List Bool → ℕ → Type 0
   LeavesMarked marks count = (s : List Place) × shows s × IsMarking marks s × (many_marked marks ≡ count)
 
--- the place with the index i is linked, and it is not marked
+-- the place with the index i is linked, and is not marked
 abbrev pub IsMissed : {E : Type 0} → (E → Bool) → Table E → List Bool → ℕ → Type 0
 IsMissed linked t marks i = (p : Place) × (index_of p ≡ i) × IsLinked linked t p × (is_marked marks p ≡ false)

@@ -29,8 +29,8 @@ pub trait Gather<L: TellsLinks> {
     // The statement that a table represents a sequence for the collection.
     ghost Represents: { Self → Table L.Entry → List Place → Type 0 };
 
-    /// Marks the members of the collection and returns their number. The result is `None` if the table represents no sequence for the collection, or if one of
-    /// its members was marked before.
+    /// Marks the members of the collection and returns their number. The result is `None` if the table represents no sequence for the collection, or if a
+    /// member was marked before.
     ///
     /// The call requires nothing of the words, but there must be a mark for each place that the table covers. The call marks only linked places. O(n) for n
     /// members. The call takes no memory.
@@ -102,7 +102,7 @@ impl<A, L: RBTreeOps + TellsLinks> Gather<L> for RBTree<A> {
     ghost represents_distinct = { λ tree t s h. h.held.distinct };
 }
 
-// Marks the members of a tree that has `count` members, and returns whether none of them was marked before.
+// Marks the members of a tree that has `count` members, and returns true. If the call comes to a member that was marked before, it returns false at once.
 fn mark<A, L: RBTreeOps + TellsLinks>(
     tree: &RBTree<A>,
     links: &L,

@@ -24,11 +24,11 @@ use ic_link_ops::singly_linked_list::SinglyLinkedListOps;
 use ic_singly_linked_list::SinglyLinkedList;
 use ic_unsafe_ref::{Place, Values};
 
-/// Whether the links hold a sequence of members for the hash table.
+/// Returns whether the links hold a sequence of members for the hash table.
 ///
 /// The check returns true exactly if each chain ends, no place occurs twice, and each member has an object whose hash leads to the member's chain. There must
 /// also be as many members as the table has counted. The check requires nothing of the words of the links and of the buckets. O(b + n) for b buckets and n
-/// members, with one hash for each member and no comparison, and at most as many further steps as the links cover places. The check takes no memory.
+/// members, and at most as many further steps as the links cover places. The check computes one hash for each member, makes no comparison, and takes no memory.
 pub fn check_hash_table<
     A: HashAdapter,
     B: BucketRow,
@@ -52,8 +52,8 @@ pub fn check_hash_table<
     members == table.len()
 }
 
-// Returns the number of members of chain `at`. The result is `None` if the table represents no sequence for this chain, or if a member has no object, or one
-// that belongs in another chain.
+// Returns the number of members of chain `at`. The result is `None` if the table represents no sequence for this chain, or if a member has no object, or an
+// object that belongs in another chain.
 fn check_chain<
     A: HashAdapter,
     B: BucketRow,

@@ -41,11 +41,12 @@ impl KeepsWord for TwoNarrowWords {
     ghost keeps_word = { λ w is. two_narrow_words w is };
 }
 
-/// A table of XOR links. For any place or none as one neighbor, the entry of a linked place yields another neighbor, and the entry joins these two.
+/// A table of XOR links. Given any place, or none, as one neighbor, the entry of a linked place returns another neighbor, and the entry joins these two
+/// neighbors.
 ///
 /// Plain tables, lent tables and tables of claimed links have this property.
 pub trait JoinsAny: XorLinkedListOps {
-    // The law: for any place or none as one neighbor, the entry of a linked place joins this neighbor with the other neighbor that it yields.
+    // The law: given any place, or none, as one neighbor, the entry of a linked place joins this neighbor with the other neighbor that the entry returns.
     ghost joins_any: { (e : Self.Entry) (a : Option Place) → Self.linked e ≡ true → Self.HasNeighbors e a (Self.other e a) };
 }
 

@@ -19,7 +19,7 @@ use ic_singly_linked_list::SinglyLinked;
 use ic_unsafe_ref::Place;
 use ic_xor_linked_list::XorLinked;
 
-/// A kind of lists that can test whether the entry of a place agrees with the place from which a walk came to it.
+/// A kind of lists that can test whether the entry of a place agrees with the place that a walk visited before this place.
 ///
 /// Each kind has this test: doubly and singly linked lists over all tables, and XOR lists over tables that are
 /// [`JoinsAny`].
@@ -29,16 +29,16 @@ pub trait TellsNeighbors<L: LinkOps>: ForwardLinks<L> {
         requires linked { IsLinked L.linked (L.table links.now) place }
         ensures { Decides result (Self.Between ((L.table links.now).entry place) prev (Self.step ((L.table links.now).entry place) prev)) };
 
-    /// Returns whether the list stores `last` as its last member, if lists of this kind store their last member. The call reads no links.
+    /// Returns whether the list stores `last` as its last member. If lists of this kind store no last member, the result is true. The call reads no links.
     fn ends_with<T>(list: &LinkList<Self, T>, last: Option<Place>) -> bool
         ensures { Decides result (list.now.tail ≡ Self.kept last) };
 }
 
 /// A kind of lists whose entries alone name the next place, so a walk that ends has met no place twice.
 ///
-/// Doubly and singly linked lists have this property, and XOR lists do not: an entry of an XOR list leads to another place if another neighbor is before it.
+/// Doubly and singly linked lists have this property, and XOR lists do not: an entry of an XOR list names another next place if another place comes before it.
 pub trait NamesItsNext<L: LinkOps>: TellsNeighbors<L> {
-    // The law: the entry of a place determines the next place, whatever place is before.
+    // The law: the entry of a place determines the next place, whatever place comes before.
     ghost tells_after: { (e : L.Entry) (b c : Option Place) → Self.step e b ≡ Self.step e c };
 }
 

@@ -1,8 +1,8 @@
 //! Checks whether a table, whose words may be arbitrary, represents a sequence for a collection.
 //!
-//! A table that was read from a file, or that others write too, may contain anything. A check walks along the words once, and returns how many members the
-//! collection has, or `None` if the table represents no sequence for it. The check requires nothing of the words. If the check returns a number, the table
-//! represents a sequence for the collection, as the contracts of its calls require.
+//! A table that was read from a file, or that others write too, may contain anything. A check walks along the links once, and returns how many members the
+//! collection has, or `None` if the table represents no sequence for the collection. The check requires nothing of the words. If the check returns a number,
+//! the table represents a sequence for the collection, which is what the contracts of the collection's calls require.
 //!
 //! ```text
 //! let Some(members) = check(&list, &links) else {

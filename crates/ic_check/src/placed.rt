@@ -13,9 +13,10 @@ use std::alloc::Allocator;
 
 /// A source of values by place that can also test whether any place has a value.
 ///
-/// Such sources are [`Objects`], a slice or a `Vec` by the index of the place, and plain and lent tables with values beside their links.
+/// The sources are [`Objects`], slices and `Vec`s, in which the value of a place is at the place's index, and plain and lent tables with values beside their
+/// links.
 pub trait TellsPlaced<V>: Values<V> {
-    /// Returns whether `place` has a value. The call requires nothing of the place. One look-up, O(1).
+    /// Returns whether `place` has a value. The call requires nothing of the place. It makes one look-up, O(1).
     fn tells_placed(&self, place: Place) -> bool
         ensures { result ≡ is_placed (Self.values self.now) place };
 }

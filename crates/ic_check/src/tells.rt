@@ -11,7 +11,7 @@ use ic_link_ops::{LentTable, LinkOps, LinkValue, PlainTable, Words};
 use ic_unsafe_ref::Place;
 use std::alloc::Allocator;
 
-/// A table that can return how many places it covers, and whether any place is linked. A place that the table doesn't cover is not linked.
+/// A table that can return how many places it covers, and whether any place is linked. A place that the table does not cover is not linked.
 ///
 /// Plain tables of every kind, lent tables and tables of claimed links have these calls.
 pub trait TellsLinks: LinkOps {

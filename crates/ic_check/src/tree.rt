@@ -47,8 +47,8 @@ pub fn check_tree<A, L: RBTreeOps + TellsLinks>(tree: &RBTree<A>, links: &L) -> 
     }
 }
 
-// Returns the result for the subtree at `place` below `parent`, or `None` if this is not a part of a red-black tree with at most `levels` levels. Each nested
-// call gets one level less, so at most 67 calls are nested.
+// Checks the subtree with the root `place` below `parent`. The result is `None` if this subtree cannot be a part of a red-black tree, or has more than `levels`
+// levels. A nested call is passed one level less, so at most 67 calls are nested.
 fn check_below<L: RBTreeOps + TellsLinks>(
     links: &L,
     place: Option<Place>,
@@ -90,7 +90,8 @@ fn check_below<L: RBTreeOps + TellsLinks>(
     join(links.color(place), left, right)
 }
 
-// Returns the result for a member of the given color with two subtrees, or `None` if the three together are not a part of a red-black tree.
+// Returns the result for a subtree whose root has the color `color`, from the results for the subtrees on its left and right. The result is `None` if such a
+// subtree cannot be a part of a red-black tree.
 fn join(color: Color, left: Subtree, right: Subtree) -> Option<Subtree>
     requires few { left.members + right.members ≤ 8589934591 }
     requires low { left.blacks < 4294967295 }

@@ -19,10 +19,10 @@ use crate::tells::TellsLinks;
 use ic_chain::LinkList;
 use ic_unsafe_ref::Place;
 
-// The greatest number of places: there are words for this many places.
+// The greatest number of places that words can name.
 const ALL_PLACES: usize = 8_589_934_591;
 
-/// Returns the number of members that the table represents for a list of any kind, or `None` if it represents no sequence for the list.
+/// Returns the number of members that the table represents for a list of any kind. The result is `None` if the table represents no sequence for the list.
 ///
 /// If the entries of a list do not name the next place by themselves, a walk may visit a place twice and still end as the list requires. The check finds such a
 /// repetition because it takes a mark for each place that the table covers. The old values of the marks do not matter. If the check returns a number, exactly
@@ -44,11 +44,11 @@ pub fn check_marking<K: TellsNeighbors<L>, T, L: TellsLinks>(
     list.gather(links, marks)
 }
 
-/// Returns the number of members of all given collections together. The result is `None` if the table represents no sequence for one of them, if two share a
-/// place, or if a place is linked that is not a member.
+/// Returns the number of members of all given collections together. The result is `None` if the table represents no sequence for one of the collections, if two
+/// collections share a place, or if a linked place is no member.
 ///
 /// The collections are lists of one kind, or trees. The check requires nothing of the words, but there must be a mark for each place that the table covers. The
-/// old values of the marks do not matter. The check leaves marks as [`check_marking`] does. O(n) for n places. The check takes no memory.
+/// old values of the marks do not matter. The check sets marks as [`check_marking`] does. O(n) for n places. The check takes no memory.
 pub fn check_all<C: Gather<L>, L: TellsLinks>(
     collections: &[C],
     links: &L,
@@ -75,7 +75,7 @@ pub fn check_all<C: Gather<L>, L: TellsLinks>(
 }
 
 /// Checks a table with collections of two kinds, such as lists and trees, as [`check_all`] does. The call has the requirements and the cost of [`check_all`],
-/// and leaves marks as [`check_all`] does.
+/// and sets marks as [`check_all`] does.
 pub fn check_both<C: Gather<L>, D: Gather<L>, L: TellsLinks>(
     first: &[C],
     second: &[D],
@@ -108,8 +108,8 @@ pub fn check_both<C: Gather<L>, D: Gather<L>, L: TellsLinks>(
     }
 }
 
-// Marks the members of all given collections, and returns their number. The result is `None` if the table represents no sequence for one of them, if two of
-// them share a place, or if one of the members was marked before.
+// Marks the members of all given collections, and returns their number. The result is `None` if the table represents no sequence for one of the collections, if
+// two collections share a place, or if a member was marked before.
 fn gather_each<C: Gather<L>, L: TellsLinks>(
     collections: &[C],
     links: &L,

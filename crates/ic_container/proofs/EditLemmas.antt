@@ -7,7 +7,7 @@ use Rattle.ic_link_ops.proofs.SequenceLemmas.{first_is}
 use Rattle.ic_cursors.specs.Ordered.{InsertsInOrder}
 use Rattle.ic_container.specs.Edited.{HasJoined, HasLeft, HasMoved}
 
--- a fact holds if the call was accepted and its result implies the fact, and it also holds if the refusal gives it
+-- if P implies Q, and P holds if the call's result r is `Ok`, then Q holds if r is `Ok`. `refused_linked` is about a result that is an error
 pub done : {X Y P Q : Type 0} (r : Result X Y) → (P → Q) → OnOk r P → OnOk r Q
 done (Ok x) law h = law h
 done (Err y) law h = h
@@ -17,7 +17,8 @@ refused_linked (Ok x) law h = h
 refused_linked (Err y) law h = (law h, h)
 
 module _ {E H : Type 0} {Represents : Table E → H → List Place → Type 0} {linked : E → Bool} {old new : Table E} {head after : H} {p : Place} (s : List Place) (shown : Represents old head s) where
-  -- A PUSH of a place that was not linked is an edit in which the place joins. `refused`, `inserted`, `acquired` and `frame` are clauses of the call
+  -- A PUSH of a place that was not linked is an edit in which the place joins the collection. `refused`, `inserted`, `acquired` and `frame` are clauses of
+  -- the call
   module _ {X Y : Type 0} (Same : Type 0) (r : Result X Y) (off : IsUnlinked linked old p) (refused : OnErr r ((linked (old.entry p) ≡ true) × Same)) where
     pub joined_front : ((s : List Place) → Represents old head s → OnOk r (Represents new after (p ∷ s))) → OnOk r (LinksAlso linked old new p)
         → ((s : List Place) → Represents old head s → ChangesOnlyIn old new (p ∷ s)) → HasJoined Represents linked old new head after [] p s
@@ -32,14 +33,14 @@ module _ {E H : Type 0} {Represents : Table E → H → List Place → Type 0} {
       frame = subst (λ (l : List Place). ChangesOnlyIn old new (p ∷ l)) (sym (append-nil s)) (frame s shown);
     }
 
-    -- AN INSERT IN ORDER is an edit in which the place joins at some gap
+    -- AN INSERT IN ORDER is an edit in which the place joins the collection at some gap
     pub joined_sorted : (at : Place → Ordering) → ((s : List Place) → Represents old head s → OnOk r (InsertsInOrder Represents at old new after s p)) → OnOk r (LinksAlso linked old new p)
         → (gap : Cut) × HasJoined Represents linked old new head after gap.front p gap.back
     joined_sorted at inserted acquired =
         let i = accepted Same r off refused (inserted s shown) in
         (i.gap, record { was = subst (Represents old head) (sym i.same) shown; is = i.inserted.shows; also = accepted Same r off refused acquired; frame = i.inserted.frame })
 
-  -- A POP is an edit in which the first member leaves. `answer`, `removed`, `released` and `frame` are clauses of the call
+  -- A POP is an edit in which the first member leaves the collection. `answer`, `removed`, `released` and `frame` are clauses of the call
   pub left_front : ((s : List Place) → Represents old head s → Some p ≡ first s) → ((s : List Place) → Represents old head s → Represents new after (drop 1 s)) → Unlinks linked old new p
       → ((s : List Place) → Represents old head s → ChangesOnlyIn old new s) → HasLeft Represents linked old new head after [] p (drop 1 s)
   left_front answer removed off frame =
@@ -47,7 +48,7 @@ module _ {E H : Type 0} {Represents : Table E → H → List Place → Type 0} {
       record { was = subst (Represents old head) begins shown; is = removed s shown; off = off; frame = subst (ChangesOnlyIn old new) begins (frame s shown) }
 
 module _ {E H : Type 0} {Represents : Table E → H → List Place → Type 0} {linked : E → Bool} {old new : Table E} {head after : H} {p : Place} where
-  -- A REMOVAL of any member is an edit in which this member leaves. `removed`, `released` and `frame` are clauses of the call
+  -- A REMOVAL of any member is an edit in which this member leaves the collection. `removed`, `released` and `frame` are clauses of the call
   pub left : (at : HasMember (Represents old head) p) → ((front back : List Place) → Represents old head (front ++ p ∷ back) → Represents new after (front ++ back)) → Unlinks linked old new p
       → ((s : List Place) → Represents old head s → ChangesOnlyIn old new s) → HasLeft Represents linked old new head after at.front p at.back
   left at removed off frame = record { was = at.shown; is = removed at.front at.back at.shown; off = off; frame = frame (at.front ++ p ∷ at.back) at.shown }

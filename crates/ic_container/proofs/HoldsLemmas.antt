@@ -30,7 +30,7 @@ use Rattle.ic_container.specs.Holds.{lists_of, Holds, members_in}
 use Rattle.ic_container.specs.ListReadings.{ReadsLists}
 use Rattle.ic_container.proofs.NumberedListLemmas.{at_every_number, lists_disjoint, owned_same, owned_joined, owned_left, owned_moved, joins_from, owner_placed, owners_placed, owner_freed, owners_freed}
 
--- a container reads its tables by the five laws of a kind of collection, and `members` gives the sequence that a table represents
+-- a container reads its tables by the five laws of a kind of collection, and `members` returns the sequence that a table represents
 pub record Reading {L E H : Type 0} (Represents : Table E → H → List Place → Type 0) (linked : E → Bool) (empty : H) (table : L → Table E) (members : L → H → List Place) : Type 0 where
   pub kind : IsKind Represents linked empty
   pub members_are : (links : L) (head : H) (s : List Place) → Represents (table links) head s → members links head ≡ s
@@ -154,7 +154,7 @@ module _ {L E H : Type 0} {Represents : Table E → H → List Place → Type 0}
           others = λ i n. reading.members_are new (after i) (lists_of members links heads i) (joins_still i n);
         }
 
-        -- ONE PLACE MORE has joined collection j, where it belongs now, and the invariant holds
+        -- the invariant holds after the place p has joined collection j, if p belongs to collection j by `other`
         pub holds_joined : {other : Place → Option ℕ} → other p ≡ Some j → ((q : Place) → q ≢ p → other q ≡ owner q) → Holds Represents linked table members new after other
         holds_joined {other} here beside = record {
           shown = λ i. at_every_number (λ i. Represents (table new) (after i) (lists_of members new after i)) j i (itself new (after j) e.is) (λ n. itself new (after i) (joins_still i n));
@@ -178,7 +178,7 @@ module _ {L E H : Type 0} {Represents : Table E → H → List Place → Type 0}
           others = λ i n. reading.members_are new (after i) (lists_of members links heads i) (leaves_still i n);
         }
 
-        -- ONE PLACE LESS is in collection j, it belongs to no collection now, and the invariant holds
+        -- the invariant holds after the place p has left collection j, if p belongs to no collection by `other`
         pub holds_left : {other : Place → Option ℕ} → other p ≡ None → ((q : Place) → q ≢ p → other q ≡ owner q) → Holds Represents linked table members new after other
         holds_left {other} gone beside = record {
           shown = λ i. at_every_number (λ i. Represents (table new) (after i) (lists_of members new after i)) j i (itself new (after j) e.is) (λ n. itself new (after i) (leaves_still i n));
@@ -200,7 +200,7 @@ module _ {L E H : Type 0} {Represents : Table E → H → List Place → Type 0}
           others = λ i n. reading.members_are new (after i) (lists_of members links heads i) (moves_still i n);
         }
 
-        -- ONE MEMBER HAS MOVED within its collection, and the invariant holds
+        -- the invariant holds after one member has moved within its collection
         pub holds_moved : Holds Represents linked table members new after owner
         holds_moved = record {
           shown = λ i. at_every_number (λ i. Represents (table new) (after i) (lists_of members new after i)) j i (itself new (after j) e.is) (λ n. itself new (after i) (moves_still i n));
@@ -222,7 +222,7 @@ module _ {L E H : Type 0} {Represents : Table E → H → List Place → Type 0}
       pub transferred : Leaves j front p back (lists_of members links heads) (lists_of members mid between) × Adds i before p following (lists_of members mid between) (lists_of members new after)
       transferred = (left k j mid others off, joined holds_off i new rest on)
 
-  -- THE OBJECTS decide where places belong: `belongs` gives the collection to which an object belongs, or none
+  -- THE OBJECTS decide where places belong: `belongs` returns the number of the collection to which an object belongs, or none
   module _ {T : Type 0} (belongs : T → Option ℕ) (objects : Objects T) {links : L} {heads : ℕ → H} (k : Holds Represents linked table members links heads (owner_of belongs objects)) where
     -- a place without an object is not linked
     pub vacant_off : {p : Place} → object_at objects p ≡ None → IsUnlinked linked (table links) p
@@ -232,7 +232,7 @@ module _ {L E H : Type 0} {Represents : Table E → H → List Place → Type 0}
     pub object_stands : {p : Place} {v : T} {j : ℕ} → object_at objects p ≡ Some v → belongs v ≡ Some j → HasMember (Represents (table links) (heads j)) p
     object_stands {p} {v} {j} there is = stands k j p (ap (owner_or belongs) there ∙ is)
 
-    -- ONE OBJECT MORE is stored at the place p and inserted into collection j
+    -- Lemmas about a new object that is stored at the place p, and inserted into collection j
     module _ {more : Objects T} {p : Place} {v : T} (places : Places objects more p v) (grown : L) (grows : Grows (table links) (table grown)) where
       -- the place of the new object is not linked yet
       pub new_off : IsUnlinked linked (table grown) p
@@ -250,7 +250,7 @@ module _ {L E H : Type 0} {Represents : Table E → H → List Place → Type 0}
         pub new_joined : Adds j front p back (lists_of members links heads) (lists_of members new after)
         new_joined = joins_from (lists_grown k grown grows) (joined (holds_grown k grown grows) j new others e)
 
-    -- ONE OBJECT LESS: it is removed from collection j and from the objects, and the invariant holds
+    -- the invariant holds after the object at p was removed from collection j and from the objects
     pub holds_freed : {less : Objects T} {p : Place} → Frees objects less p → (j : ℕ) (new : L) {front back : List Place} {after : ℕ → H} → ((i : ℕ) → i ≢ j → after i ≡ heads i)
         → HasLeft Represents linked (table links) (table new) (heads j) (after j) front p back → Holds Represents linked table members new after (owner_of belongs less)
     holds_freed frees j new others e = holds_left k j new others e (owner_freed belongs frees) (owners_freed belongs frees)

@@ -15,11 +15,11 @@ use Rattle.ic_container.proofs.HoldsLemmas.{list_reading, nothing_linked, wide_r
 use Rattle.ic_container.proofs.NumberedListLemmas.{back_seen, leaves_seen, member_owner, no_front, puts_back}
 
 module _ {L E : Type 0} {neighbors : E → Neighbors} {linked : E → Bool} {table : L → Table E} (reads : ReadsLists neighbors linked table) {T : Type 0} (objects : Objects T) (links : L) (lists : List Ends) where
-  -- the members that the table represents for the lists are the places of the lists
+  -- for each list, the table represents exactly the places that the `ListArray` has for this list
   lists_are : Stays (lists_in neighbors table links (list_at lists)) (members_at (list_array_in (members_in neighbors table) objects links lists))
   lists_are = lists_seen (list_reading reads) links lists
 
-  -- AT FIRST all lists are empty, and there is no object
+  -- AT FIRST all lists are empty and there is no object, so each object is in its list
   module _ (empty : (i : ℕ) → list_at lists i ≡ no_members) (vacant : (p : Place) → object_at objects p ≡ None) where
     pub in_lists_first : (list_index : T → ℕ) → (table links).extent.places ≡ 0 → AreInTheirLists list_index neighbors linked table objects links lists
     in_lists_first list_index none = record {
@@ -30,7 +30,7 @@ module _ {L E : Type 0} {neighbors : E → Neighbors} {linked : E → Bool} {tab
     pub array_first : IsEmpty (list_array_in (members_in neighbors table) objects links lists)
     array_first = record { all_empty = λ i. lists_are i ∙ none_stand (list_reading reads) links empty i; no_object = vacant }
 
--- over a plain table of 8-byte words, the members that the table represents for the lists are the places of the lists
+-- over a plain table of 8-byte words, for each list, the table represents exactly the places that the `ListArray` has for this list
 module _ {T A : Type 0} (objects : Objects T) (links : DoublyLinkOps A) (lists : List Ends) where
   pub array_seen : Stays (lists_in neighbors_of plain_table links (list_at lists)) (members_at (list_array_of objects links lists))
   array_seen = lists_are wide_reads objects links lists
@@ -80,7 +80,7 @@ module _ {L E : Type 0} {neighbors : E → Neighbors} {linked : E → Bool} {tab
         }
 
   module _ {p : Place} {v : T} (there : object_at objects p ≡ Some v) (after : L) (ends : List Ends) where
-    -- AN OBJECT is removed from its list, and then from the objects
+    -- Lemmas about an object that is removed from its list, and then from the objects
     module _ {less : Objects T} (frees : Frees objects less p) (e : (front : List Place) × (back : List Place) × ListArrayLeaves neighbors linked (list_index v) (table links) (table after) lists ends front p back) where
       pub in_lists_freed : AreInTheirLists list_index neighbors linked table less after ends
       in_lists_freed = record { reading = k.reading; holds = holds_freed (list_reading k.reading) (in_its_list list_index) objects k.holds frees (list_index v) after e.2.others e.2.edit }
@@ -96,7 +96,7 @@ module _ {L E : Type 0} {neighbors : E → Neighbors} {linked : E → Bool} {tab
         };
       }
 
-    -- ANOTHER VALUE has replaced the value of an object, which moves to the list of the new value
+    -- Lemmas about an object whose value was replaced by another value. The object moves to the list of the new value
     module _ (value : T) (e : ListArrayMoves neighbors linked table (list_index v) (list_index value) links after lists ends p) where
       pub in_lists_renewed : AreInTheirLists list_index neighbors linked table (with_object objects p value) after ends
       in_lists_renewed =
@@ -120,7 +120,7 @@ module _ {L E : Type 0} {neighbors : E → Neighbors} {linked : E → Bool} {tab
             joins = back_seen _ _ (λ i. refl) (lists_are k.reading (with_object objects p value) after ends) (puts_back t.1);
           }
 
-  -- THE FIRST OBJECT of all is that of the first list that is not empty, and without such a list every list is empty
+  -- a list without a first place has no members. The lemmas from here on are about the first object of the first list that is not empty
   empty_at : (i : ℕ) → (list_at lists i).head ≡ None → members_at (array_at objects links lists) i ≡ []
   empty_at i none = lists_are k.reading objects links lists i ∙ nothing_first (lists_in neighbors table links (list_at lists) i) (sym none ∙ (k.holds.shown i).head)
 
@@ -138,7 +138,7 @@ module _ {L E : Type 0} {neighbors : E → Neighbors} {linked : E → Bool} {tab
     pub first_named : object_at objects p ≢ None
     first_named none = let never : None ≡ Some at.0 = sym (ap (owner_or (in_its_list list_index)) none) ∙ first_owner in absurd (cc)
 
-    -- if the object at the first place of all is removed, it was the first object of the first list that had one
+    -- if the object at the place p of `IsFirst` is removed, it was the first object of the first list that was not empty
     pub takes_first : (v : T) (new : ListArray T) → TakesOut list_index p v (array_at objects links lists) new → TakesFirst list_index v (array_at objects links lists) new
     takes_first v new out = record {
       place = p;
@@ -153,7 +153,7 @@ module _ {L E : Type 0} {neighbors : E → Neighbors} {linked : E → Bool} {tab
       none = no_front p (lists_in neighbors table links (list_at lists) at.0) (k.holds.shown at.0).distinct is_first out.front out.back
           (sym (lists_are k.reading objects links lists at.0) ∙ ap (members_at (array_at objects links lists)) (sym is_index) ∙ out.goes.leaves.was)
 
-    -- if an object was removed, or none, a removed object was the first object of the first list that had one
+    -- if the call removed an object, this object was the first object of the first list that was not empty
     pub if_first_taken : (o : Option T) (new : ListArray T) → IfSome o (λ v. TakesOut list_index p v (array_at objects links lists) new) → IfSome o (λ v. TakesFirst list_index v (array_at objects links lists) new)
     if_first_taken None new out = tt
     if_first_taken (Some v) new out = takes_first v new out

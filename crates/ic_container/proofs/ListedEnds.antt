@@ -40,7 +40,7 @@ first_is_there {T} objects (x ∷ s) placed = by (object_at objects x) placed.0 
   by None h = absurd (true≢false (sym h))
   by (Some value) h = refl
 
--- if there is no last member, there is no value
+-- if no object is at the last member of a sequence, the sequence has no values
 pub none_at : {T : Type 0} (objects : Objects T) (s : List Place) → ArePlaced objects s → object_there objects (last s) ≡ None → values_at objects s ≡ []
 none_at objects s placed none = no_last (values_at objects s) (sym (last_is objects s placed) ∙ none)
 
@@ -101,7 +101,7 @@ module _ {L E : Type 0} {neighbors : E → Neighbors} {linked : E → Bool} {tab
   pub all_walked : RepresentsPlaced (Represents neighbors (table links) list) objects
   all_walked = record { members = members_in neighbors table links list; shown = k.holds.shown 0; placed = listed_placed k }
 
-  -- A NEW OBJECT is inserted after all other objects
+  -- Lemmas about a new object that is inserted after all other objects
   module _ (grown : L) (grows : Grows (table links) (table grown)) {p : Place} {value : T} {new : Objects T} (places : Places objects new p value) (after : L) (ends : Ends) {s : List Place} (e : ListAdds neighbors linked (table grown) (table after) list ends s p []) where
     pub order_after : members_in neighbors table after ends ≡ members_in neighbors table links list ++ p ∷ []
     order_after = (puts_back (new_joined (list_reading k.reading) to_one objects k.holds places grown grows 0 after (alone_others no_members list ends) refl e)).is
@@ -119,7 +119,7 @@ module _ {L E : Type 0} {neighbors : E → Neighbors} {linked : E → Bool} {tab
         ∙ ap (λ (v : Option T). values_at new (members_in neighbors table links list) ++ cons_option v []) (placed_there places)
         ∙ ap (λ (l : List T). l ++ value ∷ []) (values_beside objects new p (others_placed places) (members_in neighbors table links list) (new_absent (list_reading k.reading) to_one objects k.holds places grown grows 0))
 
-  -- AN OBJECT HAS MOVED to the position after all other objects
+  -- Lemmas about an object that has moved to the position after all other objects
   module _ {p : Place} (after : L) (ends : Ends) (e : (front : List Place) × (back : List Place) × (before : List Place) × ListMoves neighbors linked (table links) (table after) list ends front p back before []) where
     pub listed_moved_after : IsListed neighbors linked table objects after ends
     listed_moved_after = record {

@@ -24,7 +24,7 @@ pub whole_value : {T : Type 0} {o : Order T} → IsWhole o → (p : Place) {valu
 whole_value {o = o} w p there =
     let at = member_split p o.order (w.all p (ap is_some there)) in value_cut o.values o.values (λ q n. refl) there o.order at.0 at.1 at.2
 
--- AT FIRST the list is empty, and there is no object
+-- AT FIRST the list is empty and there is no object, so each object is in the list
 module _ {L E : Type 0} {neighbors : E → Neighbors} {linked : E → Bool} {table : L → Table E} (reads : ReadsLists neighbors linked table) (links : L) {list : Ends} (none : list ≡ no_members) where
   pub order_none : members_in neighbors table links list ≡ []
   order_none = none_stand (list_reading reads) links (alone_none no_members list none) 0
@@ -80,7 +80,7 @@ module _ {L E : Type 0} {neighbors : E → Neighbors} {linked : E → Bool} {tab
       pub listed_off : IsUnlinked linked (table grown) p
       listed_off = new_off (list_reading k.reading) to_one objects k.holds places grown grows
 
-      -- a new object is inserted before all other objects
+      -- Lemmas about a new object that is inserted before all other objects
       module _ (after : L) (ends : Ends) {s : List Place} (e : ListAdds neighbors linked (table grown) (table after) list ends [] p s) where
         pub order_new : members_in neighbors table after ends ≡ p ∷ members_in neighbors table links list
         order_new = (puts_front (new_joined (list_reading k.reading) to_one objects k.holds places grown grows 0 after (alone_others no_members list ends) refl e)).is
@@ -98,7 +98,7 @@ module _ {L E : Type 0} {neighbors : E → Neighbors} {linked : E → Bool} {tab
             (new_joined (list_reading k.reading) to_one objects k.holds places grown grows 0 after (alone_others no_members list ends) refl e)
             (new_absent (list_reading k.reading) to_one objects k.holds places grown grows 0)
 
-  -- AN OBJECT HAS MOVED to the position before all other objects
+  -- Lemmas about an object that has moved to the position before all other objects
   module _ {p : Place} (after : L) (ends : Ends) (e : (front : List Place) × (back : List Place) × (following : List Place) × ListMoves neighbors linked (table links) (table after) list ends front p back [] following) where
     pub listed_moved : IsListed neighbors linked table objects after ends
     listed_moved = record {
@@ -120,7 +120,7 @@ module _ {L E : Type 0} {neighbors : E → Neighbors} {linked : E → Bool} {tab
   pub listed_changed : {new : Objects T} {p : Place} {value : T} → is_placed objects p ≡ true → Puts objects new p value → IsListed neighbors linked table new links list
   listed_changed {p = p} is puts = record { reading = k.reading; holds = holds_changed (list_reading k.reading) to_one objects k.holds puts (sym (owner_one objects p is)); count = count_put is puts ∙ k.count }
 
-  -- AN OBJECT is removed from the list, and then from the objects
+  -- Lemmas about an object that is removed from the list, and then from the objects
   module _ {p : Place} {less : Objects T} (frees : Frees objects less p) (after : L) (ends : Ends) {front back : List Place} (e : ListLeaves neighbors linked (table links) (table after) list ends front p back) where
     pub order_freed : Without p (members_in neighbors table links list) (members_in neighbors table after ends)
     order_freed = let l = left (list_reading k.reading) k.holds 0 after (alone_others no_members list ends) e in record { front = front; back = back; was = l.was; is = l.is }

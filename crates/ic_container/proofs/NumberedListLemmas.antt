@@ -13,7 +13,7 @@ use Rattle.ic_container.specs.NumberedLists.{NumberedLists, Adds, Leaves, PutsFr
 pub at_every_number : (P : ℕ → Type 0) (k i : ℕ) → P k → (i ≢ k → P i) → P i
 at_every_number P k i here other = elim (eqb_tells k i) [ inl e ↦ subst P e.1 here | inr n ↦ other (λ e. n.1 (sym e)) ]
 
--- two families of items that are equal except for the item with the number 0 are equal at every other number
+-- two families of items that `alone` makes of x and of y have the same items under all numbers except 0
 pub alone_others : {X : Type 0} (none x y : X) (i : ℕ) → i ≢ 0 → alone none y i ≡ alone none x i
 alone_others none x y zero other = absurd (other refl)
 alone_others none x y (suc i) other = refl
@@ -81,7 +81,7 @@ module _ {owner : Place → Option ℕ} {lists : NumberedLists} (h : EachInItsLi
     still i (x ∷ s) out own = (beside x (λ e. out.0 (sym e)) ∙ own.0, still i s out.1 own.1)
 
   module _ {k : ℕ} {front : List Place} {p : Place} {back : List Place} {new : NumberedLists} {other : Place → Option ℕ} (beside : (q : Place) → q ≢ p → other q ≡ owner q) where
-    -- ONE PLACE MORE is in list k, where it belongs now and which it was not in before
+    -- after the place p was inserted into list k, each place is in its list, if p belongs to list k by `other` and was in no list before
     pub owned_joined : Adds k front p back lists new → other p ≡ Some k → ((i : ℕ) → IsAbsent p (lists i)) → EachInItsList other new
     owned_joined joins here out = record {
       own = λ i. at_every_number (λ i. AllByRecursion (λ q. other q ≡ Some i) (new i)) k i
@@ -94,7 +94,7 @@ module _ {owner : Place → Option ℕ} {lists : NumberedLists} (h : EachInItsLi
           (λ m was. subst (IsMember q) (sym (joins.others i m)) was) (h.all q i (sym (beside q n) ∙ at)));
     }
 
-    -- ONE PLACE LESS is in list k, and this place belongs to no list now
+    -- after the place p was removed from list k, each place is in its list, if p belongs to no list by `other`
     pub owned_left : Leaves k front p back lists new → other p ≡ None → IsDistinct (lists k) → EachInItsList other new
     owned_left leaves gone distinct = record {
       own = λ i. at_every_number (λ i. AllByRecursion (λ q. other q ≡ Some i) (new i)) k i
@@ -108,7 +108,7 @@ module _ {owner : Place → Option ℕ} {lists : NumberedLists} (h : EachInItsLi
           (λ m was. subst (IsMember q) (sym (leaves.others i m)) was) (h.all q i (sym (beside q n) ∙ at)));
     }
 
-  -- ONE PLACE HAS MOVED within its list
+  -- after one place has moved within its list, each place is in its list
   pub owned_moved : {k : ℕ} {front : List Place} {p : Place} {back before after : List Place} {new : NumberedLists} → Moves k front p back before after lists new → EachInItsList owner new
   owned_moved {k} {front} {p} {back} {before} {after} {new} moves =
       let at = member_owner k front p back moves.was in
@@ -124,18 +124,18 @@ module _ {owner : Place → Option ℕ} {lists : NumberedLists} (h : EachInItsLi
             (λ m was. subst (IsMember q) (sym (moves.others i m)) was) (h.all q i is));
       }
 
--- IF THE LISTS STAYED the same before an edit, the edit is one of the lists before
+-- if the lists a and b are equal, an edit of the lists b is an edit of the lists a
 pub joins_from : {k : ℕ} {front : List Place} {p : Place} {back : List Place} {a b c : NumberedLists} → Stays a b → Adds k front p back b c → Adds k front p back a c
 joins_from {k} same j = record { was = sym (same k) ∙ j.was; is = j.is; others = λ i n. j.others i n ∙ same i }
 
--- IF A PLACE IS INSERTED between an end of list k and the other members, it is inserted at this end
+-- if a place is inserted before all members of list k, it is inserted at the front. `puts_back` is about the back
 pub puts_front : {k : ℕ} {p : Place} {s : List Place} {a b : NumberedLists} → Adds k [] p s a b → PutsFront k p a b
 puts_front {p = p} j = record { is = j.is ∙ ap (λ (l : List Place). p ∷ l) (sym j.was); others = j.others }
 
 pub puts_back : {k : ℕ} {p : Place} {s : List Place} {a b : NumberedLists} → Adds k s p [] a b → PutsBack k p a b
 puts_back {p = p} {s} j = record { is = j.is ∙ ap (λ (l : List Place). l ++ p ∷ []) (sym (append-nil s) ∙ sym j.was); others = j.others }
 
--- IF LISTS ARE EQUAL to other lists, an edit of the one is an edit of the other
+-- if the lists x equal the lists a, and the lists y equal the lists b, an edit from a to b is an edit from x to y
 module _ {k : ℕ} {p : Place} {a b : NumberedLists} (x y : NumberedLists) (same : Stays a x) (alike : Stays b y) where
   pub back_seen : PutsBack k p a b → PutsBack k p x y
   back_seen j = record { is = alike k ∙ j.is ∙ ap (λ (l : List Place). l ++ p ∷ []) (sym (same k)); others = λ i n. alike i ∙ j.others i n ∙ sym (same i) }

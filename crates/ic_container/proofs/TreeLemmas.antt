@@ -94,7 +94,7 @@ module _ {T : Type 0} (key : T → ℕ) (objects : Objects T) where
     by (Some v) here rest h = (less d (key v) h.0, rest h.1)
 
 module _ {L E : Type 0} {node : E → Node} {linked : E → Bool} {table : L → Table E} {T : Type 0} (key : T → ℕ) (objects : Objects T) where
-  -- AT FIRST the tree is empty, and there is no object
+  -- AT FIRST the empty tree has each object, because there is no object
   pub all_none : ReadsTrees node linked table → (links : L) (root : Option Place) → (table links).extent.places ≡ 0 → root ≡ None → ((p : Place) → object_at objects p ≡ None) → HasAllIn node linked table key links root objects
   all_none reads links root none empty vacant = record { values = []; each = each_first reads (nothing_linked reads links none) empty vacant }
 
@@ -203,7 +203,7 @@ module _ {L E : Type 0} {node : E → Node} {linked : E → Bool} {table : L →
                 (all_later key more (key v) x.gap.back (all_back (λ q. IsSome (object_at more q)) x.gap.front x.gap.back stood.placed) (greater_after nat_cmp_total key more (key v) x.gap stood.placed rises border));
           }
 
-    -- AN OBJECT is removed from the tree, and then from the objects
+    -- Lemmas about an object that is removed from the tree, and then from the objects
     module _ {p : Place} {out : T} (there : object_at objects p ≡ Some out) where
       pub all_freed : (new : L) (top : Option Place) {less : Objects T} → ((front back : List Place) → Represents node (table links) root (front ++ p ∷ back) → Represents node (table new) top (front ++ back))
           → Unlinks linked (table links) (table new) p → Frees objects less p → HasAllIn node linked table key new top less
@@ -214,13 +214,14 @@ module _ {L E : Type 0} {node : E → Node} {linked : E → Bool} {table : L →
           let m = all_stands p there in
           record { front = m.front; back = m.back; was = are_members links m.shown; is = are_members new (removed m.front m.back m.shown) }
 
-      -- ANOTHER VALUE with any key replaces the value of an object. The object is removed from the tree, its value is changed, and the object is inserted
-      -- where the new key belongs
+      -- Lemmas about an object whose value is replaced by a value with any key. The object is removed from the tree, its value is changed, and the object is
+      -- inserted where the new key belongs
       pub all_less : (new : L) (top : Option Place) (value : T) → ((front back : List Place) → Represents node (table links) root (front ++ p ∷ back) → Represents node (table new) top (front ++ back))
           → Unlinks linked (table links) (table new) p → HasAllIn node linked table key new top (without objects p value)
       all_less new top value removed off = all_freed new top removed off (leaves objects p value)
 
-    -- a removal of the first member is a removal of a member at any position. `popped` says that all but the first member are represented
+    -- the contract of a removal of any member also holds for the removal of the first member p, because no member is before p. `popped`: after the removal,
+    -- the tree has all members except the first
     pub first_removed : (new : L) (top : Option Place) {p : Place} → Some p ≡ first (members node (table links) root) → ((s : List Place) → Represents node (table links) root s → Represents node (table new) top (drop 1 s))
         → (front back : List Place) → Represents node (table links) root (front ++ p ∷ back) → Represents node (table new) top (front ++ back)
     first_removed new top is popped [] back shown = popped (_ ∷ back) shown
@@ -231,12 +232,12 @@ module _ {L E : Type 0} {node : E → Node} {linked : E → Bool} {table : L →
     pub all_lacks : {more : Objects T} {p : Place} {v : T} (grown : L) → Grows (table links) (table grown) → Places objects more p v → LacksOne (HasAllIn node linked table key grown root) more p
     all_lacks grown grows places = record { less = objects; value = _; places = places; all = all_grown key objects a grown grows }
 
--- at first the tree is empty and there is no object, over a plain table of 8-byte words
+-- over a plain table of 8-byte words, the empty tree has each object at first, because there is no object
 pub all_first : {T A : Type 0} (key : T → ℕ) (objects : Objects T) (links : TreeLinkOps A) (root : Option Place) → (plain_table links).extent.places ≡ 0 → root ≡ None → ((p : Place) → object_at objects p ≡ None) → HasAll key links root objects
 all_first key objects = all_none key objects wide_reads
 
 module _ {T : Type 0} (key : T → ℕ) (objects : Objects T) where
-  -- a search has found an object, or there is no object with the key
+  -- if a search returned an object, this object has the key k. `found_none`: if a search returned none, no object has the key k
   pub found_some : (k : ℕ) (o : Option (Bor T)) → is_some o ≡ true → IsFoundObject key objects k (option_copied o) → (value : T) × IsFoundObject key objects k (Some value)
   found_some k None is found = absurd (true≢false (sym is))
   found_some k (Some lent) is found = (lent.now, found)

@@ -91,7 +91,7 @@ module _ {T : Type 0} (objects : Objects T) where
   last_placed (x ∷ []) e placed = ap (is_placed objects) (sym (some_same e)) ∙ placed.0
   last_placed (x ∷ y ∷ s) e placed = last_placed (y ∷ s) e placed.1
 
--- A SEQUENCE WITHOUT EQUAL PLACES whose members are all in another sequence is no longer than the other
+-- a sequence s has at most as many members as a sequence t, if no place is in s twice, and all members of s are in t
 pub no_more : (s t : List Place) → IsDistinct s → ((q : Place) → IsMember q s → IsMember q t) → length s ≤ length t
 no_more [] t distinct among = omega arith
 no_more (x ∷ s) t distinct among =

@@ -1,4 +1,4 @@
--- A tree has each object of a container, and these lemmas say that each kind of step keeps this. They hold for links of either width.
+-- These lemmas say that after each kind of step, a container's tree still has each object of the container. They hold for links of either width.
 use Rattle.std.proofs.Common.{◌≡◌, ◌≢◌, ℕ, Bool, Option, Some, None, IsSome, is_some, List, [], ◌∷◌, ◌++◌, map, refl, sym, ap, ◌∙◌, subst, false, true≢false}
 use Rattle.std.proofs.lemmas.Cmp.{nat_cmp_total}
 use Rattle.std.proofs.lemmas.List.Elements.{filter_map-append}

@@ -6,7 +6,7 @@ use Rattle.ic_link_ops.specs.RedBlackTree.{Node, Represents}
 use Rattle.ic_rbtree.specs.SortedValues.{HasSorted}
 
 module _ {L E : Type 0} (node : E → Node) (linked : E → Bool) (table : L → Table E) where
-  -- THE LAWS OF A TABLE OF TREES of any width: both ways to read an entry agree on whether its place is linked, and every linked place is covered
+  -- THE LAWS OF A TABLE OF TREES: `node` and `linked` read from each entry whether its place is linked, and agree on it. The table covers every linked place
   pub record ReadsTrees : Type 0 where
     pub alike : (e : E) → (node e).linked ≡ linked e
     pub covered : (links : L) (p : Place) → IsLinked linked (table links) p → IsCovered (table links) p

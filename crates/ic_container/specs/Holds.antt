@@ -1,4 +1,4 @@
--- A container maintains for its table that each place is linked in the collection to which it belongs, and that no other place is linked.
+-- The invariant of a container: each place that belongs to a collection is a member of this collection, and no other place is linked.
 use Rattle.std.specs.Prelude.{◌≡◌, ℕ, Bool, Option, None, List}
 use Rattle.ic_link_ops.specs.Prelude.{Place, Table, IsUnlinked}
 use Rattle.ic_link_ops.specs.Chains.{Ends}
@@ -7,7 +7,7 @@ use Rattle.ic_link_ops.specs.LinkedList.{Neighbors}
 use Rattle.ic_container.specs.Edited.{HasJoined, HasLeft, HasMoved}
 use Rattle.ic_container.specs.NumberedLists.{NumberedLists, EachInItsList}
 
--- list i has the members of collection i: `heads` gives the collections, and `members` gives the sequence that the table represents for a collection
+-- list i has the members of collection i, whose head is `heads i`. `members links head` is the sequence that the table represents for the head
 abbrev pub lists_of : {L H : Type 0} → (L → H → List Place) → L → (ℕ → H) → NumberedLists
 lists_of members links heads i = members links (heads i)
 

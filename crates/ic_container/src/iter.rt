@@ -43,7 +43,7 @@ impl<'a, T, A: Allocator, W: PrevPlace> Iter<'a, T, A, W> {
     ghost use Rattle.ic_link_ops.specs.Readings.{neighbors_of};
     ghost use Rattle.ic_container.specs.Walks.{left_of, CanWalkOn};
 
-    /// Makes a walk over the objects of a list. It requires that the table represents the list when the walk begins. O(1), and it takes no memory.
+    /// Makes a walk over the objects of a list. The call requires that the table represents the list when the walk begins. O(1), and it takes no memory.
     pub fn new(
         walk: ic_linked_list::Iter<'a, T, PlainTable<W, A>, Objects<T, A>>,
     ) -> Iter<'a, T, A, W>

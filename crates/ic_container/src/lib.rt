@@ -7,7 +7,7 @@
 //! ```
 //!
 //! For containers of your own there is a record for the invariant, `Holds` (specs/Holds.antt). Lemmas prove the invariant again after each edit
-//! (proofs/HoldsLemmas.antt). The calls of `lists` state an edit as one value, and are never refused.
+//! (proofs/HoldsLemmas.antt). The contract of each call of `lists` states its edit by one record, and these calls are never refused.
 #![tactic(auto)]
 
 mod iter;

@@ -19,7 +19,7 @@ use ic_link_ops::linked_list::LinkedListOps;
 use ic_linked_list::LinkedList;
 use ic_unsafe_ref::Place;
 
-/// Inserts the object at the back of a list. It requires that the list exists, that the table covers the object's place, and that the object is not
+/// Inserts the object at the back of a list. The call requires that the list exists, that the table covers the object's place, and that the object is not
 /// linked. O(1), and it takes no memory.
 pub fn push_back<T, L: LinkedListOps + AcceptsUnlinked>(
     array: &mut [LinkedList<T>],
@@ -36,7 +36,7 @@ pub fn push_back<T, L: LinkedListOps + AcceptsUnlinked>(
     lists::push_back(&mut array[index], links, place);
 }
 
-/// Removes the object from a list. It requires that the list exists, and that the object is a member of the list. O(1), and it takes no memory.
+/// Removes the object from a list. The call requires that the list exists, and that the object is a member of the list. O(1), and it takes no memory.
 pub fn remove<T, L: LinkedListOps + AcceptsUnlinked>(
     array: &mut [LinkedList<T>],
     links: &mut L,
@@ -50,8 +50,8 @@ pub fn remove<T, L: LinkedListOps + AcceptsUnlinked>(
     lists::remove(&mut array[index], links, place);
 }
 
-/// Moves a member of the first list to the back of the second list, and both may be one list. It requires that both lists exist, and that the object is a
-/// member of the first. O(1), and it takes no memory.
+/// Moves a member of the first list to the back of the second list, and both may be one list. The call requires that both lists exist, and that the object is
+/// a member of the first. O(1), and it takes no memory.
 pub fn move_to_back<T, L: LinkedListOps + AcceptsUnlinked>(
     array: &mut [LinkedList<T>],
     links: &mut L,

@@ -51,7 +51,7 @@ impl<T, A: Allocator, W: PrevPlace> Model for Listed<T, A, W> {
 }
 
 impl<T, A: Allocator> Listed<T, A> {
-    /// Makes an empty container. It takes no memory. O(1).
+    /// Makes an empty container. The call takes no memory. O(1).
     pub fn new(alloc: A) -> Listed<T, A>
     where
         A: Copy,
@@ -63,7 +63,7 @@ impl<T, A: Allocator> Listed<T, A> {
 }
 
 impl<T, A: Allocator, W: PrevPlace> Listed<T, A, W> {
-    /// Makes an empty container over links with words of the type `W`, for example: `NarrowListed::with_words(rt.alloc())`. It takes no memory. O(1).
+    /// Makes an empty container over links with words of the type `W`, for example: `NarrowListed::with_words(rt.alloc())`. The call takes no memory. O(1).
     pub fn with_words(alloc: A) -> Listed<T, A, W>
     where
         A: Copy,
@@ -78,9 +78,9 @@ impl<T, A: Allocator, W: PrevPlace> Listed<T, A, W> {
 
     /// Adds an object at the front. O(1), and at most two requests for memory.
     ///
-    /// If the call is refused, the caller gets the value back, and nothing has changed. The error is `NoPlaceLeft` exactly if all 4,294,967,296 places are
-    /// in use. Every other error is `OutOfMemory`. It is also the error if the links have 4-byte words, and all 536,870,911 places are in use that such
-    /// words can name.
+    /// If the call is refused, the caller gets the value back, and nothing has changed. The error is `NoPlaceLeft` exactly if all 4,294,967,296 places are in
+    /// use. Every other error is `OutOfMemory`. `OutOfMemory` is also the error if the links have 4-byte words, and all 536,870,911 places that such words
+    /// can name are in use.
     pub fn place_front(&mut self, value: T) -> Result<UnsafeRef<T>, PlaceError<T>>
         ensures placed { IfOk result (λ object. Places self.old.values self.new.values object value) }
         ensures front { IfOk result (λ object. self.new.order ≡ object ∷ self.old.order) }
@@ -110,8 +110,8 @@ impl<T, A: Allocator, W: PrevPlace> Listed<T, A, W> {
         Ok(object)
     }
 
-    /// Moves the object at a place to the front. The other objects keep their order. It requires that there is an object at the place. O(1), and it takes
-    /// no memory.
+    /// Moves the object at a place to the front. The other objects keep their order. The call requires that there is an object at the place. O(1), and it
+    /// takes no memory.
     pub fn move_to_front(&mut self, place: Place)
         requires placed { is_placed self.old.values place ≡ true }
         ensures moved { (others : List Place) × Without place self.old.order others × (self.new.order ≡ place ∷ others) }
@@ -129,8 +129,8 @@ impl<T, A: Allocator, W: PrevPlace> Listed<T, A, W> {
         lists::move_to_back(&mut self.list, &mut self.pool.links, place);
     }
 
-    /// Replaces the object at the place by another value, and returns the old object. It requires that there is an object at the place. The order
-    /// stays as it was. O(1), and it takes no memory.
+    /// Replaces the object at the place by another value, and returns the old object. The call requires that there is an object at the place. The order stays
+    /// as it was. O(1), and it takes no memory.
     pub fn replace(&mut self, place: Place, value: T) -> T
         requires placed { is_placed self.old.values place ≡ true }
         ensures value { object_at self.old.values place ≡ Some result }
@@ -140,7 +140,7 @@ impl<T, A: Allocator, W: PrevPlace> Listed<T, A, W> {
         mem::replace(self.pool.objects.get_mut(place).unwrap(), value) // proved: one stands there
     }
 
-    /// Removes the object and returns it. It requires that there is an object at the place. The other objects keep their order. O(1), and it takes no
+    /// Removes the object and returns it. The call requires that there is an object at the place. The other objects keep their order. O(1), and it takes no
     /// memory.
     pub fn remove(&mut self, place: Place) -> T
         requires placed { is_placed self.old.values place ≡ true }

@@ -14,9 +14,11 @@ ghost use Rattle.ic_container.specs.Holds.{ListAdds, ListLeaves, ListMoves};
 use ic_link_ops::AcceptsUnlinked;
 use ic_link_ops::linked_list::LinkedListOps;
 use ic_linked_list::LinkedList;
+use ic_plain::linked_list;
 use ic_unsafe_ref::{Place, UnsafeRef};
 
-/// Inserts the object at the front. It requires that the table covers the object's place, and that the object is not linked. O(1), and it takes no memory.
+/// Inserts the object at the front. The call requires that the table covers the object's place, and that the object is not linked. O(1), and it takes no
+/// memory.
 #[inline]
 pub fn push_front<T, L: LinkedListOps + AcceptsUnlinked>(
     list: &mut LinkedList<T>,
@@ -28,10 +30,11 @@ pub fn push_front<T, L: LinkedListOps + AcceptsUnlinked>(
     requires shown { RepresentsSome L.neighbors (L.table links.old) list.old }
     ensures { ListAdds L.neighbors L.linked (L.table links.old) (L.table links.new) list.old list.new [] place (members L.neighbors (L.table links.old) list.old) }
 {
-    let _ = list.push_front(links, UnsafeRef::new(place)); // proved: it is not linked
+    linked_list::push_front(list, links, UnsafeRef::new(place));
 }
 
-/// Inserts the object at the back. It requires that the table covers the object's place, and that the object is not linked. O(1), and it takes no memory.
+/// Inserts the object at the back. The call requires that the table covers the object's place, and that the object is not linked. O(1), and it takes no
+/// memory.
 #[inline]
 pub fn push_back<T, L: LinkedListOps + AcceptsUnlinked>(
     list: &mut LinkedList<T>,
@@ -43,10 +46,10 @@ pub fn push_back<T, L: LinkedListOps + AcceptsUnlinked>(
     requires shown { RepresentsSome L.neighbors (L.table links.old) list.old }
     ensures { ListAdds L.neighbors L.linked (L.table links.old) (L.table links.new) list.old list.new (members L.neighbors (L.table links.old) list.old) place [] }
 {
-    let _ = list.push_back(links, UnsafeRef::new(place)); // proved: it is not linked
+    linked_list::push_back(list, links, UnsafeRef::new(place));
 }
 
-/// Removes a member. It requires that the object is a member. O(1), and it takes no memory.
+/// Removes a member. The call requires that the object is a member. O(1), and it takes no memory.
 #[inline]
 pub fn remove<T, L: LinkedListOps + AcceptsUnlinked>(
     list: &mut LinkedList<T>,
@@ -56,27 +59,27 @@ pub fn remove<T, L: LinkedListOps + AcceptsUnlinked>(
     requires member { HasMember (Represents L.neighbors (L.table links.old) list.old) place }
     ensures { (front : List Place) × (back : List Place) × ListLeaves L.neighbors L.linked (L.table links.old) (L.table links.new) list.old list.new front place back }
 {
-    list.remove(links, &UnsafeRef::new(place));
+    linked_list::remove(list, links, &UnsafeRef::new(place));
 }
 
-/// Moves a member to the front. The other members keep their order, and the moved member stays linked. It requires that the object is a member. O(1), and
-/// it takes no memory.
+/// Moves a member to the front. The other members keep their order, and the moved member stays linked. The call requires that the object is a member. O(1),
+/// and it takes no memory.
 #[inline]
 pub fn move_to_front<T, L: LinkedListOps>(list: &mut LinkedList<T>, links: &mut L, place: Place)
     requires member { HasMember (Represents L.neighbors (L.table links.old) list.old) place }
     ensures { (front : List Place) × (back : List Place) × (after : List Place)
         × ListMoves L.neighbors L.linked (L.table links.old) (L.table links.new) list.old list.new front place back [] after }
 {
-    list.move_to_front(links, &UnsafeRef::new(place));
+    linked_list::move_to_front(list, links, &UnsafeRef::new(place));
 }
 
-/// Moves a member to the back. The other members keep their order, and the moved member stays linked. It requires that the object is a member. O(1), and
-/// it takes no memory.
+/// Moves a member to the back. The other members keep their order, and the moved member stays linked. The call requires that the object is a member. O(1),
+/// and it takes no memory.
 #[inline]
 pub fn move_to_back<T, L: LinkedListOps>(list: &mut LinkedList<T>, links: &mut L, place: Place)
     requires member { HasMember (Represents L.neighbors (L.table links.old) list.old) place }
     ensures { (front : List Place) × (back : List Place) × (before : List Place)
         × ListMoves L.neighbors L.linked (L.table links.old) (L.table links.new) list.old list.new front place back before [] }
 {
-    list.move_to_back(links, &UnsafeRef::new(place));
+    linked_list::move_to_back(list, links, &UnsafeRef::new(place));
 }

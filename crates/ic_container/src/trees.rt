@@ -21,7 +21,7 @@ use ic_rbtree::{KeyAdapter, RBTree};
 use ic_unsafe_ref::{Objects, Place, UnsafeRef};
 use std::alloc::Allocator;
 
-/// Returns the place of an object with this key, or `None` if no object has this key. It requires that the tree has all objects. O(log n).
+/// Returns the place of an object with this key, or `None` if no object has this key. The call requires that the tree has all objects. O(log n).
 pub fn find<K: KeyAdapter<Key = u64>, L: RBTreeOps, B: Allocator>(
     tree: &RBTree<K>,
     links: &L,
@@ -34,7 +34,7 @@ pub fn find<K: KeyAdapter<Key = u64>, L: RBTreeOps, B: Allocator>(
     tree.find(links, objects, &key).get_ptr()
 }
 
-/// Returns an object with this key, or `None` if no object has this key. It requires that the tree has all objects. O(log n).
+/// Returns an object with this key, or `None` if no object has this key. The call requires that the tree has all objects. O(log n).
 pub fn get<'o, K: KeyAdapter<Key = u64>, L: RBTreeOps, B: Allocator>(
     tree: &RBTree<K>,
     links: &L,
@@ -48,7 +48,7 @@ pub fn get<'o, K: KeyAdapter<Key = u64>, L: RBTreeOps, B: Allocator>(
     objects.get(place)
 }
 
-/// Inserts a new object where its key belongs, after objects with the same key. It requires that the tree has every other object, and that the table
+/// Inserts a new object where its key belongs, after objects with the same key. The call requires that the tree has every other object, and that the table
 /// covers the place. O(log n), and it takes no memory.
 pub fn insert<K: KeyAdapter<Key = u64>, L: RBTreeOps + AcceptsUnlinked, B: Allocator>(
     tree: &mut RBTree<K>,
@@ -65,8 +65,8 @@ pub fn insert<K: KeyAdapter<Key = u64>, L: RBTreeOps + AcceptsUnlinked, B: Alloc
     let _ = tree.insert(links, objects, UnsafeRef::new(place)); // proved: it is not linked
 }
 
-/// Removes an object from the tree, before the object is taken from its place. It requires that the tree has all objects, and that there is an object at
-/// the place. O(log n), and it takes no memory.
+/// Removes an object from the tree. Afterwards the caller removes the object from its place. The call requires that the tree has all objects, and that there
+/// is an object at the place. O(log n), and it takes no memory.
 pub fn remove<K: KeyAdapter<Key = u64>, L: RBTreeOps, B: Allocator>(
     tree: &mut RBTree<K>,
     links: &mut L,

@@ -1,4 +1,4 @@
--- What an edit at a position changes, if the object's link was acquired and if it was refused.
+-- Lemmas that prove the contract of an edit at a position in both cases: the object's link was acquired, or it was refused.
 use Rattle.std.proofs.Common.{◌≡◌, List, [], ◌∷◌, Bool, true, false, Result, Ok, Err, OnOk, OnErr, IfErr, Option, Some, refl, sym, subst}
 use Rattle.std.specs.Bool.{OnTrue, OnFalse}
 use Rattle.ic_link_ops.specs.Prelude.{Place, Cut, join, IsAfter, IsBefore, Table, CursorState, RepresentsAt, IsValidCursor, LinkStep, acquires}
@@ -8,8 +8,8 @@ use Rattle.ic_link_ops.specs.EditsAt.{InsertsBeside, ReplacesThere}
 use Rattle.ic_link_ops.proofs.Positions.{inserts_after, inserts_before}
 use Rattle.ic_cursors.specs.Answers.{inserted, replaced}
 
--- AN INSERT BESIDE A POSITION meets its contract if the given facts hold. They say whether the object's link was acquired (`b`), and into which gap
--- the object was inserted if it was
+-- AN INSERT BESIDE A POSITION meets its contract, if the facts before the last arrow hold. If the boolean `b` is true, they say that the object's link was
+-- acquired, and into which gap the object was inserted. If `b` is false, they say that the link was refused
 module _ {L E H : Type 0} (Represents : Table E → H → List Place → Type 0) (table : L → Table E) (Trace : L → L → List LinkStep → Type 0) (Refused : L → L → Place → Type 0)
     (old new : CursorState L H) (p : Place) (T : Type 0) (IsBeside : Cut → Option Place → Type 0) where
   abbrev pub Puts : Type 0

@@ -1,4 +1,4 @@
--- What every edit at a position keeps. What an edit does to the sequence of members is stated elsewhere.
+-- What every edit at a position keeps. The records of `EditsAt.antt` state what an edit does to the sequence of members.
 
 -- `IsValidAt links list at`: the position `at` is valid in the collection `list` over the table `links`. `Keeps old new`: what an edit leaves
 -- unchanged in a collection, apart from its head

@@ -1,4 +1,4 @@
--- What the contract of an insert in the order of the keys states. Every kind of collection and every such call uses these definitions.
+-- What the contract of an insert in the order of the keys states. Every kind of collection uses these definitions.
 use Rattle.std.specs.Prelude.{◌≡◌, Bool, true, false, Some, Result, OnOk, OnErr, IfErr, List, [], ◌∷◌}
 use Rattle.std.specs.declared.cmp.Ordering.{Ordering}
 use Rattle.std.specs.Ordering.{is_lt}
@@ -12,12 +12,12 @@ pub record IsBorder (test : Place → Bool) (gap : Cut) : Type 0 where
   pub fails : (q : Place) → last gap.front ≡ Some q → test q ≡ false
   pub passes : (q : Place) → first gap.back ≡ Some q → test q ≡ true
 
--- whether the searched key is less than the key of the member p, given how the searched key compares with each member
+-- whether a key is less than the key of the member p. `at`: how the key compares with the key of each member
 abbrev pub less_at : (Place → Ordering) → Place → Bool
 less_at at p = is_lt (at p)
 
--- p IS INSERTED IN ORDER into a gap of s. The member right before the gap, if any, is not greater than the searched key. The member right after the
--- gap, if any, is greater. `at`: how the searched key compares with each member
+-- p IS INSERTED IN ORDER into a gap of s. The key of the member right before the gap, if any, is not greater than the key of p. The key of the member right
+-- after the gap, if any, is greater. `at`: how the key of p compares with the key of each member
 module _ {E H : Type 0} (Represents : Table E → H → List Place → Type 0) (at : Place → Ordering) (old new : Table E) where
   pub record InsertsInOrder (head : H) (s : List Place) (p : Place) : Type 0 where
     pub gap : Cut

@@ -10,8 +10,8 @@ ghost use Rattle.ic_cursors.specs.Answers as answer;
 use ic_link_ops::ReplaceError;
 use ic_unsafe_ref::{Place, UnsafeRef};
 
-/// The result of a call that replaces the member `out` by the object. It is an error if `out` is none, because then no member is replaced, or if the
-/// object's link was refused (`is_acquired` is false).
+/// The result of a call that replaces the member `out` by the object. It is an error if `out` is `None`, because then there was no member to replace. It is
+/// also an error if the object's link was refused (`is_acquired` is false).
 #[inline]
 pub(crate) fn replaced<T>(
     out: Option<Place>,

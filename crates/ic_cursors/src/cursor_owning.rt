@@ -100,8 +100,8 @@ impl<C: Collection> CursorOwning<C> {
 
     /// Moves the cursor to the next member, or from the last member to null (no member), or from null to the first member.
     ///
-    /// The gap between two neighbors that was right after the cursor is right before the cursor after the move. The call takes O(1) in a list and
-    /// O(log n) in a tree. A walk over all members of a tree takes O(n).
+    /// After the move, the gap that was right after the cursor is right before the cursor. The call takes O(1) in a list and O(log n) in a tree. A walk over
+    /// all members of a tree takes O(n).
     #[inline]
     pub fn move_next<L: LinkOps>(&mut self, links: &L)
     where
@@ -143,8 +143,8 @@ impl<C: Collection> CursorOwning<C> {
 
     /// Moves the cursor to the previous member, or from the first member to null (no member), or from null to the last member.
     ///
-    /// The gap between two neighbors that was right before the cursor is right after the cursor after the move. The call takes O(1) in a list and
-    /// O(log n) in a tree. A walk over all members of a tree takes O(n).
+    /// After the move, the gap that was right before the cursor is right after the cursor. The call takes O(1) in a list and O(log n) in a tree. A walk over
+    /// all members of a tree takes O(n).
     #[inline]
     pub fn move_prev<L: LinkOps>(&mut self, links: &L)
     where

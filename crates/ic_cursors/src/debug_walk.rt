@@ -32,7 +32,7 @@ impl<I: Iterator + Clone> Drop for DebugWalk<I> {
 }
 
 impl<I: Iterator + Clone> DebugWalk<I> {
-    /// A value that prints the objects that the walk has not returned yet. The call requires that every copy of the walk can be walked to its end. It
+    /// A value that prints the objects that the walk has not returned yet. The call requires that every copy of the walk can be walked to its end. The call
     /// takes O(1) and no memory.
     #[inline]
     pub fn new(walk: I) -> DebugWalk<I>

@@ -101,7 +101,7 @@ pub trait Bidirectional<L: LinkOps>: CursorOps<L> {
         ensures kept { Edited Self.IsValidAt Self.Keeps self.old links.new self.new at.new };
 }
 
-/// A kind whose collections are spliced and split after a position.
+/// A kind of collection that can be spliced and split after a position.
 pub trait Splice<L: LinkOps>: CursorOps<L> {
     /// Inserts all members of the given collection after the position. The position does not change.
     fn splice_after_at(&mut self, links: &mut L, at: &mut Self::Position, given: Self)
@@ -141,7 +141,7 @@ pub trait BidirectionalSplice<L: LinkOps>: Splice<L> {
         ensures kept { Edited Self.IsValidAt Self.Keeps self.old links.new self.new at.new };
 }
 
-/// A kind whose members are removed and replaced after a position.
+/// A kind of collection in which the member after a position can be removed and replaced.
 pub trait ForwardOnly<L: LinkOps>: CursorOps<L> {
     /// Removes the member after the position, or the first member if the position is on no member, and returns it. The position does not change.
     fn remove_next_at(&mut self, links: &mut L, at: &mut Self::Position) -> Option<Place>
@@ -167,7 +167,7 @@ pub trait ForwardOnly<L: LinkOps>: CursorOps<L> {
 
 /// A kind whose collections keep their members in the order of the keys.
 pub trait Ordered<L: LinkOps>: CursorOps<L> {
-    // HOW AN OBJECT COMPARES with each member by its key: the result is `Less` if the object is less than the member.
+    // How the key of the object at the first place compares with the key of the member at the second place. The result is `Less` if the object's key is less.
     ghost order_of: { Self → Objects Self.Object → Place → Place → Ordering };
 
     /// Inserts the object in the order of the keys, after the members whose keys are not greater, and returns whether the object's link was acquired.

@@ -11,7 +11,7 @@ ghost use Rattle.ic_unsafe_ref.specs.declared.place.Place.{Place};
 use ic_link_ops::PlaceWord;
 use ic_unsafe_ref::Place;
 
-/// A position: on a member, or at null. A kind of collection may store more in a position than the member, for example the next member.
+/// A position is on a member or at null. A kind of collection may store more in a position than the member, for example the next member.
 pub trait Position: Drop {
     // The member that the position is on, or none if the position is null.
     ghost member: { Self → Option Place };

@@ -1,4 +1,4 @@
-//! The calls that check whether the words represent a list, a tree or a hash table, and that count its members.
+//! The calls that check whether the words of a table and a collection represent a list, a tree or a hash table, and that count the members.
 //!
 //! ```text
 //! uint64_t members;
@@ -14,8 +14,8 @@ ghost use Rattle.ic_raw.specs.CheckCalls.{CheckCall, HashCheckCall};
 
 use ic_raw::{RawEnds, RawFront, RawOne, RawRoot, RawThree, RawTwo, check_calls};
 
-/// Checks that the words of `table` and `list` represent a doubly linked list, and stores the number of its members in `members`, or returns
-/// [`BROKEN`](crate::BROKEN) if they do not represent one. O(n).
+/// Checks that the words of `table` and `list` represent a doubly linked list, and stores in `members` how many members the list has. If the words represent no
+/// list, the call returns [`BROKEN`](crate::BROKEN). O(n).
 ///
 /// The call writes nothing except `members`. If it returns [`OK`](crate::OK), every other call on this list does what the comment of that call says.
 #[unsafe(no_mangle)]
@@ -25,8 +25,8 @@ pub extern "C" fn ic_list_check(table: &mut [RawTwo], list: &RawEnds, members: &
     check_calls::check_list(table, list, members)
 }
 
-/// Checks that the words of `table` and `list` represent a singly linked list, and stores the number of its members in `members`, or returns
-/// [`BROKEN`](crate::BROKEN) if they do not represent one. O(n).
+/// Checks that the words of `table` and `list` represent a singly linked list, and stores in `members` how many members the list has. If the words represent no
+/// list, the call returns [`BROKEN`](crate::BROKEN). O(n).
 ///
 /// The call writes nothing except `members`. If it returns [`OK`](crate::OK), every other call on this list does what the comment of that call says.
 #[unsafe(no_mangle)]
@@ -36,8 +36,8 @@ pub extern "C" fn ic_stack_check(table: &mut [RawOne], list: &RawFront, members:
     check_calls::check_stack(table, list, members)
 }
 
-/// Checks that the words of `table` and `tree` represent a red-black tree, and stores the number of its members in `members`, or returns
-/// [`BROKEN`](crate::BROKEN) if they do not represent one. O(n).
+/// Checks that the words of `table` and `tree` represent a red-black tree, and stores in `members` how many members the tree has. If the words represent no
+/// tree, the call returns [`BROKEN`](crate::BROKEN). O(n).
 ///
 /// The call writes nothing except `members`, and requires no keys. If it returns [`OK`](crate::OK), every other call on this tree does what the
 /// comment of that call says.
@@ -48,9 +48,8 @@ pub extern "C" fn ic_tree_check(table: &mut [RawThree], tree: &RawRoot, members:
     check_calls::check_tree(table, tree, members)
 }
 
-/// Checks that the words of `table` and `buckets` represent a hash table, and stores the number of its members in `members`, or returns
-/// [`BROKEN`](crate::BROKEN) if they do not. The words represent no hash table if a chain has no end, or if a member is not in the bucket to which its
-/// hash leads. O(b + n) for b buckets and n places.
+/// Checks that the words of `table` and `buckets` represent a hash table, and stores in `members` how many members the hash table has. If a chain has no end,
+/// or if a member is not in the bucket to which its hash leads, the call returns [`BROKEN`](crate::BROKEN). O(b + n) for b buckets and n places.
 ///
 /// The call writes nothing except `members`. There must be a hash for each place of the table, and at least one bucket. If it returns
 /// [`OK`](crate::OK), no place is in two chains, and every other call on a chain does what the comment of that call says.

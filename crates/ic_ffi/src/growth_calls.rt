@@ -13,8 +13,9 @@ ghost use Rattle.ic_raw_keyed.specs.GrowthCalls.{MoveChainCall};
 use ic_raw::{RawFront, RawOne};
 use ic_raw_keyed::growth_calls;
 
-/// Moves each member of a chain to the front of bucket `hash % buckets` of another array, and leaves the chain empty. Each place stays linked, and
-/// members that go to the same bucket keep their order. The call reads three entries of the table for each member.
+/// Moves each member of `chain` to the front of a bucket of the array `buckets`, and leaves `chain` empty. The index of the bucket is the hash of the member
+/// modulo the number of buckets. Each place stays linked, and members that go to the same bucket keep their order. The call reads three entries of the table
+/// for each member.
 ///
 /// There must be a hash for each place of the table, and at least one bucket. The call returns [`BROKEN`](crate::BROKEN) if the links of the chain lead
 /// to no end or out of the table. The call also returns [`BROKEN`](crate::BROKEN) if the bucket of a member begins with a place that is not linked.

@@ -15,7 +15,7 @@ ghost use Rattle.ic_raw.specs.HashCalls.{FindCall, InsertCall, NextEqualCall, Re
 
 use ic_raw::{RawFront, RawOne, hash_calls};
 
-/// Inserts a place at the front of its chain, which is the list in bucket `hash % buckets`. O(1).
+/// Inserts a place at the front of the chain of `hash`. O(1). The chain is the list in the bucket whose index is `hash` modulo the number of buckets.
 ///
 /// The place must belong to the table and must not be linked, and there must be at least one bucket. If the first member of the chain is not linked,
 /// the call returns [`BROKEN`](crate::BROKEN).
@@ -31,8 +31,8 @@ pub extern "C" fn ic_hash_insert(
     hash_calls::insert(table, buckets, hash, place)
 }
 
-/// Removes a place from its chain, whatever its position in the chain is, or returns [`NULL`](crate::NULL) if the argument is [`NONE`](crate::NONE).
-/// The call reads one entry of the table for each member from the first one up to the removed one.
+/// Removes `place` from any position in the chain of `hash`, or returns [`NULL`](crate::NULL) if `place` is [`NONE`](crate::NONE). The call reads one entry of
+/// the table for each member from the first one up to the removed one.
 ///
 /// If the place is not a member of the chain, the call returns [`BROKEN`](crate::BROKEN).
 #[unsafe(no_mangle)]
@@ -47,8 +47,8 @@ pub extern "C" fn ic_hash_remove(
     hash_calls::remove(table, buckets, hash, place)
 }
 
-/// Stores in `found` the number of the first member of the chain that has the key `key`, or returns [`NULL`](crate::NULL) if no member has the key. The
-/// call writes nothing except `found`. The call reads one entry of the table for each member up to the found one.
+/// Stores in `found` the number of the first member with the key `key` in the chain of `hash`. If no member has the key, the call returns
+/// [`NULL`](crate::NULL). The call writes nothing except `found`. The call reads one entry of the table for each member up to the found one.
 ///
 /// There must be a key for each place of the table, and at least one bucket. If the links of the chain lead to no end or out of the table, the call
 /// returns [`BROKEN`](crate::BROKEN).
@@ -66,9 +66,8 @@ pub extern "C" fn ic_hash_find(
     hash_calls::find(table, keys, buckets, hash, key, found)
 }
 
-/// Stores in `found` the number of the next member after `at` that has the same key as `at`, or returns [`NULL`](crate::NULL) if no such member exists,
-/// or if `at` is [`NONE`](crate::NONE). The call writes nothing except `found`. The call reads one entry of the table for each member up to the
-/// found one.
+/// Stores in `found` the number of the next member after `at` that has the same key as `at`. If no such member exists, or if `at` is [`NONE`](crate::NONE), the
+/// call returns [`NULL`](crate::NULL). The call writes nothing except `found`. The call reads one entry of the table for each member up to the found one.
 ///
 /// There must be a key for each place of the table. If the links lead to no end or out of the table, the call returns [`BROKEN`](crate::BROKEN).
 #[unsafe(no_mangle)]

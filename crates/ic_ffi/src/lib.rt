@@ -1,5 +1,5 @@
-//! Calls for C on lists, rings, hash tables and red-black trees, with their checks, sorts and merges. All words of a collection are in memory of the
-//! caller's own.
+//! Calls for C on lists, rings, hash tables and red-black trees, with their checks, sorts and merges. All words of a collection are in memory that the caller
+//! owns.
 //!
 //! ```text
 //! struct ic_link2 links[64] = {0};  // 64 places, none of them linked
@@ -14,10 +14,10 @@
 //! This crate only gives each call its C name. The body of each call is in `ic_raw`, `ic_raw_lists`, `ic_raw_keyed`, `ic_raw_trees` or
 //! `ic_raw_augmented`, in a module with the same name as the module here.
 //!
-//! No call requires anything of its arguments. Each call tests every link that it follows or changes, returns a status, and changes nothing if the
-//! status is not [`OK`]. The status is that of the first fault. Each call tests first the members that the caller names, in their order, then the keys,
-//! and then the place to insert. The call returns [`BROKEN`] if all these are right but the links do not fit together. [`NULL`] means that the caller
-//! named no place where one is needed, or that a search found none.
+//! No call requires anything of its arguments. Each call tests every link that it follows or changes, returns a status, and changes nothing if the status is
+//! not [`OK`]. The status is that of the first fault. Each call tests first the members that the caller names, in their order, then the keys, and then the
+//! place to insert. If the members, the keys and the place have no fault but the links do not fit together, the call returns [`BROKEN`]. [`NULL`] means that
+//! the caller named no place where one is needed, or that a search found none.
 #![tactic(auto)]
 
 mod check_calls;

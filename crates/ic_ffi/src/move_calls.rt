@@ -1,4 +1,4 @@
-//! The calls that move a member of a doubly linked list, which stays linked.
+//! The calls that move a member within a doubly linked list. The member stays linked.
 //!
 //! ```text
 //! ic_list_move_to_front(links, 64, &list, 7); // IC_OK: 7 is the first member, whichever it was
@@ -15,7 +15,7 @@ use ic_raw::{GapSide, RawEnds, RawTwo, move_calls};
 /// Moves the member `place` after the member `at`, or to the front if `at` is [`NONE`](crate::NONE), or returns [`NULL`](crate::NULL) if `place` is
 /// [`NONE`](crate::NONE). The member stays linked during the call. O(1).
 ///
-/// If the member is already at that position, or if `at` is the member itself, nothing changes.
+/// If the member is already there, or if `at` is the same place as `place`, nothing changes.
 #[unsafe(no_mangle)]
 pub extern "C" fn ic_list_move_after(
     table: &mut [RawTwo],
@@ -31,7 +31,7 @@ pub extern "C" fn ic_list_move_after(
 /// Moves the member `place` before the member `at`, or to the back if `at` is [`NONE`](crate::NONE), or returns [`NULL`](crate::NULL) if `place` is
 /// [`NONE`](crate::NONE). The member stays linked during the call. O(1).
 ///
-/// If the member is already at that position, or if `at` is the member itself, nothing changes.
+/// If the member is already there, or if `at` is the same place as `place`, nothing changes.
 #[unsafe(no_mangle)]
 pub extern "C" fn ic_list_move_before(
     table: &mut [RawTwo],
@@ -44,8 +44,7 @@ pub extern "C" fn ic_list_move_before(
     move_calls::move_at(table, list, GapSide::Before, at, place)
 }
 
-/// Moves a member to the front, or returns [`NULL`](crate::NULL) if the argument is [`NONE`](crate::NONE). The member stays linked during the call.
-/// O(1).
+/// Moves the member `place` to the front, or returns [`NULL`](crate::NULL) if `place` is [`NONE`](crate::NONE). The member stays linked during the call. O(1).
 ///
 /// If the member is already the first one, nothing changes.
 #[unsafe(no_mangle)]
@@ -55,8 +54,7 @@ pub extern "C" fn ic_list_move_to_front(table: &mut [RawTwo], list: &mut RawEnds
     move_calls::move_to_end(table, list, GapSide::After, place)
 }
 
-/// Moves a member to the back, or returns [`NULL`](crate::NULL) if the argument is [`NONE`](crate::NONE). The member stays linked during the call.
-/// O(1).
+/// Moves the member `place` to the back, or returns [`NULL`](crate::NULL) if `place` is [`NONE`](crate::NONE). The member stays linked during the call. O(1).
 ///
 /// If the member is already the last one, nothing changes.
 #[unsafe(no_mangle)]

@@ -1,6 +1,6 @@
-//! The calls of doubly linked lists whose links have words of 4 bytes, which take 8 bytes for each place. Each call does what the call with the same
-//! name without the number `32` does, which is in `list_calls`, `move_calls`, `check_calls` or `transfer_calls`. Places from 536,870,911 on are out of
-//! range, because words of 4 bytes have no numbers for them. The two words of a list, for its first and its last member, always have 8 bytes each.
+//! The calls of doubly linked lists whose links are words of 4 bytes, so that the table has 8 bytes for each place. Each call `ic_list32_NAME` does the same as
+//! the call `ic_list_NAME` in `list_calls`, `move_calls`, `check_calls` or `transfer_calls`. Places from 536,870,911 on are out of range, because no word of 4
+//! bytes can name them. A list also has two words of 8 bytes, for its first and its last member.
 //!
 //! ```text
 //! struct ic_link2_32 links[64] = {0};
@@ -25,7 +25,7 @@ use ic_raw_lists::transfer_calls;
 
 /// Inserts a place at the front. O(1).
 ///
-/// The place must belong to the table and must not be linked.
+/// The call requires and returns what `ic_list_push_front` does.
 #[unsafe(no_mangle)]
 pub extern "C" fn ic_list32_push_front(
     table: &mut [RawNarrowTwo],
@@ -39,7 +39,7 @@ pub extern "C" fn ic_list32_push_front(
 
 /// Inserts a place at the back. O(1).
 ///
-/// The place must belong to the table and must not be linked.
+/// The call requires and returns what `ic_list_push_back` does.
 #[unsafe(no_mangle)]
 pub extern "C" fn ic_list32_push_back(
     table: &mut [RawNarrowTwo],
@@ -77,7 +77,7 @@ pub extern "C" fn ic_list32_pop_back(
 
 /// Inserts a place after the member `at`, or at the front if `at` is [`NONE`](crate::NONE). O(1).
 ///
-/// The place must belong to the table and must not be linked.
+/// The call requires and returns what `ic_list_insert_after` does.
 #[unsafe(no_mangle)]
 pub extern "C" fn ic_list32_insert_after(
     table: &mut [RawNarrowTwo],
@@ -92,7 +92,7 @@ pub extern "C" fn ic_list32_insert_after(
 
 /// Inserts a place before the member `at`, or at the back if `at` is [`NONE`](crate::NONE). O(1).
 ///
-/// The place must belong to the table and must not be linked.
+/// The call requires and returns what `ic_list_insert_before` does.
 #[unsafe(no_mangle)]
 pub extern "C" fn ic_list32_insert_before(
     table: &mut [RawNarrowTwo],
@@ -115,7 +115,7 @@ pub extern "C" fn ic_list32_remove(table: &mut [RawNarrowTwo], list: &mut RawEnd
 
 /// Inserts a place where the member `at` is, and removes `at`, or returns [`NULL`](crate::NULL) if `at` is [`NONE`](crate::NONE). O(1).
 ///
-/// The place must belong to the table and must not be linked.
+/// The call requires and returns what `ic_list_replace` does.
 #[unsafe(no_mangle)]
 pub extern "C" fn ic_list32_replace(
     table: &mut [RawNarrowTwo],
@@ -130,7 +130,7 @@ pub extern "C" fn ic_list32_replace(
 
 /// Moves all members of `given` after the member `at`, or to the front if `at` is [`NONE`](crate::NONE), and leaves `given` empty. O(1).
 ///
-/// If both lists begin with the same member, for example because `given` is the list itself, the call returns [`BROKEN`](crate::BROKEN).
+/// The call requires and returns what `ic_list_splice_after` does.
 #[unsafe(no_mangle)]
 pub extern "C" fn ic_list32_splice_after(
     table: &mut [RawNarrowTwo],
@@ -145,7 +145,7 @@ pub extern "C" fn ic_list32_splice_after(
 
 /// Moves all members of `given` before the member `at`, or to the back if `at` is [`NONE`](crate::NONE), and leaves `given` empty. O(1).
 ///
-/// If both lists begin with the same member, for example because `given` is the list itself, the call returns [`BROKEN`](crate::BROKEN).
+/// The call requires and returns what `ic_list_splice_before` does.
 #[unsafe(no_mangle)]
 pub extern "C" fn ic_list32_splice_before(
     table: &mut [RawNarrowTwo],
@@ -160,7 +160,7 @@ pub extern "C" fn ic_list32_splice_before(
 
 /// Moves all members of `given` to the back of the list, and leaves `given` empty. O(1).
 ///
-/// If both lists begin with the same member, for example because `given` is the list itself, the call returns [`BROKEN`](crate::BROKEN).
+/// The call requires and returns what `ic_list_append` does.
 #[unsafe(no_mangle)]
 pub extern "C" fn ic_list32_append(
     table: &mut [RawNarrowTwo],
@@ -174,7 +174,7 @@ pub extern "C" fn ic_list32_append(
 
 /// Moves all members after the member `at` to `rest`, or all members of the list if `at` is [`NONE`](crate::NONE). O(1).
 ///
-/// If `rest` is not empty, the call returns [`BROKEN`](crate::BROKEN).
+/// The call requires and returns what `ic_list_split_after` does.
 #[unsafe(no_mangle)]
 pub extern "C" fn ic_list32_split_after(
     table: &mut [RawNarrowTwo],
@@ -189,7 +189,7 @@ pub extern "C" fn ic_list32_split_after(
 
 /// Moves all members before the member `at` to `rest`, or all members of the list if `at` is [`NONE`](crate::NONE). O(1).
 ///
-/// If `rest` is not empty, the call returns [`BROKEN`](crate::BROKEN).
+/// The call requires and returns what `ic_list_split_before` does.
 #[unsafe(no_mangle)]
 pub extern "C" fn ic_list32_split_before(
     table: &mut [RawNarrowTwo],
@@ -204,7 +204,7 @@ pub extern "C" fn ic_list32_split_before(
 
 /// Removes and unlinks all members. O(n).
 ///
-/// If the links do not lead from the first member to the last, and back, the call returns [`BROKEN`](crate::BROKEN).
+/// The call requires and returns what `ic_list_clear` does.
 #[unsafe(no_mangle)]
 pub extern "C" fn ic_list32_clear(table: &mut [RawNarrowTwo], list: &mut RawEnds) -> u32
     ensures { ClearCall narrow_words table.old table.new list.old list.new result }
@@ -215,7 +215,7 @@ pub extern "C" fn ic_list32_clear(table: &mut [RawNarrowTwo], list: &mut RawEnds
 /// Moves the member `place` after the member `at`, or to the front if `at` is [`NONE`](crate::NONE), or returns [`NULL`](crate::NULL) if `place` is
 /// [`NONE`](crate::NONE). The member stays linked during the call. O(1).
 ///
-/// If the member is already at that position, or if `at` is the member itself, nothing changes.
+/// The call requires and returns what `ic_list_move_after` does.
 #[unsafe(no_mangle)]
 pub extern "C" fn ic_list32_move_after(
     table: &mut [RawNarrowTwo],
@@ -231,7 +231,7 @@ pub extern "C" fn ic_list32_move_after(
 /// Moves the member `place` before the member `at`, or to the back if `at` is [`NONE`](crate::NONE), or returns [`NULL`](crate::NULL) if `place` is
 /// [`NONE`](crate::NONE). The member stays linked during the call. O(1).
 ///
-/// If the member is already at that position, or if `at` is the member itself, nothing changes.
+/// The call requires and returns what `ic_list_move_before` does.
 #[unsafe(no_mangle)]
 pub extern "C" fn ic_list32_move_before(
     table: &mut [RawNarrowTwo],
@@ -244,10 +244,9 @@ pub extern "C" fn ic_list32_move_before(
     move_calls::move_at(table, list, GapSide::Before, at, place)
 }
 
-/// Moves a member to the front, or returns [`NULL`](crate::NULL) if the argument is [`NONE`](crate::NONE). The member stays linked during the call.
-/// O(1).
+/// Moves the member `place` to the front, or returns [`NULL`](crate::NULL) if `place` is [`NONE`](crate::NONE). The member stays linked during the call. O(1).
 ///
-/// If the member is already the first one, nothing changes.
+/// The call requires and returns what `ic_list_move_to_front` does.
 #[unsafe(no_mangle)]
 pub extern "C" fn ic_list32_move_to_front(
     table: &mut [RawNarrowTwo],
@@ -259,10 +258,9 @@ pub extern "C" fn ic_list32_move_to_front(
     move_calls::move_to_end(table, list, GapSide::After, place)
 }
 
-/// Moves a member to the back, or returns [`NULL`](crate::NULL) if the argument is [`NONE`](crate::NONE). The member stays linked during the call.
-/// O(1).
+/// Moves the member `place` to the back, or returns [`NULL`](crate::NULL) if `place` is [`NONE`](crate::NONE). The member stays linked during the call. O(1).
 ///
-/// If the member is already the last one, nothing changes.
+/// The call requires and returns what `ic_list_move_to_back` does.
 #[unsafe(no_mangle)]
 pub extern "C" fn ic_list32_move_to_back(
     table: &mut [RawNarrowTwo],
@@ -274,10 +272,10 @@ pub extern "C" fn ic_list32_move_to_back(
     move_calls::move_to_end(table, list, GapSide::Before, place)
 }
 
-/// Checks that the words of `table` and `list` represent a doubly linked list, and stores the number of its members in `members`, or returns
-/// [`BROKEN`](crate::BROKEN) if they do not represent one. O(n).
+/// Checks that the words of `table` and `list` represent a doubly linked list, and stores in `members` how many members the list has. If the words represent no
+/// list, the call returns [`BROKEN`](crate::BROKEN). O(n).
 ///
-/// The call writes nothing except `members`. If it returns [`OK`](crate::OK), every other call on this list does what the comment of that call says.
+/// The call requires and returns what `ic_list_check` does.
 #[unsafe(no_mangle)]
 pub extern "C" fn ic_list32_check(
     table: &mut [RawNarrowTwo],
@@ -292,9 +290,7 @@ pub extern "C" fn ic_list32_check(
 /// Moves the member `place` of the list `given` after the member `at` of the list `list`, or to the front of `list` if `at` is [`NONE`](crate::NONE).
 /// The member stays linked during the call. O(1).
 ///
-/// The call returns [`NULL`](crate::NULL) if `place` is [`NONE`](crate::NONE). Otherwise the call returns the first fault of the two places. If neither
-/// place has a fault but the links do not fit together, the call returns [`BROKEN`](crate::BROKEN), for example if both lists begin with the same
-/// member.
+/// The call requires and returns what `ic_list_transfer_after` does.
 #[unsafe(no_mangle)]
 pub extern "C" fn ic_list32_transfer_after(
     table: &mut [RawNarrowTwo],
@@ -311,9 +307,7 @@ pub extern "C" fn ic_list32_transfer_after(
 /// Moves the member `place` of the list `given` before the member `at` of the list `list`, or to the back of `list` if `at` is [`NONE`](crate::NONE).
 /// The member stays linked during the call. O(1).
 ///
-/// The call returns [`NULL`](crate::NULL) if `place` is [`NONE`](crate::NONE). Otherwise the call returns the first fault of the two places. If neither
-/// place has a fault but the links do not fit together, the call returns [`BROKEN`](crate::BROKEN), for example if both lists begin with the same
-/// member.
+/// The call requires and returns what `ic_list_transfer_before` does.
 #[unsafe(no_mangle)]
 pub extern "C" fn ic_list32_transfer_before(
     table: &mut [RawNarrowTwo],

@@ -1,5 +1,5 @@
-//! The calls of rings whose links have words of 4 bytes, which take 8 bytes for each place. Each call does what the call of `ring_calls` with the same
-//! name without the number `32` does. Places from 536,870,911 on are out of range, because words of 4 bytes have no numbers for them.
+//! The calls of rings whose links are words of 4 bytes, so that the table has 8 bytes for each place. Each call `ic_ring32_NAME` does the same as the call
+//! `ic_ring_NAME` of `ring_calls`. Places from 536,870,911 on are out of range, because no word of 4 bytes can name them.
 //!
 //! ```text
 //! struct ic_link2_32 links[65] = {0};         // 64 objects, and a head at 64
@@ -18,7 +18,7 @@ use ic_raw::{GapSide, RawNarrowTwo, ring_calls};
 
 /// Makes a place the head of a ring with no members. O(1).
 ///
-/// The place must belong to the table and must not be linked. Linux: `INIT_LIST_HEAD`.
+/// The call requires and returns what `ic_ring_init` does.
 #[unsafe(no_mangle)]
 pub extern "C" fn ic_ring32_init(table: &mut [RawNarrowTwo], head: u32) -> u32
     ensures { InitCall narrow_words table.old table.new result (place_of head) }
@@ -28,7 +28,7 @@ pub extern "C" fn ic_ring32_init(table: &mut [RawNarrowTwo], head: u32) -> u32
 
 /// Inserts the place `place` after the place `at` of a ring. If `at` is the head, the inserted place becomes the first member. O(1).
 ///
-/// The place must belong to the table and must not be linked. Linux: `list_add`.
+/// The call requires and returns what `ic_ring_insert_after` does.
 #[unsafe(no_mangle)]
 pub extern "C" fn ic_ring32_insert_after(table: &mut [RawNarrowTwo], at: u32, place: u32) -> u32
     ensures { InsertCall narrow_words table.old table.new result After (place_of at) (place_of place) }
@@ -38,7 +38,7 @@ pub extern "C" fn ic_ring32_insert_after(table: &mut [RawNarrowTwo], at: u32, pl
 
 /// Inserts the place `place` before the place `at` of a ring. If `at` is the head, the inserted place becomes the last member. O(1).
 ///
-/// The place must belong to the table and must not be linked. Linux: `list_add_tail`.
+/// The call requires and returns what `ic_ring_insert_before` does.
 #[unsafe(no_mangle)]
 pub extern "C" fn ic_ring32_insert_before(table: &mut [RawNarrowTwo], at: u32, place: u32) -> u32
     ensures { InsertCall narrow_words table.old table.new result Before (place_of at) (place_of place) }
@@ -48,7 +48,7 @@ pub extern "C" fn ic_ring32_insert_before(table: &mut [RawNarrowTwo], at: u32, p
 
 /// Removes a place from the ring in which it is. O(1).
 ///
-/// If the place is a head without members, the place is unlinked, and its ring no longer exists. Linux: `list_del`.
+/// The call requires and returns what `ic_ring_remove` does.
 #[unsafe(no_mangle)]
 pub extern "C" fn ic_ring32_remove(table: &mut [RawNarrowTwo], place: u32) -> u32
     ensures { RemoveCall narrow_words table.old table.new result (place_of place) }
@@ -56,11 +56,10 @@ pub extern "C" fn ic_ring32_remove(table: &mut [RawNarrowTwo], place: u32) -> u3
     ring_calls::remove(table, place)
 }
 
-/// Exchanges the successors of two places. If the two places are in two rings, the rings become one. If the two places are in one ring, the ring
-/// becomes two. O(1).
+/// Exchanges the successors of the places `one` and `other`. If the two places are in two rings, the rings become one. If they are different places of one
+/// ring, this ring becomes two. O(1).
 ///
-/// If `one` is the last member of a ring and `other` the head of a second ring, all members of the second ring move to the back of the first. A second
-/// call with the same arguments undoes the first call.
+/// The call requires and returns what `ic_ring_exchange` does.
 #[unsafe(no_mangle)]
 pub extern "C" fn ic_ring32_exchange(table: &mut [RawNarrowTwo], one: u32, other: u32) -> u32
     ensures { ExchangeCall narrow_words table.old table.new result (place_of one) (place_of other) }
@@ -90,7 +89,7 @@ pub extern "C" fn ic_ring32_pop_back(table: &mut [RawNarrowTwo], head: u32, popp
 
 /// Inserts the place `place` into a ring at the position of the place `at`, and removes `at`. O(1).
 ///
-/// The place must belong to the table and must not be linked. Linux: `list_replace`.
+/// The call requires and returns what `ic_ring_replace` does.
 #[unsafe(no_mangle)]
 pub extern "C" fn ic_ring32_replace(table: &mut [RawNarrowTwo], at: u32, place: u32) -> u32
     ensures { ReplaceCall narrow_words table.old table.new result (place_of at) (place_of place) }
@@ -98,10 +97,9 @@ pub extern "C" fn ic_ring32_replace(table: &mut [RawNarrowTwo], at: u32, place: 
     ring_calls::replace(table, at, place)
 }
 
-/// Moves the place `place`, from whichever ring of the table it is in, after the place `at`. If `at` is a head, the moved place becomes the first
-/// member. O(1).
+/// Moves the place `place`, which may be in any ring of the table, after the place `at`. If `at` is a head, the moved place becomes the first member. O(1).
 ///
-/// If both places are the same, nothing changes. Linux: `list_move`.
+/// The call requires and returns what `ic_ring_move_after` does.
 #[unsafe(no_mangle)]
 pub extern "C" fn ic_ring32_move_after(table: &mut [RawNarrowTwo], at: u32, place: u32) -> u32
     ensures { MoveCall narrow_words table.old table.new result After (place_of at) (place_of place) }
@@ -109,10 +107,9 @@ pub extern "C" fn ic_ring32_move_after(table: &mut [RawNarrowTwo], at: u32, plac
     ring_calls::move_beside(table, GapSide::After, at, place)
 }
 
-/// Moves the place `place`, from whichever ring of the table it is in, before the place `at`. If `at` is a head, the moved place becomes the last
-/// member. O(1).
+/// Moves the place `place`, which may be in any ring of the table, before the place `at`. If `at` is a head, the moved place becomes the last member. O(1).
 ///
-/// If both places are the same, nothing changes. Linux: `list_move_tail`.
+/// The call requires and returns what `ic_ring_move_before` does.
 #[unsafe(no_mangle)]
 pub extern "C" fn ic_ring32_move_before(table: &mut [RawNarrowTwo], at: u32, place: u32) -> u32
     ensures { MoveCall narrow_words table.old table.new result Before (place_of at) (place_of place) }
@@ -122,7 +119,7 @@ pub extern "C" fn ic_ring32_move_before(table: &mut [RawNarrowTwo], at: u32, pla
 
 /// Moves all members of the ring with the head `head` after the place `at` of another ring. O(1).
 ///
-/// The ring of `head` then has no members. Linux: `list_splice_init`.
+/// The call requires and returns what `ic_ring_splice_after` does.
 #[unsafe(no_mangle)]
 pub extern "C" fn ic_ring32_splice_after(table: &mut [RawNarrowTwo], at: u32, head: u32) -> u32
     ensures { SpliceCall narrow_words table.old table.new result After (place_of at) (place_of head) }
@@ -132,7 +129,7 @@ pub extern "C" fn ic_ring32_splice_after(table: &mut [RawNarrowTwo], at: u32, he
 
 /// Moves all members of the ring with the head `head` before the place `at` of another ring. O(1).
 ///
-/// The ring of `head` then has no members. Linux: `list_splice_tail_init`.
+/// The call requires and returns what `ic_ring_splice_before` does.
 #[unsafe(no_mangle)]
 pub extern "C" fn ic_ring32_splice_before(table: &mut [RawNarrowTwo], at: u32, head: u32) -> u32
     ensures { SpliceCall narrow_words table.old table.new result Before (place_of at) (place_of head) }

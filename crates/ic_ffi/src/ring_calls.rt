@@ -1,4 +1,4 @@
-//! The calls of rings: doubly linked lists whose head is a place of the table. The arguments of a call are places, and never a ring.
+//! The calls of rings: doubly linked lists whose head is a place of the table. A call names a ring by places of the ring.
 //!
 //! ```text
 //! struct ic_link2 links[65] = {0};         // 64 objects, and a head at 64
@@ -55,11 +55,11 @@ pub extern "C" fn ic_ring_remove(table: &mut [RawTwo], place: u32) -> u32
     ring_calls::remove(table, place)
 }
 
-/// Exchanges the successors of two places. If the two places are in two rings, the rings become one. If the two places are in one ring, the ring
-/// becomes two. O(1).
+/// Exchanges the successors of the places `one` and `other`. If the two places are in two rings, the rings become one. If they are different places of one
+/// ring, this ring becomes two. O(1).
 ///
-/// If `one` is the last member of a ring and `other` the head of a second ring, all members of the second ring move to the back of the first. A second
-/// call with the same arguments undoes the first call.
+/// Let `one` be the last member of a ring, and `other` the head of a second ring. After the call, the members of the second ring follow `one`, and `other`
+/// follows these members. A second call with the same arguments undoes the first call.
 #[unsafe(no_mangle)]
 pub extern "C" fn ic_ring_exchange(table: &mut [RawTwo], one: u32, other: u32) -> u32
     ensures { ExchangeCall wide_words table.old table.new result (place_of one) (place_of other) }
@@ -93,8 +93,7 @@ pub extern "C" fn ic_ring_replace(table: &mut [RawTwo], at: u32, place: u32) -> 
     ring_calls::replace(table, at, place)
 }
 
-/// Moves the place `place`, from whichever ring of the table it is in, after the place `at`. If `at` is a head, the moved place becomes the first
-/// member. O(1).
+/// Moves the place `place`, which may be in any ring of the table, after the place `at`. If `at` is a head, the moved place becomes the first member. O(1).
 ///
 /// If both places are the same, nothing changes. Linux: `list_move`.
 #[unsafe(no_mangle)]
@@ -104,8 +103,7 @@ pub extern "C" fn ic_ring_move_after(table: &mut [RawTwo], at: u32, place: u32) 
     ring_calls::move_beside(table, GapSide::After, at, place)
 }
 
-/// Moves the place `place`, from whichever ring of the table it is in, before the place `at`. If `at` is a head, the moved place becomes the last
-/// member. O(1).
+/// Moves the place `place`, which may be in any ring of the table, before the place `at`. If `at` is a head, the moved place becomes the last member. O(1).
 ///
 /// If both places are the same, nothing changes. Linux: `list_move_tail`.
 #[unsafe(no_mangle)]

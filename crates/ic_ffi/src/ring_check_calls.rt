@@ -1,4 +1,4 @@
-//! The call that checks whether the words represent a ring with a head, and that counts its members.
+//! The call that checks whether the words of a table represent a ring with a given head, and that counts the members.
 //!
 //! ```text
 //! uint64_t members;
@@ -12,11 +12,11 @@ ghost use Rattle.ic_raw_lists.specs.RingCheckCalls.{RingCheckCall};
 use ic_raw::RawTwo;
 use ic_raw_lists::ring_check_calls;
 
-/// Checks that the words of `table` represent a ring with the head `head`, and stores the number of its members without the head in `members`, or
-/// returns [`BROKEN`](crate::BROKEN) if they do not represent one. O(n).
+/// Checks that the words of `table` represent a ring with the head `head`, and stores the number of its members in `members`. The head is not counted. If the
+/// words represent no ring with this head, the call returns [`BROKEN`](crate::BROKEN). O(n).
 ///
-/// The call writes nothing except `members`. The call returns [`NULL`](crate::NULL) if `head` is [`NONE`](crate::NONE). If it returns
-/// [`OK`](crate::OK), every other call on this ring does what the comment of that call says.
+/// The call writes nothing except `members`. The call returns [`NULL`](crate::NULL) if `head` is [`NONE`](crate::NONE). If the call returns [`OK`](crate::OK),
+/// every other call on this ring does what the comment of that call says.
 #[unsafe(no_mangle)]
 pub extern "C" fn ic_ring_check(table: &mut [RawTwo], head: u32, members: &mut u64) -> u32
     ensures { RingCheckCall table.old table.new result (place_of head) members.old members.new }

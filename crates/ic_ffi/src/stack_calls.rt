@@ -53,8 +53,8 @@ pub extern "C" fn ic_stack_insert_after(
     stack_calls::insert_after(table, list, at, place)
 }
 
-/// Removes the member after `at`, or the first member if `at` is [`NONE`](crate::NONE), and stores its number in `removed`, or returns
-/// [`NULL`](crate::NULL) if there is no member to remove. O(1).
+/// Removes the member after `at`, or the first member if `at` is [`NONE`](crate::NONE), and stores its number in `removed`. If there is no member to remove,
+/// the call returns [`NULL`](crate::NULL). O(1).
 ///
 /// If the place after `at` is not linked, the call returns [`BROKEN`](crate::BROKEN).
 #[unsafe(no_mangle)]

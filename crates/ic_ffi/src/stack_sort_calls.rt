@@ -30,9 +30,8 @@ pub extern "C" fn ic_stack_sort(table: &mut [RawOne], keys: &[u64], list: &mut R
 
 /// Merges the members of `given` into the list `list` by their keys, and leaves `given` empty. O(n).
 ///
-/// If both lists were sorted, the result is sorted, and among members with equal keys the members of `list` come first. There must be a key for each
-/// place of the table. If the words do not represent two lists, or if both lists end with the same member, which is so if they share members, the call
-/// returns [`BROKEN`](crate::BROKEN).
+/// If both lists were sorted, the result is sorted, and among members with equal keys the members of `list` come first. There must be a key for each place of
+/// the table. If the words do not represent two lists, or if the two lists share a member, the call returns [`BROKEN`](crate::BROKEN).
 #[unsafe(no_mangle)]
 pub extern "C" fn ic_stack_merge(
     table: &mut [RawOne],

@@ -1,4 +1,4 @@
-//! The calls of trees whose members have sums, which are in an array of the caller's own. Some calls edit the tree and keep the sums right. Other calls
+//! The calls of trees whose members have sums. The sums are in an array that the caller owns. Some calls edit the tree and keep the sums right. Other calls
 //! find the member at a position, the position of a member, the sum of the members before a member, and intervals that overlap.
 //!
 //! ```text
@@ -36,8 +36,8 @@ pub extern "C" fn ic_tree_sums_insert(
     edit_calls::insert(table, keys, sums, Kind::of(kind), tree, place)
 }
 
-/// Inserts a place as the left child of the member `at`, or as the only member if `at` is [`NONE`](crate::NONE), and updates the sums that the edit
-/// changes. O(log n).
+/// Inserts a place as the left child of the member `at`, and updates the sums that the edit changes. If `at` is [`NONE`](crate::NONE), the place becomes the
+/// only member. O(log n).
 ///
 /// The place must belong to the table and must not be linked, and there must be a sum for each place of the table.
 #[unsafe(no_mangle)]
@@ -54,8 +54,8 @@ pub extern "C" fn ic_tree_sums_insert_left(
     edit_calls::insert_at(table, sums, Kind::of(kind), tree, Side::Left, at, place)
 }
 
-/// Inserts a place as the right child of the member `at`, or as the only member if `at` is [`NONE`](crate::NONE), and updates the sums that the edit
-/// changes. O(log n).
+/// Inserts a place as the right child of the member `at`, and updates the sums that the edit changes. If `at` is [`NONE`](crate::NONE), the place becomes the
+/// only member. O(log n).
 ///
 /// The place must belong to the table and must not be linked, and there must be a sum for each place of the table.
 #[unsafe(no_mangle)]
@@ -104,8 +104,8 @@ pub extern "C" fn ic_tree_sums_renew(
     sum_calls::renew(table, sums, Kind::of(kind), at)
 }
 
-/// Finds the first member after `at` such that the combined values of the members after `at`, up to and with the found member, exceed `bound`. The call
-/// stores its number in `found`. If `at` is [`NONE`](crate::NONE), the search and the values begin at the first member. The call returns
+/// Finds the first member after `at` at which the combined values exceed `bound`, and stores its number in `found`. These are the values of the members after
+/// `at` up to and including the found one. If `at` is [`NONE`](crate::NONE), the search and the values begin at the first member. The call returns
 /// [`NULL`](crate::NULL) if no member is found. The call writes nothing except `found`. O(log n).
 ///
 /// There must be a sum for each place of the table. If the sums of the tree are not right, the call may find another member, or return

@@ -1,4 +1,4 @@
-//! The calls that move a member of one doubly linked list into another one of the same table.
+//! The calls that move a member of one doubly linked list into another list of the same table.
 //!
 //! ```text
 //! ic_list_transfer_after(links, 64, &ready, IC_NONE, &waiting, 7); // IC_OK: 7 is the first member of `ready`, and no longer one of `waiting`
@@ -15,9 +15,9 @@ use ic_raw_lists::transfer_calls;
 /// Moves the member `place` of the list `given` after the member `at` of the list `list`, or to the front of `list` if `at` is [`NONE`](crate::NONE).
 /// The member stays linked during the call. O(1).
 ///
-/// The call returns [`NULL`](crate::NULL) if `place` is [`NONE`](crate::NONE). Otherwise the call returns the first fault of the two places. If neither
-/// place has a fault but the links do not fit together, the call returns [`BROKEN`](crate::BROKEN), for example if both lists begin with the same
-/// member.
+/// The call returns [`NULL`](crate::NULL) if `place` is [`NONE`](crate::NONE). If `at` or `place` is out of range or not linked, the call returns the status
+/// for this fault. Otherwise, if the links do not fit together, for example because both lists begin with the same member, the call returns
+/// [`BROKEN`](crate::BROKEN).
 #[unsafe(no_mangle)]
 pub extern "C" fn ic_list_transfer_after(
     table: &mut [RawTwo],
@@ -34,9 +34,9 @@ pub extern "C" fn ic_list_transfer_after(
 /// Moves the member `place` of the list `given` before the member `at` of the list `list`, or to the back of `list` if `at` is [`NONE`](crate::NONE).
 /// The member stays linked during the call. O(1).
 ///
-/// The call returns [`NULL`](crate::NULL) if `place` is [`NONE`](crate::NONE). Otherwise the call returns the first fault of the two places. If neither
-/// place has a fault but the links do not fit together, the call returns [`BROKEN`](crate::BROKEN), for example if both lists begin with the same
-/// member.
+/// The call returns [`NULL`](crate::NULL) if `place` is [`NONE`](crate::NONE). If `at` or `place` is out of range or not linked, the call returns the status
+/// for this fault. Otherwise, if the links do not fit together, for example because both lists begin with the same member, the call returns
+/// [`BROKEN`](crate::BROKEN).
 #[unsafe(no_mangle)]
 pub extern "C" fn ic_list_transfer_before(
     table: &mut [RawTwo],

@@ -70,8 +70,8 @@ pub extern "C" fn ic_tree_replace(
     tree_calls::replace(table, tree, at, place)
 }
 
-/// Stores in `found` the number of the member after `at`, or of the first member if `at` is [`NONE`](crate::NONE), or returns [`NULL`](crate::NULL) if
-/// there is no such member. The call writes nothing except `found`. O(log n), and O(1) on average over a walk.
+/// Stores in `found` the number of the member after `at`, or of the first member if `at` is [`NONE`](crate::NONE). If there is no such member, the call returns
+/// [`NULL`](crate::NULL). The call writes nothing except `found`. O(log n), and O(1) on average over a walk.
 #[unsafe(no_mangle)]
 pub extern "C" fn ic_tree_next(
     table: &mut [RawThree],
@@ -84,8 +84,8 @@ pub extern "C" fn ic_tree_next(
     tree_calls::step_at(table, tree, Side::Right, at, found)
 }
 
-/// Stores in `found` the number of the member before `at`, or of the last member if `at` is [`NONE`](crate::NONE), or returns [`NULL`](crate::NULL) if
-/// there is no such member. The call writes nothing except `found`. O(log n), and O(1) on average over a walk.
+/// Stores in `found` the number of the member before `at`, or of the last member if `at` is [`NONE`](crate::NONE). If there is no such member, the call returns
+/// [`NULL`](crate::NULL). The call writes nothing except `found`. O(log n), and O(1) on average over a walk.
 #[unsafe(no_mangle)]
 pub extern "C" fn ic_tree_prev(
     table: &mut [RawThree],

@@ -1,4 +1,4 @@
-//! The calls that make one red-black tree of two, and two of one.
+//! The calls that make one red-black tree from two trees, and two trees from one.
 //!
 //! ```text
 //! struct ic_link3 links[64] = {0};
@@ -29,8 +29,8 @@ pub extern "C" fn ic_tree_append(
     tree_move_calls::append(table, tree, given)
 }
 
-/// Inserts a place after all members of `tree`, and moves all members of `given` after the inserted place, so that `given` is empty. O(n), because the
-/// call checks both trees first. The same edit in Rattle, where types guarantee the links, needs no check and takes O(log n).
+/// Inserts a place after all members of `tree`, moves all members of `given` after the inserted place, and leaves `given` empty. O(n), because the call checks
+/// both trees first. The same edit in Rattle, where types guarantee the links, needs no check and takes O(log n).
 ///
 /// The call compares no keys. The place must belong to the table and must not be linked. If the words do not represent two trees that share no member,
 /// the call returns [`BROKEN`](crate::BROKEN).

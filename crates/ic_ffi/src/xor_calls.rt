@@ -66,7 +66,7 @@ pub extern "C" fn ic_xor_pop_back(table: &mut [RawOne], list: &mut RawEnds, popp
     xor_calls::pop_back(table, list, popped)
 }
 
-/// Inserts a place between the neighbors `before` and `after`. At an end of the list, the neighbor that does not exist is [`NONE`](crate::NONE). O(1).
+/// Inserts a place between the neighbors `before` and `after`. At an end of the list, the argument for the missing neighbor is [`NONE`](crate::NONE). O(1).
 ///
 /// The place must belong to the table and must not be linked. If the links do not make `before` and `after` neighbors, the call returns
 /// [`BROKEN`](crate::BROKEN).
@@ -135,7 +135,7 @@ pub extern "C" fn ic_xor_splice_between(
 
 /// Moves all members of `given` to the back of the list, and leaves `given` empty. O(1).
 ///
-/// The call returns [`BROKEN`](crate::BROKEN) if both lists begin with the same member, for example because `given` is the list itself. It also returns
+/// The call returns [`BROKEN`](crate::BROKEN) if both lists begin with the same member, for example because `given` is the list itself. The call also returns
 /// [`BROKEN`](crate::BROKEN) if an end of one of the lists does not belong to the table.
 #[unsafe(no_mangle)]
 pub extern "C" fn ic_xor_append(

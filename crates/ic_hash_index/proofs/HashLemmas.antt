@@ -39,7 +39,7 @@ module _ {W A : Type 0} (width : Width) (unlinked : W) (is_linked : W → Bool) 
   pub singly_off : (table width unlinked links).extent.places ≡ 0 → (p : Place) → IsUnlinked (linked_by is_linked) (table width unlinked links) p
   singly_off none p = false_from_ne_true _ (λ is. let within = singly_covered p is in absurd (omega (arith, within, none)))
 
--- if a fact X was stated for the case that an answer is true, and the answer is true, then X holds
+-- if X holds in the case that `answer` is true, and `answer` is true, then X holds
 pub on_true : {X : Type 0} (answer : Bool) → OnTrue answer X → answer ≡ true → X
 on_true true h e = h
 on_true false h e = absurd (true≢false (sym e))
@@ -51,7 +51,7 @@ at_member P s all q member = let m = member_split q s member in at m.0 m.1 (subs
   at [] back all = all.0
   at (x ∷ front) back all = at front back all.1
 
--- if a place q passes the test, and q is not a member of the places of s that pass it, then q is not a member of s
+-- if a place q passes the test, and q is not among the places of s that pass the test, then q is not in s
 absent_filtered : (test : Place → Bool) (q : Place) → test q ≡ true → (s : List Place) → IsAbsent q (filter test s) → IsAbsent q s
 absent_filtered test q passed [] out = tt
 absent_filtered test q passed (x ∷ s) out = by (test x) refl (absent_filtered test q passed s) out where
@@ -142,7 +142,7 @@ module _ {E A B T : Type 0} {succ : E → Successor} {linked : E → Bool} (alik
                 (λ n none. also.others q n ∙ a.only q (sym (others_placed places q n) ∙ none));
           }
 
-    -- A CHAIN HAS NO MORE MEMBERS than there are values that belong in the chain k
+    -- chain k has at most as many members as there are values that belong in it
     hash_few : (k : ℕ) (used : k < table.slots.used) (order : List Place) → IsOrderOf objects order
         → length (chain_of a.held k used).chain ≤ count_by (λ v. nat_eq (slot_of table.slots (hash table.adapter v)) k) (values_at objects order)
     hash_few k used order whole =
@@ -165,7 +165,7 @@ module _ {E A B T : Type 0} {succ : E → Successor} {linked : E → Bool} (alik
       by None e = e
       by (Some v) e = absurd (a.all q (ap is_some e) out)
 
-    -- THE CHAIN k HAS A MEMBER if at least one value belongs in it
+    -- chain k has a member if at least one value belongs in it
     hash_some : (k : ℕ) (used : k < table.slots.used) (order : List Place) → IsOrderOf objects order
         → 1 ≤ count_by (λ v. nat_eq (slot_of table.slots (hash table.adapter v)) k) (values_at objects order) → 1 ≤ length (chain_of a.held k used).chain
     hash_some k used order whole one = by (chain_of a.held k used).chain refl where

@@ -1,4 +1,4 @@
--- Laws of a hash table whose members are all objects of a slab.
+-- Laws of a hash table whose members are all objects of a container.
 use Rattle.std.proofs.Common.{◌≡◌, ℕ, Bool, true, None, Some, Option, IsSome, is_some, List, [], ◌∷◌, sym, ap, ◌∙◌}
 use Rattle.std.specs.List.{AllByRecursion}
 use Rattle.ic_link_ops.specs.Prelude.{Place, Objects, object_at, is_placed, IsDisjoint, IsMember, Table, IsUnlinked}

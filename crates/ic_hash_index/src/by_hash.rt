@@ -16,8 +16,8 @@ use ic_link_ops::{OneNarrowWord, OneWord, TwoNarrowWords};
 use std::alloc::AllocError;
 use std::marker::PhantomData;
 
-/// The adapter that a hash table uses to hash keys. A hash is the upper 32 of the lower 64 bits of the product of the key and 2^64 divided by the
-/// golden ratio. Therefore consecutive keys are in different chains.
+/// The adapter that a hash table uses to hash keys. It multiplies a key by a constant, which is 2^64 divided by the golden ratio, rounded down. The hash
+/// consists of the bits 32 to 63 of the product, so consecutive keys are spread over the chains.
 ///
 /// A user who chooses the keys can choose them so that all of them are in one chain. `W` is the type of the words of the hash table's links. `O` is
 /// the type of the words of the links of the list that a container has beside the hash table.

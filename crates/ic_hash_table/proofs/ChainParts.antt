@@ -1,4 +1,4 @@
--- These lemmas are about a chain that is split in two, one member after the other.
+-- These lemmas are about a chain that is split in two, member by member.
 use Rattle.std.proofs.Common.{◌≡◌, ◌≢◌, inl, inr, Bool, true, false, Option, Some, None, List, [], ◌∷◌, ◌++◌, drop, length, refl, sym, ap, ◌∙◌, subst, arith, append_assoc, append-nil}
 use Rattle.std.specs.List.{AllByRecursion}
 use Rattle.std.specs.Cmp.{IsPartialEquivalence}
@@ -15,7 +15,7 @@ use Rattle.ic_hash_table.proofs.SideBySideSequences.{spans}
 use Rattle.ic_hash_table.specs.Chains.{RepresentsFrom}
 use Rattle.ic_link_ops.proofs.RepresentedLists.{represents_beside}
 
--- if a property holds for each member of s, it holds for the member q. It also holds for each sequence whose members are all in s
+-- if a property holds for each member of s, it holds for the member q of s, and for each member of a sequence whose members are all in s
 pub of_member : (P : Place → Type 0) (s : List Place) (q : Place) → AllByRecursion P s → IsMember q s → P q
 of_member P s q all member =
     let m = member_split q s member in
@@ -89,8 +89,8 @@ module _ {E : Type 0} {successor : E → Successor} where
       passed_absent : (q : Place) → IsAbsent q (k.passed ++ p ∷ []) → (q ≢ p) × IsAbsent q (k.staying ++ k.moving)
       passed_absent q out = ((absent_right q k.passed (p ∷ []) out).0, k.among q (absent_left q k.passed (p ∷ []) out))
 
-      -- if p becomes the first member of a new chain, alike members are side by side in this chain (`turned_on`). If p goes to the other chain, they still
-      -- are (`turned_past`)
+      -- if p becomes the first member of the new chain `out`, alike members are side by side in `out` (`turned_on`). If p goes to the other new chain, alike
+      -- members of `out` are still side by side (`turned_past`)
       module _ {alike : Place → Place → Bool} (laws : IsPartialEquivalence alike) (side : AreSideBySide alike chain) where
         turned_on : {out : List Place} → AreTurned alike k.left out → ((q : Place) → IsAbsent q k.passed → IsAbsent q out) → AreTurned alike (drop 1 k.left) (p ∷ out)
         turned_on {out} t among = record {
@@ -113,7 +113,7 @@ module _ {E : Type 0} {successor : E → Successor} where
       left_member out = (left_within p out).0 refl
 
       module _ {new : Table E} {next : Option Place} (others : (q : Place) → q ≢ p → new.entry q ≡ old.entry q) (is_next : next ≡ (successor (old.entry p)).next) where
-        -- the next member p stays, so it is added at the front of the chain of members that stay
+        -- if the next member p stays, it is added at the front of the chain of members that stay
         pub part_stays : {stays' : Option Place} → is p ≡ false → ((s : List Place) → RepresentsFrom successor old stays s → IsAbsent p s → RepresentsFrom successor new stays' (p ∷ s))
             → IsParted successor is new chain next stays' moves
         part_stays fails put =
@@ -141,7 +141,7 @@ module _ {E : Type 0} {successor : E → Successor} where
                   (turned_on laws side b.0 (λ q absent. absent_left q k.staying k.moving (k.among q absent)), turned_past laws side b.1);
             }
 
-        -- the next member p moves, so it is added at the front of the chain of members that move
+        -- if the next member p moves, it is added at the front of the chain of members that move
         pub part_moves : {moves' : Option Place} → is p ≡ true → ((s : List Place) → RepresentsFrom successor old moves s → IsAbsent p s → RepresentsFrom successor new moves' (p ∷ s))
             → IsParted successor is new chain next stays moves'
         part_moves passes put =
@@ -173,7 +173,7 @@ module _ {E : Type 0} {successor : E → Successor} where
                   (turned_past laws side b.0, turned_on laws side b.1 (λ q absent. absent_right q k.staying k.moving (k.among q absent)));
             }
 
-        -- the next member p stays or moves, and in both cases one member more is split off
+        -- whether the next member p stays or moves, one member more is split off
         pub part_either : {stays' moves' : Option Place} (b : Bool) → is p ≡ b
             → (b ≡ false → (moves' ≡ moves) × ((s : List Place) → RepresentsFrom successor old stays s → IsAbsent p s → RepresentsFrom successor new stays' (p ∷ s)))
             → (b ≡ true → (stays' ≡ stays) × ((s : List Place) → RepresentsFrom successor old moves s → IsAbsent p s → RepresentsFrom successor new moves' (p ∷ s)))

@@ -21,7 +21,7 @@ module _ {E : Type 0} {between : E → Option Place → Option Place → Type 0}
   unfolding releases_none
   passed_none chain starts = (record { walk = releases_none chain starts; keeps = refl; passed = tt }, refl)
 
-  -- ONE STEP ON: if the member p does not pass the test, the walk goes from p to the next member
+  -- if the member p does not pass the test, the walk goes from p to the next member
   pub passed_more : {t : Table E} {s : List Place} {before next : Option Place} {p : Place} → IsDistinct s → (k : HasPassed between is t s before (Some p)) → is p ≡ false
       → next ≡ first (drop 1 k.walk.rest)
       → (more : HasPassed between is t s (Some p) next) × (k.walk.rest ≡ p ∷ more.walk.rest) × (length more.walk.done ≡ length k.walk.done + 1)

@@ -1,4 +1,4 @@
--- These lemmas are about the chains of a hash table: they stay, they differ, and one chain is between the others.
+-- These lemmas say that most edits keep the chains of a hash table, that chains have one sequence, and that one chain is between the others.
 use Rattle.std.proofs.Common.{◌≡◌, ◌≢◌, ℕ, zero, suc, ◌+◌, ◌<◌, Bool, false, Option, None, List, [], ◌∷◌, ◌++◌, drop, length, slice_index_or, slice_set, refl, sym, ap, ◌∙◌, subst, arith, append_assoc}
 use Rattle.std.specs.List.{AllByRecursion}
 use Rattle.ic_link_ops.specs.Prelude.{Place, IsAbsent, IsDisjoint, Table}
@@ -10,7 +10,7 @@ use Rattle.ic_link_ops.proofs.SinglyLists.{followed_linked, followed_one}
 use Rattle.ic_hash_table.specs.Chains.{AreChained, RepresentsFrom}
 
 module _ {E : Type 0} {successor : E → Successor} {t : Table E} where
-  -- A CHAIN HAS ONE SEQUENCE: if it represents s and u, both are equal
+  -- if a chain represents both s and u, these sequences are equal
   pub chain_one : {front : Option Place} {s u : List Place} → RepresentsFrom successor t front s → RepresentsFrom successor t front u → s ≡ u
   chain_one shown other = represents_one (followed_one {s = successor}) shown other
 
@@ -28,7 +28,7 @@ disjoint_after [] r t d = d
 disjoint_after (x ∷ s) r t d = disjoint_after s r t d.1
 
 module _ {E : Type 0} (successor : E → Successor) (Belongs : ℕ → Place → Type 0) where
-  -- CHAINS STAY as they are, if only entries of places are changed that are no members of a chain
+  -- if an edit changes only entries at the places `touched`, and no member of a chain is in `touched`, the chains stay as they are
   pub chains_frame : (old new : Table E) (touched : List Place) (i : ℕ) (fronts : List (Option Place)) (s : List Place) → AreChained successor Belongs old i fronts s
       → IsDisjoint s touched → ((q : Place) → IsAbsent q touched → new.entry q ≡ old.entry q) → AreChained successor Belongs new i fronts s
   chains_frame old new touched i [] s h apart same = h
@@ -50,7 +50,7 @@ module _ {E : Type 0} (successor : E → Successor) (Belongs : ℕ → Place →
       subst (IsAbsent p) (sym is)
       (absent_both p chain rest (free_absent (followed_linked alike) shown off) (chains_free alike t (suc i) fs rest p more off))
 
-  -- all chains together have one sequence of members: if they have s and u, both are equal
+  -- if all chains together have the members s, and also the members u, these sequences are equal
   pub chains_one : (t : Table E) (i : ℕ) (fronts : List (Option Place)) (s u : List Place) → AreChained successor Belongs t i fronts s → AreChained successor Belongs t i fronts u → s ≡ u
   chains_one t i [] s u h k = h ∙ sym k
   chains_one t i (f ∷ fs) s u (chain, rest, is, shown, own, more) (chain', rest', is', shown', own', more') =
@@ -61,7 +61,7 @@ module _ {E : Type 0} (successor : E → Successor) (Belongs : ℕ → Place →
   chains_nothing t i [] none = refl
   chains_nothing t i (f ∷ fs) none = ([], [], refl, record { distinct = tt; chain = tt; head = none.0; tail = refl }, tt, chains_nothing t (suc i) fs none.1)
 
--- IF EACH MEMBER BELONGS in its chain by one rule, it belongs there by each weaker rule
+-- if each member belongs in its chain by the rule `Belongs`, and `Belongs` implies the rule `Weaker`, each member belongs there by `Weaker`
 pub chains_weakened : {E : Type 0} (successor : E → Successor) (Belongs Weaker : ℕ → Place → Type 0) → ((i : ℕ) (p : Place) → Belongs i p → Weaker i p)
     → (t : Table E) (i : ℕ) (fronts : List (Option Place)) (s : List Place) → AreChained successor Belongs t i fronts s → AreChained successor Weaker t i fronts s
 chains_weakened successor Belongs Weaker weaken t i [] s h = h
@@ -80,8 +80,8 @@ abbrev pub Above : (ℕ → Place → Type 0) → ℕ → Place → Type 0
 Above Belongs n p = (j : ℕ) × (n < j) × Belongs j p
 
 module _ {E : Type 0} (successor : E → Successor) (Belongs : ℕ → Place → Type 0) where
-  -- ONE CHAIN, with the number n, is between the chains before it and the chains after it. The chain can get another first member, and then all chains
-  -- have the members of the new chain between those of the others
+  -- the chain with the number n is between the chains before it and the chains after it. If this chain is replaced by a chain with the members `instead`, all
+  -- chains together have `ahead`, then `instead`, then `after` (`put`)
   pub record Between (t : Table E) (i k n : ℕ) (fronts : List (Option Place)) (s : List Place) : Type 1 where
     pub ahead : List Place
     pub chain : List Place
@@ -116,7 +116,7 @@ module _ {E : Type 0} (successor : E → Successor) (Belongs : ℕ → Place →
       subst (AllByRecursion (Above Belongs n)) (sym is)
       (all_both (Above Belongs n) chain rest (all_map (λ p b. (i, less, b)) chain own) (after_beyond t n (suc i) fs rest more (omega (arith, less))))
 
-  -- if two rules agree on the chains after chain n, the members of these chains also belong there by the other rule
+  -- if `Belongs` implies `Other` for each chain except chain n, the chains after chain n have the same members by the rule `Other`
   chains_above : (t : Table E) (n : ℕ) (Other : ℕ → Place → Type 0) → ((j : ℕ) (p : Place) → j ≢ n → Belongs j p → Other j p)
       → (i : ℕ) (fronts : List (Option Place)) (s : List Place) → n < i → AreChained successor Belongs t i fronts s → AreChained successor Other t i fronts s
   chains_above t n Other other i [] s less h = h

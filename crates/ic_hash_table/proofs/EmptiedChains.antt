@@ -37,7 +37,7 @@ module _ {L E : Type 0} (successor : E → Successor) (table : L → Table E) (T
     pub next_chain : Between successor (λ i p. ⊤) (table mid) 0 at at fronts k.rest
     next_chain = chain_at successor (λ i p. ⊤) (table mid) 0 at at fronts k.rest (omega arith) in_bounds k.chained
 
-    -- ONE CHAIN MORE is emptied, and its members are unlinked
+    -- one chain more is emptied, and its members are unlinked
     pub empties_more : (does_on : (a b c : L) (r u : List LinkStep) → Trace a b r → Trace b c u → Trace a c (r ++ u)) (new : L) (none : (j : ℕ) → j < at → slice_index_or fronts j None ≡ None) → IsDistinct s
         → Trace mid new (releases_each next_chain.chain) → ChangesOnlyIn (table mid) (table new) next_chain.chain → Empties old new (at + 1) (slice_set fronts at None) s
     empties_more does_on new none distinct steps frame =
@@ -65,7 +65,7 @@ none_below at fronts in_bounds none j less = elim (eq-or-lt_of_le {n = j} {m = a
   | inr l ↦ get_or-set_other fronts at j None None (λ e. absurd (omega (arith, l, e))) ∙ none j l
 ]
 
--- if each chain is empty by its number, all first members of the row are none
+-- if the first member at each index of a row is none, all first members of the row are none
 pub all_none : (fronts : List (Option Place)) → ((j : ℕ) → j < length fronts → slice_index_or fronts j None ≡ None) → AllByRecursion (λ front. front ≡ None) fronts
 all_none [] none = tt
 all_none (f ∷ fs) none = (none 0 (omega arith), all_none fs (λ j less. none (suc j) (omega (arith, less))))

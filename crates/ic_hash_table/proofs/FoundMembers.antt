@@ -103,7 +103,7 @@ place_elsewhere slots hash objects k p placed here q (j, differs, belongs) = not
   by None there some e = absurd (true≢false (sym some))
   by (Some v) there some e = differs (sym (belongs v (ap (object_at objects) (sym e) ∙ there)) ∙ here v there)
 
--- an option without a value is none, and an option with a value is not
+-- if `is_some o` is false, the option o is none (`none_of`). If `is_some o` is true, o has a value (`some_of`)
 pub none_of : {X : Type 0} (o : Option X) → is_some o ≡ false → o ≡ None
 none_of None e = refl
 none_of (Some x) e = absurd (true≢false e)
@@ -112,14 +112,14 @@ pub some_of : {X : Type 0} (o : Option X) → is_some o ≡ true → (x : X) × 
 some_of None e = absurd (true≢false (sym e))
 some_of (Some x) e = (x, refl)
 
--- A WALK TO THE PLACE p has come to the end of the chain, so p is no member of the table
+-- if a walk to the place p has come to the end of the chain, p is no member of the table
 pub nowhere : {E : Type 0} {successor : E → Successor} {Belongs : ℕ → Place → Type 0} {t : Table E} {k : ℕ} {fronts : List (Option Place)} {s : List Place} (p : Place)
     → (c : Between successor Belongs t 0 k k fronts s) → ((q : Place) → Elsewhere Belongs k q → is_place p q ≡ false)
     → {before : Option Place} (at : Option Place) → StopsAt (is_place p) c.chain before at → is_some at ≡ false → IsAbsent p s
 nowhere {s = s} p c elsewhere at stop none =
     place_absent p s (finds c elsewhere None (subst (StopsAt (is_place p) c.chain _) (none_of at none) stop))
 
--- a walk to the place p has stopped before the end, so p is in the chain directly after the member `before`
+-- if a walk to the place p has stopped before the end, p is in the chain directly after the member `before`
 pub stops_place : {E : Type 0} {successor : E → Successor} {t : Table E} {front : Option Place} {chain : List Place} {before : Option Place} {p : Place} (at : Option Place) → StopsAt (is_place p) chain before at
     → is_some at ≡ true → RepresentsFrom successor t front chain → (ahead back : List Place) × RepresentsFrom successor t front (ahead ++ p ∷ back) × (before ≡ last ahead)
 stops_place {successor = successor} {t = t} {front = front} {before = before} {p = p} at stop some shown =

@@ -21,7 +21,7 @@ use Rattle.ic_hash_table.proofs.SideBySideSequences.{front_beside, back_beside}
 use Rattle.ic_hash_table.proofs.SideBySideChains.{BelongTogether, middle_beside}
 use Rattle.ic_hash_table.proofs.SlotLemmas.{slot_used}
 
--- if the object v is at the place p, a test of the place p is a test of v
+-- if the object at the place p has the value v, the test of the place p has the same result as the test of v
 tested : {V : Type 0} (equal : V → Bool) (objects : Objects V) (p : Place) (v : V) → object_at objects p ≡ Some v → (b : Bool) → matches equal objects p ≡ b → equal v ≡ b
 tested equal objects p v there b is = sym (ap (λ o. passes equal o) there) ∙ is
 
@@ -35,7 +35,7 @@ pub middle_apart : (a m b : List Place) → IsDistinct (a ++ (m ++ b)) → IsDis
 middle_apart a m b d =
     disjoint_sym (a ++ b) m (disjoint_both a b m (disjoint_left a m b (distinct_disjoint a (m ++ b) d)) (disjoint_sym m b (distinct_disjoint m b (distinct_right a (m ++ b) d))))
 
--- the middle part of a sequence can be replaced by a part with only places of the old one, and no place is twice in the sequence
+-- if the middle part of a sequence is replaced by a part with only places of the old one, the sequence still has no place twice
 within_middle : (a m b u : List Place) → IsDistinct (a ++ (m ++ b)) → IsDistinct u → ((q : Place) → IsAbsent q m → IsAbsent q u) → IsDistinct (a ++ (u ++ b))
 within_middle a m b u d e adds_none =
     distinct_splice a u b (without_middle a m b d) e (disjoint_sym (a ++ b) u (absent_swap (a ++ b) m (disjoint_sym m (a ++ b) (middle_apart a m b d)) u adds_none))
@@ -165,7 +165,7 @@ module _ {E A B V : Type 0} (successor : E → Successor) (hash : A → V → �
           let chain = all_parts q (absent_both q part.staying part.moving (absent_left q part.staying c.after rest) (absent_left q part.moving new_chain.after tail)) in
           subst (IsAbsent q) (sym c.parts) (absent_both q c.ahead (c.chain ++ c.after) (absent_left q c.ahead (part.staying ++ c.after) stay) (absent_both q c.chain c.after chain (absent_right q part.staying c.after rest)))
 
-      -- the members after the split: those that move are in the position of the new chain
+      -- the sequence of the members after the split, in which the members that move are at the position of the new chain
       abbrev grown : List Place
       grown = new_chain.ahead ++ (part.moving ++ new_chain.after)
 

@@ -1,4 +1,4 @@
--- After an edit of one chain, these lemmas say which sequence the table holds.
+-- These lemmas say which sequence the table holds after an edit of one chain.
 use Rattle.std.proofs.Common.{◌≡◌, ℕ, ◌+◌, ◌<◌, ◌≤◌, Bool, Option, Some, None, IsSome, IfSome, Result, Ok, Err, OnOk, List, [], ◌∷◌, ◌++◌, length, length-append, slice_index_or, slice_set, refl, sym, ap, ◌∙◌, subst, arith, append_assoc}
 use Rattle.std.specs.List.{AllByRecursion}
 use Rattle.std.proofs.lemmas.List.{length-set}
@@ -32,7 +32,7 @@ one_cut (x ∷ a) b (y ∷ c) d p distinct e =
     let k = one_cut a b c d p distinct.1 r in
     (rw h (ap (λ (l : List Place). y ∷ l) k.0), k.1)
 
--- if a sequence has no place twice, its middle part shares no place with the part before it, and none with the part after it
+-- if a sequence has no place twice, its middle part shares no place with the part before it, and no place with the part after it
 pub middle_ahead : (a m b : List Place) → IsDistinct (a ++ (m ++ b)) → IsDisjoint a m
 middle_ahead a m b d = disjoint_left a m b (distinct_disjoint a (m ++ b) d)
 
@@ -53,14 +53,14 @@ first_ahead (Some q) (x ∷ back) after here = here
 abbrev UpTo : {V : Type 0} → Slots → (V → ℕ) → Objects V → ℕ → Place → Type 0
 UpTo slots hash objects k p = (j : ℕ) × (j ≤ k) × BelongsIn slots hash objects j p
 
--- the hash table with other buckets and another number of members
+-- the hash table with the buckets `buckets` and the number of members `len` instead of its own
 abbrev pub with_buckets : {A B : Type 0} → HashTable A B → B → ℕ → HashTable A B
 with_buckets table buckets len = record { adapter = table.adapter; buckets = buckets; slots = table.slots; len = len }
 
 module _ {E A B V : Type 0} (successor : E → Successor) (hash : A → V → ℕ) (fronts : B → List (Option Place)) where
   module _ {old new : Table E} {table : HashTable A B} {objects : Objects V} {k : ℕ} {front : Option Place} (p : Place) (buckets : B) (len : ℕ) (used : k < table.slots.used)
       (set : fronts buckets ≡ slice_set (fronts table.buckets) k front) where
-    -- ONE MEMBER MORE: if p is inserted at a gap of chain k, the table holds s with p inserted at this gap
+    -- if p is inserted at a gap of chain k, the table holds s with p inserted at this gap
     pub held_put : {s : List Place} → Holds successor hash fronts old table objects s → IsSome (object_at objects p) → ((v : V) → object_at objects p ≡ Some v → slot_of table.slots (hash table.adapter v) ≡ k)
         → IsAbsent p s → (gap : Cut) → RepresentsFrom successor old (slice_index_or (fronts table.buckets) k None) (join gap) → RepresentsFrom successor new front (insert gap p)
         → ChangesOnlyIn old new (p ∷ join gap) → len ≡ table.len + 1 → HoldsAt successor hash fronts new (with_buckets table buckets len) objects s gap p
@@ -102,7 +102,7 @@ module _ {E A B V : Type 0} (successor : E → Successor) (hash : A → V → �
               absurd (omega (arith, one.1, other.1, e));
         }
 
-    -- ONE MEMBER LESS: if p is removed from chain k, the table holds the sequence without p
+    -- if p is removed from chain k, the table holds the sequence without p
     pub held_taken : (a b : List Place) → Holds successor hash fronts old table objects (a ++ p ∷ b)
         → (ahead back : List Place) → RepresentsFrom successor old (slice_index_or (fronts table.buckets) k None) (ahead ++ p ∷ back) → RepresentsFrom successor new front (ahead ++ back)
         → ChangesOnlyIn old new (ahead ++ p ∷ back) → table.len ≡ len + 1 → Holds successor hash fronts new (with_buckets table buckets len) objects (a ++ b)
@@ -127,7 +127,7 @@ module _ {E A B V : Type 0} (successor : E → Successor) (hash : A → V → �
           enough = omega (arith, held.enough, ap length set, length-set (fronts table.buckets) k front);
         }
 
--- THE FRAME: an edit that changes only entries of one chain's members changes only entries of the table's members
+-- an edit that changes only entries of one chain's members changes only entries of the table's members
 module _ {E : Type 0} {successor : E → Successor} {Belongs : ℕ → Place → Type 0} {t : Table E} {k : ℕ} {fronts : List (Option Place)} {s : List Place} (c : Between successor Belongs t 0 k k fronts s) where
   pub absent_chain : (q : Place) → IsAbsent q s → IsAbsent q c.chain
   absent_chain q out = absent_left q c.chain c.after (absent_right q c.ahead (c.chain ++ c.after) (subst (IsAbsent q) c.parts out))
@@ -164,7 +164,7 @@ held_before found stop finds h = record {
   in_front = first_ahead found stop.gap.back h.after stop.here;
 }
 
--- if P implies Q, and P holds if the result is accepted, Q holds if the result is accepted
+-- if P implies Q, and P holds in case the result is `Ok`, then Q holds in case the result is `Ok`
 pub on_ok : {A X P Q : Type 0} (r : Result A X) → (P → Q) → OnOk r P → OnOk r Q
 on_ok (Ok a) follows holds = follows holds
 on_ok (Err e) follows holds = tt

@@ -12,7 +12,8 @@ use Rattle.ic_hash_table.specs.Buckets.{AreRewritten}
 use Rattle.ic_hash_table.specs.Chains.{RepresentsFrom}
 use Rattle.ic_hash_table.specs.HashTable.{KeepsBuckets}
 
--- IF A PROPERTY HOLDS for each linked place, it holds for the first member of a represented chain, so that a bucket has room for it
+-- if a property holds for each linked place, it holds for the first member of a represented chain. If the property is that buckets have room for the place, a
+-- bucket has room for this member
 pub front_kept : {E : Type 0} {successor : E → Successor} {linked : E → Bool} → ((e : E) → (successor e).linked ≡ linked e) → {t : Table E} {can : Place → Type 0}
     → ((q : Place) → IsLinked linked t q → can q) → (front : Option Place) (s : List Place) → RepresentsFrom successor t front s → IsNameable can front
 front_kept alike {can = can} named front s shown = end_named can front (λ q e. named q (gap_after_linked (followed_linked alike) [] s shown (sym e ∙ shown.head)))
@@ -23,7 +24,7 @@ module _ {A B : Type 0} {fronts : B → List (Option Place)} {Rewrites : B → B
   pub keeps_buckets : {old new : HashTable A B} → Rewrites old.buckets new.buckets → KeepsBuckets fronts Rewrites old new
   keeps_buckets {old} {new} r = record { count = count old.buckets new.buckets r; rewrites = r }
 
--- PLAIN WORDS that were all 0 are all 0 again, if they were rewritten and none of them names a place
+-- plain words that were all 0 are all 0 again, if they were rewritten and none of them names a place
 pub emptied_words : (vs ws : List ℕ) → AreRewritten place_at word_of vs ws → AllByRecursion (λ word. word ≡ 0) vs → AllByRecursion (λ front. front ≡ None) (map place_at ws)
     → AllByRecursion (λ word. word ≡ 0) ws
 emptied_words [] [] r zero none = tt

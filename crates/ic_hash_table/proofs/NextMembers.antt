@@ -90,7 +90,7 @@ module _ {E A B V : Type 0} {successor : E → Successor} {hash : A → V → �
         sym is ∙ c.parts ∙ ap (λ l. c.ahead ++ (l ++ c.after)) m.2 ∙ ap (λ l. c.ahead ++ l) (append_assoc m.0 (place ∷ m.1) c.after) ∙ sym (append_assoc c.ahead m.0 (place ∷ m.1 ++ c.after)) in
         (m.0, m.1, m.2, (one_cut front back (c.ahead ++ m.0) (m.1 ++ c.after) place (subst IsDistinct is held.distinct) whole).1)
 
--- a gap directly after a place cuts the sequence into the members before the place, the place itself, and the members after it
+-- a gap directly after a place cuts the sequence into the members before the place, the place itself, and the members after the place
 pub gap_after : (gap : Cut) (place : Place) → Some place ≡ last gap.front → join gap ≡ but_last gap.front ++ place ∷ gap.back
 gap_after gap place after = ap (λ l. l ++ gap.back) (split_last gap.front (sym after)) ∙ append_assoc (but_last gap.front) (place ∷ []) gap.back
 
@@ -114,7 +114,7 @@ module _ {V : Type 0} (slots : Slots) (hash : V → ℕ) (objects : Objects V) (
   pub slot_of_place : (p : Place) → IsSome (object_at objects p) → (k : ℕ) × (k < slots.used) × BelongsIn slots hash objects k p
   slot_of_place p placed = own_slot p (object_at objects p) refl placed
 
--- A MEMBER'S ENTRY names the next member of its chain
+-- the entry of the member `place` names the next member of its chain
 module _ {E A B V : Type 0} {successor : E → Successor} {hash : A → V → ℕ} {fronts : B → List (Option Place)} {t : Table E} {table : HashTable A B} {objects : Objects V}
     (gap : Cut) (held : Holds successor hash fronts t table objects (join gap)) (place : Place) (after : Some place ≡ last gap.front) where
   pub place_placed : IsSome (object_at objects place)
@@ -129,7 +129,7 @@ module _ {E A B V : Type 0} {successor : E → Successor} {hash : A → V → �
         let e = represents_middle b.0 b.1 ((subst (RepresentsFrom successor t (slice_index_or (fronts table.buckets) k None)) b.2 (chain_of held k used).shown)) in
         (b.1, record { linked = e.linked; next = e.next }, b.3)
 
--- THE REST OF A CHAIN after the member p begins the members after p. None of the remaining members belongs in this chain
+-- after the member p come first the members of the rest of its chain, and then other members. No other member belongs in this chain
 pub record RestOfChain {E A B V : Type 0} (successor : E → Successor) (hash : A → V → ℕ) (t : Table E) (table : HashTable A B) (objects : Objects V) (p : Place) (back : List Place) : Type 0 where
   pub slot : ℕ
   pub rest : List Place
@@ -161,7 +161,7 @@ rest_of_chain {successor = successor} {hash = hash} {fronts = fronts} {t = t} {t
       elsewhere = c.after_others;
     }
 
--- A WALK ALONG THE REST OF A CHAIN finds the first member after p whose object equals, among all members after p
+-- a walk along the rest of a chain after the member p finds the first of all members after p whose object passes the test `equal`
 pub finds_after : {E A B V : Type 0} {successor : E → Successor} {hash : A → V → ℕ} {t : Table E} {table : HashTable A B} {objects : Objects V} {p : Place} {back : List Place} {equal : V → Bool}
     → (r : RestOfChain successor hash t table objects p back) → ((v : V) → equal v ≡ true → slot_of table.slots (hash table.adapter v) ≡ r.slot)
     → {before : Option Place} (at : Option Place) → StopsAt (matches equal objects) r.rest before at → Finds (matches equal objects) back at

@@ -18,14 +18,14 @@ use Rattle.ic_hash_table.specs.Iter.{members_of, after, objects_left, CanWalk}
 use Rattle.ic_hash_table.proofs.FoundMembers.{not_place}
 use Rattle.ic_hash_table.proofs.NextMembers.{gap_after}
 
--- THE ENTRIES LEAD from the first member of each chain through all members
+-- the entries lead from the first member of each chain through all members of the sequence s
 pub members_are : {E : Type 0} (successor : E → Successor) (t : Table E) → ((q : Place) → (successor (t.entry q)).linked ≡ true → IsCovered t q)
     → (Belongs : ℕ → Place → Type 0) (i : ℕ) (fronts : List (Option Place)) (s : List Place) → AreChained successor Belongs t i fronts s → members_of successor t fronts ≡ s
 members_are successor t covered Belongs i [] s h = sym h
 members_are successor t covered Belongs i (f ∷ fs) s (chain, rest, is, shown, own, more) =
     ap (λ c. c ++ members_of successor t fs) (members_represented t covered (list_from f) chain shown) ∙ ap (λ r. chain ++ r) (members_are successor t covered Belongs (suc i) fs rest more) ∙ sym is
 
--- AFTER A MEMBER come the members that follow it in the sequence, and after a gap come the members after the gap
+-- `after` of a member is the sequence of the members after it (`after_member`). If a walk is at the gap `gap`, the members after the gap are left (`after_gap`)
 pub after_member : (front back : List Place) (p : Place) → IsDistinct (front ++ p ∷ back) → after (Some p) (front ++ p ∷ back) ≡ back
 after_member [] back p d = ap (λ b. cond b back (after (Some p) back)) (eq-eqb p.word p.word refl)
 after_member (x ∷ front) back p d =

@@ -10,7 +10,7 @@ use Rattle.ic_hash_table.specs.Iter.{members_of, after}
 use Rattle.ic_hash_table.specs.Retained.{TellsAt, AreAnswers, passing, failing}
 use Rattle.ic_hash_table.proofs.RemainingMembers.{members_are, after_member}
 
--- the members of s from the given place on, or no members if no place is given
+-- the members of s from the given place p on, or no members if no place is given
 abbrev pub ahead_of : Option Place → List Place → List Place
 ahead_of None s = []
 ahead_of (Some p) s = p ∷ after (Some p) s
@@ -24,8 +24,8 @@ ahead_is front (x ∷ back) (Some p) d here =
 
 module _ {L E A B V F : Type 0} (successor : E → Successor) (table : L → Table E) (Trace : L → L → List LinkStep → Type 0) (hash : A → V → ℕ) (fronts : B → List (Option Place)) (objects : Objects V)
     (tells : F → V → Bool → F → Type 0) where
-  -- the walk over s is at the member `at`. It has kept the earlier members that passed the test and removed those that failed, and the test is now in the
-  -- state `asked`. Further results for the members from `at` on complete the results for s
+  -- the walk over s is at the member `at`. It has kept the earlier members that passed the test and removed those that failed, and the test is now in the state
+  -- `asked`. Its earlier results, with further results for the members from `at` on, are the results for s
   pub record Retains (start now : L) (held : HashTable A B) (s : List Place) (at : Option Place) (test asked : F) : Type 0 where
     pub kept : List Place
     pub gone : List Place
@@ -95,7 +95,7 @@ module _ {L E A B V F : Type 0} {successor : E → Successor} {table : L → Tab
           a.3 ∙ ap (λ l. r.gone ++ failing (answer ∷ later) l) ahead_first,
         )
 
-    -- the member p passes the test, and the table keeps it
+    -- if the member p passes the test, the table keeps it
     pub retains_kept : {next : Option Place} {after : F} → next ≡ first (drop 1 r.ahead) → TellsAt tells objects asked p true after
         → (more : Retains successor table Trace hash fronts objects tells start now held s next test after) × (more.ahead ≡ drop 1 r.ahead)
     retains_kept is_next told = (
@@ -115,7 +115,7 @@ module _ {L E A B V F : Type 0} {successor : E → Successor} {table : L → Tab
       refl,
     )
 
-    -- the member p fails the test, and the table no longer holds it
+    -- if the member p fails the test, the table does not hold it after the step
     pub retains_gone : (does_on : (a b c : L) (u v : List LinkStep) → Trace a b u → Trace b c v → Trace a c (u ++ v)) {next : Option Place} {new : L} {rest : HashTable A B} {after : F}
         → next ≡ first (drop 1 r.ahead) → TellsAt tells objects asked p false after → Holds successor hash fronts (table new) rest objects (r.kept ++ drop 1 r.ahead)
         → Trace now new (releases p ∷ []) → ChangesOnlyIn (table now) (table new) (r.kept ++ p ∷ drop 1 r.ahead)

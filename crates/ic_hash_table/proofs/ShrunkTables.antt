@@ -20,8 +20,8 @@ use Rattle.ic_hash_table.proofs.ChainParts.{of_members, nothing_represented}
 use Rattle.ic_hash_table.proofs.GrownTables.{without_middle, middle_apart}
 use Rattle.ic_hash_table.proofs.HeldTables.{middle_ahead, middle_after}
 
--- THE LAST CHAIN is joined to the chain `to`. `others`: what belongs in a chain other than the last also belongs there afterwards. `moved`: what belongs
--- in the last chain belongs in chain `to` afterwards
+-- chain `last` is joined to chain `to`. By `others`, a place that belongs in another chain than `last` still belongs there afterwards. By `moved`, a place that
+-- belongs in chain `last` belongs in chain `to` afterwards
 module _ {E : Type 0} (successor : E → Successor) (Belongs Fewer : ℕ → Place → Type 0) (last to : ℕ) (less : to < last) (others : (j : ℕ) (p : Place) → j ≢ last → Belongs j p → Fewer j p)
     (moved : (p : Place) → Belongs last p → Fewer to p) (old : Table E) (fronts : List (Option Place)) (s : List Place) (distinct : IsDistinct s) (chained : AreChained successor Belongs old 0 fronts s)
     (in_bounds : last < length fronts) where
@@ -135,8 +135,8 @@ module _ {E : Type 0} (successor : E → Successor) (Belongs Fewer : ℕ → Pla
       middle_beside Fewer alike fewer to j.ahead (l.chain ++ j.chain) j.after (front_beside alike j.ahead (j.chain ++ j.after) parts) both (back_beside alike j.chain j.after end)
       j.ahead_below (all_both (Fewer to) l.chain j.chain (all_map moved l.chain l.own) j.own) j.after_above
 
--- if one chain less is in use, an object of another chain than the last belongs where it did. An object of the last chain belongs in the chain from which
--- the last was split
+-- after one chain is taken out of use, an object of another chain still belongs in its chain. An object of the last chain belongs in the chain from which the
+-- last was split
 module _ {V : Type 0} (small large : Slots) (hash : V → ℕ) (objects : Objects V) (split : IsSplit small large) where
   pub others_belong : (j : ℕ) (p : Place) → j ≢ small.used → BelongsIn large hash objects j p → BelongsIn small hash objects j p
   others_belong j p other belongs v there = sym (split.others (hash v) (λ e. other (sym (belongs v there) ∙ e))) ∙ belongs v there

@@ -1,4 +1,4 @@
--- If alike members are side by side in every chain, they are side by side in the sequence of all chains.
+-- If alike members, for example members with equal keys, are side by side in every chain, they are side by side in the sequence of all chains.
 use Rattle.std.proofs.Common.{◌≡◌, ℕ, ◌<◌, ◌≤◌, Bool, true, true≢false, Option, Some, None, List, ◌++◌, refl, sym, ap, ◌∙◌, subst, arith}
 use Rattle.std.specs.List.{AllByRecursion}
 use Rattle.ic_link_ops.specs.Prelude.{Place, Objects, object_at, IsMember}
@@ -12,7 +12,7 @@ use Rattle.ic_hash_table.proofs.ChainParts.{of_member}
 use Rattle.ic_hash_table.proofs.Chains.{Below, Above}
 use Rattle.ic_hash_table.proofs.SideBySideSequences.{join_beside}
 
--- ALIKE MEMBERS BELONG TOGETHER, which means that they belong in one chain
+-- `BelongTogether Belongs alike`: two alike places belong in the same chain
 abbrev pub BelongTogether : (ℕ → Place → Type 0) → (Place → Place → Bool) → Type 0
 BelongTogether Belongs alike = (i j : ℕ) (x y : Place) → Belongs i x → Belongs j y → alike x y ≡ true → i ≡ j
 
@@ -29,8 +29,7 @@ module _ (Belongs : ℕ → Place → Type 0) (alike : Place → Place → Bool)
       let l = of_member (In Q) b y in_b other in
       never k.0 k.1 (subst Q (sym (together k.0 l.0 x y k.2 l.2 same)) l.1)
 
-  -- ONE CHAIN IS BETWEEN OTHERS: if alike members are side by side before the chain, in the chain and after it, they are side by side in the whole
-  -- sequence
+  -- if alike members are side by side before a chain, in the chain and after it, they are side by side in the whole sequence
   pub middle_beside : (n : ℕ) (a m b : List Place) → AreSideBySide alike a → AreSideBySide alike m → AreSideBySide alike b
       → AllByRecursion (Below Belongs n) a → AllByRecursion (Belongs n) m → AllByRecursion (Above Belongs n) b → AreSideBySide alike (a ++ (m ++ b))
   middle_beside n a m b ahead middle after below own above =

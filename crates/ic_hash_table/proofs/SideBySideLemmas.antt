@@ -1,4 +1,4 @@
--- Members with equal keys are side by side, and these lemmas say that they still are after one member is inserted.
+-- These lemmas say that members with equal keys are still side by side after one member is inserted.
 use Rattle.std.proofs.Common.{◌≡◌, ◌≢◌, ℕ, drop, Bool, true, false, true≢false, Option, Some, None, IfSome, List, [], ◌∷◌, ◌++◌, refl, sym, ap, subst, ◌∙◌}
 use Rattle.std.specs.List.{AllByRecursion}
 use Rattle.std.specs.Cmp.{IsPartialEquivalence, IsEquivalence}
@@ -15,7 +15,7 @@ use Rattle.ic_hash_table.proofs.ChainParts.{of_member}
 use Rattle.ic_hash_table.proofs.SideBySideSequences.{put_beside, spans}
 use Rattle.ic_hash_table.proofs.HeldTables.{one_cut}
 
--- EQUAL KEYS make members alike, and this relation of members is symmetric and transitive
+-- two members are alike if their keys are equal, and this relation of members is symmetric and transitive
 module _ {V K : Type 0} {eq : K → K → Bool} (laws : IsEquivalence eq) (key_of : V → K) where
   abbrev both : Option V → Option V → Bool
   both o r = passes (λ value. passes (λ other. eq (key_of value) (key_of other)) r) o
@@ -47,7 +47,7 @@ module _ {V K : Type 0} {eq : K → K → Bool} (laws : IsEquivalence eq) (key_o
     by (Some v) None at_x at_y e = true≢false (sym e)
     by (Some v) (Some w) at_x at_y e = differ v w at_x at_y (same v w e)
 
--- the members whose keys equal the key of the object at p are those that have the key of this object
+-- a member has the same key as the member p if and only if it has the key of the object at p
 pub has_its_key : {V K : Type 0} (eq : K → K → Bool) (key_of : V → K) (objects : Objects V) (p q : Place) (value : V) → object_at objects p ≡ Some value
     → same_key eq key_of objects p q ≡ has_key eq key_of (key_of value) objects q
 has_its_key eq key_of objects p q value there = ap (passes (λ value. has_key eq key_of (key_of value) objects q)) there
@@ -97,7 +97,7 @@ module _ {is : Place → Bool} {same : Place → Place → Bool} (laws : IsParti
             (in_front f rest q (subst (AreSideBySide same) whole side) (subst (AllByRecursion (λ x. is x ≡ false)) cut.0 found.3) found.4),
       )
 
--- an object is inserted where a walk along its chain has stopped, and members with equal keys are side by side afterwards. The table has kept its adapter
+-- if an object is inserted where a walk along its chain has stopped, members with equal keys are still side by side. The table has kept its adapter
 pub keys_beside : {E A B V K : Type 0} {successor : E → Successor} {eq : K → K → Bool} (laws : IsEquivalence eq) (key_of : A → V → K) {hash : A → V → ℕ} {fronts : B → List (Option Place)} {t : Table E}
     {table : HashTable A B} {objects : Objects V} (a : A) → ((v w : V) → eq (key_of a v) (key_of a w) ≡ true → hash a v ≡ hash a w) → table.adapter ≡ a
     → (p : Place) (value : V) → object_at objects p ≡ Some value → {s chain : List Place} {before : Option Place} (found : Option Place)

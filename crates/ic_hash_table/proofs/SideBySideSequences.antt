@@ -1,4 +1,5 @@
--- In these sequences alike members are side by side. A member is inserted or removed, and sequences are joined and cut.
+-- In the sequences of these lemmas, alike members, for example members with equal keys, are side by side. A member is inserted or removed, and sequences are
+-- joined and cut.
 use Rattle.std.proofs.Common.{◌≡◌, ◌≢◌, Bool, true, Option, Some, None, IfSome, List, [], ◌∷◌, ◌++◌, refl, sym, subst, ◌∙◌, inl, inr}
 use Rattle.std.specs.Cmp.{IsPartialEquivalence}
 use Rattle.ic_link_ops.specs.Prelude.{Place, IsAbsent, IsMember, first}
@@ -16,8 +17,8 @@ if_some None follows h = tt
 if_some (Some q) follows h = follows q h
 
 module _ (alike : Place → Place → Bool) where
-  -- p IS INSERTED at a gap, and alike members are still side by side. No member before the gap is alike p or a member after the gap. If p is alike a
-  -- member after the gap, it is alike the first one
+  -- if p is inserted at a gap, alike members are still side by side. This requires that no member before the gap is alike p or a member after the gap. If p is
+  -- alike a member after the gap, p must be alike the first one
   pub put_beside : (p : Place) (f b : List Place) → AreSideBySide alike (f ++ b) → ((x y : Place) → IsMember x f → IsMember y b → alike x y ≡ true → ⊥)
       → ((x : Place) → IsMember x f → alike x p ≡ true → ⊥) → ((y : Place) → IsMember y b → alike p y ≡ true → IfSome (first b) (λ next. alike p next ≡ true))
       → AreSideBySide alike (f ++ p ∷ b)
@@ -37,7 +38,7 @@ module _ (alike : Place → Place → Bool) where
         apart x y (λ out. out.0 refl) (λ out_b. member (absent_both y f (p ∷ b) out_f (other, out_b))) same
 
 module _ (alike : Place → Place → Bool) (laws : IsPartialEquivalence alike) where
-  -- IF A MEMBER before a gap is alike a member after the gap, it is alike the member directly after the gap
+  -- if a member before a gap is alike a member after the gap, it is alike the member directly after the gap
   pub spans : (f b : List Place) (q : Place) → AreSideBySide alike (f ++ q ∷ b) → (x y : Place) → IsMember x f → IsMember y (q ∷ b) → alike x y ≡ true → alike x q ≡ true
   spans [] b q side x y member after same = absurd (member tt)
   spans (z ∷ []) b q side x y member after same = elim (same_or_not x z) [
@@ -53,7 +54,7 @@ module _ (alike : Place → Place → Bool) (laws : IsPartialEquivalence alike) 
     | inr other ↦ spans (w ∷ f) b q side.1 x y (λ out. member (other, out)) after same
   ]
 
-  -- A MEMBER IS REMOVED, and alike members are still side by side
+  -- if a member is removed, alike members are still side by side
   pub take_beside : (p : Place) (f b : List Place) → AreSideBySide alike (f ++ p ∷ b) → AreSideBySide alike (f ++ b)
   take_beside p [] b side = side.1
   take_beside p (x ∷ []) b side = (
@@ -71,7 +72,7 @@ first_of_front [] b y member = absurd (member tt)
 first_of_front (x ∷ f) b y member = refl
 
 module _ (alike : Place → Place → Bool) where
-  -- TWO SEQUENCES ARE JOINED, and alike members are side by side if no member of one sequence is alike a member of the other
+  -- if two sequences are joined, alike members are side by side, if no member of one sequence is alike a member of the other
   pub join_beside : (a b : List Place) → AreSideBySide alike a → AreSideBySide alike b → ((x y : Place) → IsMember x a → IsMember y b → alike x y ≡ true → ⊥)
       → AreSideBySide alike (a ++ b)
   join_beside [] b side other apart = other

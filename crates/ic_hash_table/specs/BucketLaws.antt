@@ -7,7 +7,7 @@ use Rattle.std.proofs.lemmas.List.{map-set, length-map}
 use Rattle.ic_unsafe_ref.specs.declared.place.Place.{Place}
 use Rattle.ic_hash_table.specs.Buckets.{AreRewritten, AreRewrittenIn}
 
--- if the words of a row are places or none already, the places that they name are the row itself
+-- if each word of a row is a place or none, the row of the places that its words name is the row itself
 pub own_fronts : (words : List (Option Place)) → words ≡ map (λ w. w) words
 own_fronts [] = refl
 own_fronts (w ∷ ws) = ap (λ l. w ∷ l) (own_fronts ws)
@@ -40,13 +40,13 @@ module _ {W : Type 0} (front_of : W → Option Place) (word_for : Option Place �
   rewritten_count (v ∷ vs) [] h = absurd h
   rewritten_count (v ∷ vs) (w ∷ ws) h = ap suc (rewritten_count vs ws h.1)
 
-  -- ONE WORD IS WRITTEN: each word of the new row is the old word, or it is the word that `word_for` gives for its place
+  -- if a word w is written at an index, and w is the word that `word_for` makes for the place that w names, the row is rewritten
   pub rewritten_at : (ws : List W) (i : ℕ) (w : W) → w ≡ word_for (front_of w) → AreRewritten front_of word_for ws (set ws i w)
   rewritten_at [] i w new = tt
   rewritten_at (v ∷ vs) zero w new = (inr new, rewritten_none vs)
   rewritten_at (v ∷ vs) (suc i) w new = (inl refl, rewritten_at vs i w new)
 
--- `fronts` gives for a row of words the row of the places that the words name
+-- `fronts` turns a row of words into the row of the places that these words name
 module _ {W : Type 0} {front_of : W → Option Place} {fronts : List W → List (Option Place)} (are : (words : List W) → fronts words ≡ map front_of words) where
   pub fronts_count : (words : List W) → length words ≡ length (fronts words)
   fronts_count words = sym (ap length (are words) ∙ length-map words front_of)

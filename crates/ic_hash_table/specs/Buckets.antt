@@ -3,15 +3,16 @@ use Rattle.std.specs.Prelude.{◌≡◌, ◌⊎◌, ⊤, Option, List, [], ◌�
 use Rattle.std.specs.Borrow.{MutBor}
 use Rattle.ic_unsafe_ref.specs.declared.place.Place.{Place}
 
--- `front_of` gives the place that a word names, or none. `word_for` gives the word for a place or for none
+-- `front_of w` is the place that the word w names, or none. `word_for front` is the word for the place `front`, or for none
 module _ {W : Type 0} (front_of : W → Option Place) (word_for : Option Place → W) where
-  -- EACH WORD STAYS or is written: both rows have the same length, and each new word is the old word or the word that `word_for` gives for its place
+  -- `AreRewritten old new`: both rows have the same length. Each word w of the row `new` is the old word at its index, or the word that `word_for` makes for
+  -- the place that w names
   abbrev pub AreRewritten : List W → List W → Type 0
   AreRewritten [] [] = ⊤
   AreRewritten [] (w ∷ ws) = ⊥
   AreRewritten (v ∷ vs) [] = ⊥
   AreRewritten (v ∷ vs) (w ∷ ws) = ((w ≡ v) ⊎ (w ≡ word_for (front_of w))) × AreRewritten vs ws
 
-  -- both rows of borrowed words are in the same memory, and each new word is the old word or the word that `word_for` gives for its place
+  -- `AreRewrittenIn old new`: both borrowed rows are in the same memory, and `AreRewritten` holds for their words
   abbrev pub AreRewrittenIn : MutBor (List W) → MutBor (List W) → Type 0
   AreRewrittenIn old new = (new.ghost_name ≡ old.ghost_name) × AreRewritten old.now new.now

@@ -14,8 +14,8 @@ RepresentsFromSome successor t front = (s : List Place) × RepresentsFrom succes
 
 -- `Belongs i p` says that the place p belongs in chain i
 module _ {E : Type 0} (successor : E → Successor) (Belongs : ℕ → Place → Type 0) (t : Table E) where
-  -- THE CHAINS from number i on HAVE THE MEMBERS s: they begin with the given first members, and s has the members of one chain after those of another.
-  -- Each member belongs in its chain
+  -- `AreChained i fronts s`: the chains from number i on begin with the first members `fronts`. The sequence s has the members of these chains, chain after
+  -- chain, and each member belongs in its chain
   abbrev pub AreChained : ℕ → List (Option Place) → List Place → Type 0
   AreChained i [] s = s ≡ []
   AreChained i (front ∷ fronts) s =

@@ -14,7 +14,7 @@ use Rattle.ic_hash_table.specs.HashTable.{adapter_of, slots_of, front_at, Belong
 use Rattle.ic_hash_table.specs.Slots.{slot_of}
 
 module _ {A B L : Type 0} where
-  -- `IfOccupied e P`: if the entry e has a member, P holds for the entry. `IfVacant e P`: if the entry e has only a chain, P holds for the entry
+  -- `IfOccupied e P`: if e is an occupied entry, P holds for it. `IfVacant e P`: if e is a vacant entry, P holds for it
   abbrev pub IfOccupied : Entry A B L → (OccupiedEntry A B L → Type 0) → Type 0
   IfOccupied (Occupied e) P = P e
   IfOccupied (Vacant e) P = ⊤
@@ -27,7 +27,7 @@ module _ {A B L : Type 0} where
   abbrev pub member_of : OccupiedEntry A B L → Place
   member_of e = e.member
 
-  -- the entry borrows this hash table and this table of links, and both are as they were before the search
+  -- the entry e borrows the hash table `hash` and the table of links `links`, and both are as they were before the search
   abbrev pub IsFoundIn : MutBor (HashTable A B) → MutBor L → OccupiedEntry A B L → Type 0
   IsFoundIn hash links e =
       (e.table.ghost_name ≡ hash.ghost_name) × (e.links.ghost_name ≡ links.ghost_name) × (e.table.now ≡ hash.now) × (e.links.now ≡ links.now)
@@ -42,12 +42,12 @@ module _ {A B L : Type 0} where
       (e.at < (slots_of e.table.now).used)
       × ((ahead back : List Place) × RepresentsFrom successor (table e.links.now) (front_at fronts e.table.now e.at) (ahead ++ e.member ∷ back) × (e.before ≡ last ahead))
 
-  -- both entries borrow the same hash table, which is unchanged, and the same table of links, and both store the same chain
+  -- the vacant entries `old` and e borrow the same table of links and the same hash table, which is unchanged. Both entries store the same chain
   abbrev pub IsVacantAgain : VacantEntry A B L → VacantEntry A B L → Type 0
   IsVacantAgain old e =
       (e.table.ghost_name ≡ old.table.ghost_name) × (e.links.ghost_name ≡ old.links.ghost_name) × (e.table.now ≡ old.table.now) × (e.at ≡ old.at)
 
-  -- the chain of the vacant entry is in use, and it is the chain where objects with this hash belong
+  -- the chain of the vacant entry is in use, and it is the chain where objects with the hash `hash` belong
   abbrev pub IsChainFor : ℕ → VacantEntry A B L → Type 0
   IsChainFor hash e = (e.at < (slots_of e.table.now).used) × (e.at ≡ slot_of (slots_of e.table.now) hash)
 
@@ -56,8 +56,8 @@ module _ {A B L : Type 0} where
   CanInsert hash objects e p =
       (e.at < (slots_of e.table.now).used) × BelongsIn (slots_of e.table.now) (hash (adapter_of e.table.now)) objects e.at p
 
--- THE OBJECT IS INSERTED, and the call returns the entry of the new member. If its link is refused, the call returns the object and the vacant entry, and
--- the table is unchanged
+-- the call has inserted `object` and returned the entry of the new member. If the link of `object` is refused, the call returns the object and the vacant
+-- entry, and the table is unchanged
 module _ {E A B L V K : Type 0} (successor : E → Successor) (table : L → Table E) (fronts : B → List (Option Place)) (Rewrites : B → B → Type 0) (hash : A → V → ℕ) (Trace : L → L → List LinkStep → Type 0) (Refused : L → L → Place → Type 0) where
   pub record EntersAt (objects : Objects V) (old : VacantEntry A B L) (object : Place) (result : Result (OccupiedEntry A B L) (RefusedInsert A B L V K)) : Type 0 where
     pub member : IfOk result (λ e. member_of e ≡ object)

@@ -11,11 +11,11 @@ use Rattle.ic_hash_table.specs.Slots.{slot_of}
 use Rattle.ic_hash_table.specs.Chains.{RepresentsFrom}
 use Rattle.ic_hash_table.specs.SideBySide.{AreSideBySide}
 
--- whether an object with this value belongs in chain i, which is decided by the hash of the value
+-- whether an object with the value `value` belongs in chain i, by the hash of the value
 abbrev pub belongs_at : {V : Type 0} → Slots → (V → ℕ) → ℕ → V → Bool
 belongs_at slots hash i value = nat_eq (slot_of slots (hash value)) i
 
--- ALIKE MEMBERS of `out` are side by side. If a member of `left` is alike some member of `out`, it is alike the first member of `out`
+-- alike members of `out` are side by side. If a member of `left` is alike some member of `out`, it is alike the first member of `out`
 pub record AreTurned (alike : Place → Place → Bool) (left out : List Place) : Type 0 where
   pub side : AreSideBySide alike out
   pub next : (x y : Place) → IsMember x left → IsMember y out → alike x y ≡ true → IfSome (first out) (λ f. alike x f ≡ true)
@@ -37,7 +37,7 @@ module _ {E : Type 0} (successor : E → Successor) (is : Place → Bool) where
     pub adds_none : (q : Place) → IsAbsent q chain → IsAbsent q (left ++ (staying ++ moving))
     pub all : (q : Place) → IsAbsent q (left ++ (staying ++ moving)) → IsAbsent q chain
     pub count : length left + length staying + length moving ≡ length chain
-    -- members that are alike, and were side by side in the old chain, are side by side after the split
+    -- `passed` has the members before `rest` in the old chain. If alike members were side by side in the old chain, they are side by side after the split
     pub passed : List Place
     pub cut : chain ≡ passed ++ left
     pub among : (q : Place) → IsAbsent q passed → IsAbsent q (staying ++ moving)

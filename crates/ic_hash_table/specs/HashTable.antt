@@ -31,13 +31,13 @@ module _ {A B : Type 0} where
   abbrev pub buckets_of : HashTable A B → B
   buckets_of table = table.buckets
 
-  -- THE TABLE KEEPS ITS BUCKETS: they are as many as before, and in the same memory. Each bucket has its old word or the word of its present first member
+  -- the table `new` has as many buckets as the table `old`, and lent buckets are in the same memory. Each bucket has its old word, or the word that `set_front`
+  -- writes for its first member
   pub record KeepsBuckets (fronts : B → List (Option Place)) (Rewrites : B → B → Type 0) (old new : HashTable A B) : Type 0 where
     pub count : length (fronts new.buckets) ≡ length (fronts old.buckets)
     pub rewrites : Rewrites old.buckets new.buckets
 
-  -- ITS CHAINS ARE WELL FORMED: the slots are well formed, and the table has a bucket for each chain in use. Each table that a call has made satisfies
-  -- this definition
+  -- the slots of the table are well formed, and the table has a bucket for each chain in use. Each table that a call has made satisfies this definition
   pub record HasChains (fronts : B → List (Option Place)) (table : HashTable A B) : Type 0 where
     pub well_formed : IsWellFormed table.slots
     pub enough : table.slots.used ≤ length (fronts table.buckets)
@@ -49,7 +49,7 @@ module _ {A B : Type 0} where
     pub well_formed : IsWellFormed table.slots
     pub enough : table.slots.used ≤ length (fronts table.buckets)
 
--- ITS CHAINS HAVE THE MEMBERS s, one chain after another and no place twice, whatever the keys of the members are
+-- the chains of `table` have the members s, one chain after another and no place twice. The keys of the members do not matter
 pub record IsRepresented {E A B : Type 0} (successor : E → Successor) (fronts : B → List (Option Place)) (t : Table E) (table : HashTable A B) (s : List Place) : Type 0 where
   pub distinct : IsDistinct s
   pub chained : AreChained successor (λ i p. ⊤) t 0 (fronts table.buckets) s
@@ -57,13 +57,13 @@ pub record IsRepresented {E A B : Type 0} (successor : E → Successor) (fronts 
   pub enough : table.slots.used ≤ length (fronts table.buckets)
 
 module _ {E A B : Type 0} (successor : E → Successor) (fronts : B → List (Option Place)) (Rewrites : B → B → Type 0) where
-  -- AN EDIT KEEPS all except the chains: it keeps the adapter, the buckets, and the entry of each place that is neither a member nor in `places`
+  -- an edit changes only chains: it keeps the adapter, the buckets as `KeepsBuckets` says, and the entry of each place that is neither a member nor in `places`
   pub record ChangesOnlyInChains (old new : Table E) (table table' : HashTable A B) (places : List Place) : Type 0 where
     pub adapter : adapter_of table' ≡ adapter_of table
     pub buckets : KeepsBuckets fronts Rewrites table table'
     pub frame : (s : List Place) → IsRepresented successor fronts old table s → ChangesOnlyIn old new (places ++ s)
 
-  -- an edit changes only the members of chains: it keeps all except the chains, and the chains in use stay in use
+  -- an edit changes only the members of chains: `ChangesOnlyInChains` holds, and the same chains are in use afterwards
   pub record ChangesOnlyInMembers (old new : Table E) (table table' : HashTable A B) (places : List Place) : Type 0 where
     pub chains : ChangesOnlyInChains old new table table' places
     pub slots : slots_of table' ≡ slots_of table
@@ -96,11 +96,12 @@ module _ {E A B V : Type 0} (successor : E → Successor) (hash : A → V → �
   abbrev pub HoldsSome : Table E → HashTable A B → Objects V → Type 0
   HoldsSome t table objects = (s : List Place) × Holds t table objects s
 
-  -- the table holds the sequence s after the place p was inserted at some gap of s
+  -- the table holds the sequence s with the place p inserted at some gap of s
   abbrev pub HoldsWith : Table E → HashTable A B → Objects V → List Place → Place → Type 0
   HoldsWith t table objects s p = (gap : Cut) × (join gap ≡ s) × Holds t table objects (insert gap p)
 
-  -- the table holds the sequence s after the place p was inserted at `gap`, which is a position between members of one chain
+  -- the table holds the sequence s with the place p inserted at `gap`, a gap of one chain. `ahead` has the members of the chains before this chain, and `after`
+  -- those of the chains after it
   pub record HoldsAt (t : Table E) (table : HashTable A B) (objects : Objects V) (s : List Place) (gap : Cut) (p : Place) : Type 0 where
     pub ahead : List Place
     pub after : List Place
@@ -109,8 +110,7 @@ module _ {E A B V : Type 0} (successor : E → Successor) (hash : A → V → �
     -- no member before the gap has an object with the same hash as a member after the gap's chain
     pub apart : (x y : Place) → IsMember x (ahead ++ gap.front) → IsMember y after → DifferInNumber (hash table.adapter) objects x y
 
-  -- the table holds the sequence s after the place p was inserted. If a member of s passes the test `is`, the place p is directly before the first such
-  -- member
+  -- the table holds the sequence s with the place p inserted. If a member of s passes the test `is`, the place p is directly before the first such member
   pub record HoldsBefore (t : Table E) (table : HashTable A B) (objects : Objects V) (is : Place → Bool) (s : List Place) (p : Place) : Type 0 where
     pub gap : Cut
     pub whole : join gap ≡ s

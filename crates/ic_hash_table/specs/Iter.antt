@@ -5,7 +5,7 @@ use Rattle.ic_link_ops.specs.SinglyLinkedList.{Successor, members_from}
 use Rattle.ic_hash_table.specs.HashTable.{Holds}
 use Rattle.ic_hash_table.specs.declared.iter.Iter.{Iter}
 
--- the members of the chains that begin with these first members, one chain after another
+-- the members of the chains that begin with the first members `fronts`, one chain after another
 abbrev pub members_of : {E : Type 0} → (E → Successor) → Table E → List (Option Place) → List Place
 members_of successor t [] = []
 members_of successor t (front ∷ fronts) = members_from successor t front ++ members_of successor t fronts

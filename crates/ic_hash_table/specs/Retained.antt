@@ -8,21 +8,21 @@ module _ {F V : Type 0} (tells : F → V → Bool → F → Type 0) (objects : O
   abbrev pub TellsAt : F → Place → Bool → F → Type 0
   TellsAt test p answer after = (value : V) × (object_at objects p ≡ Some value) × tells test value answer after
 
-  -- THE TEST WAS CALLED once for each member of a sequence, in its order, and returned the given results. The test was in the state `test` before, and is
-  -- in the state `last` afterwards
+  -- `AreAnswers test s answers last`: the test was called once for each member of s, in order, and returned the results `answers`. The test was in the state
+  -- `test` before, and is in the state `last` afterwards
   abbrev pub AreAnswers : F → List Place → List Bool → F → Type 0
   AreAnswers test [] [] last = last ≡ test
   AreAnswers test [] (answer ∷ answers) last = ⊥
   AreAnswers test (p ∷ s) [] last = ⊥
   AreAnswers test (p ∷ s) (answer ∷ answers) last = (after : F) × TellsAt test p answer after × AreAnswers after s answers last
 
--- the members for which the test returned true
+-- the members of a sequence for which the test returned true, according to the list of its results
 abbrev pub passing : List Bool → List Place → List Place
 passing [] s = []
 passing (answer ∷ answers) [] = []
 passing (answer ∷ answers) (p ∷ s) = cond answer (p ∷ passing answers s) (passing answers s)
 
--- the members for which the test returned false
+-- the members of a sequence for which the test returned false, according to the list of its results
 abbrev pub failing : List Bool → List Place → List Place
 failing [] s = []
 failing (answer ∷ answers) [] = []

@@ -26,7 +26,7 @@ abbrev pub is_place : Place → Place → Bool
 is_place place p = nat_eq p.word place.word
 
 module _ (is : Place → Bool) where
-  -- THE FIRST MEMBER THAT PASSES: the result is the first member of s for which `is` is true, or none if there is no such member
+  -- `Finds s found`: `found` is the first member of s for which `is` is true, or none if there is no such member
   abbrev pub Finds : List Place → Option Place → Type 0
   Finds s None = AllByRecursion (λ p. is p ≡ false) s
   Finds s (Some p) = (front back : List Place) × (s ≡ front ++ p ∷ back) × AllByRecursion (λ q. is q ≡ false) front × (is p ≡ true)
@@ -45,8 +45,8 @@ module _ (is : Place → Bool) where
 abbrev pub HasRoom : ℕ → Type 0
 HasRoom count = count + 8589934591 ≤ 18446744073709551615
 
--- THE LOOKS OF ONE SEARCH in a chain are its comparisons with members. They are at most as many as the members of the chain, and at least one if there is
--- a member. The search finds the same values equal before and afterwards
+-- the looks of one search in a chain are its comparisons with members. They are at most as many as the members of the chain, and at least one if there is a
+-- member. The same values equal the searched key before and after the search
 module _ {P V : Type 0} (equal : P → V → Bool) (count : P → ℕ) where
   pub record Looks (old new : P) (chain : List Place) : Type 0 where
     pub looks : ℕ

@@ -16,13 +16,13 @@ pub trait BucketWord: Drop {
     // The place that a word names, or none if the word names no place.
     ghost front_of: { Self → Option Place };
 
-    // The places that the words of a row name, in their order.
+    // For each word of a row, in order, the place that the word names, or none.
     ghost fronts: { List Self → List (Option Place) };
 
     // The word that names a place, or the word that names no place.
     ghost word_for: { Option Place → Self };
 
-    // A word has room for the name of the place.
+    // `CanKeep p`: a bucket word has room for the name of the place p.
     ghost CanKeep: { Place → Type 0 };
 
     /// Makes the word that names a place, or the word that names no place. It requires that a word has room for the name of the place. O(1).
@@ -34,13 +34,14 @@ pub trait BucketWord: Drop {
     fn get(&self) -> Option<Place>
         ensures { result ≡ front_of self.now };
 
-    // The laws: `fronts` gives for each word of a row the place that it names. The word made for a place names this place, if it has room for it.
+    // The laws. `fronts` is the row of the places that the words of a row name. If a word has room for the name of a place, the word that is made for the place
+    // names it.
     ghost fronts_are: { (words : List Self) → fronts words ≡ map front_of words };
 
     ghost word_names: { (front : Option Place) → IsNameable CanKeep front → front_of (word_for front) ≡ front };
 }
 
-/// A bucket word with room for each place that links of this type can name.
+/// A bucket word with room for each place that links of the type `L` can name.
 pub trait BucketWordFor<L: LinkOps>: BucketWord {
     ghost keeps_named: { (place : Place) → L.CanName place → Self.CanKeep place };
 }
@@ -103,7 +104,7 @@ impl BucketWord for NarrowPlaceWord {
     ghost word_names = { λ front room. refl };
 }
 
-// The words that name places are multiples of 8 below this number, 2^36, as `Place::from_word` requires.
+// Words that name places are multiples of 8 below 2^36, which is this number. `Place::from_word` requires such words.
 const WORDS_END: u64 = 68_719_476_736;
 
 // The place that a word names, or `None` if no place has this word.

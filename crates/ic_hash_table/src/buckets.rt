@@ -13,17 +13,17 @@ use ic_link_ops::LinkOps;
 use ic_unsafe_ref::Place;
 use std::alloc::Allocator;
 
-/// A row of buckets, of fixed length, which store the first members of chains: a `Vec` that the caller has made, an array, or lent memory. No call on a
-/// row can take memory.
+/// A row of buckets, each of which stores the first member of a chain. The number of buckets is fixed. A row is a `Vec` that the caller has made, an array, or
+/// lent memory. No call on a row can take memory.
 pub trait BucketRow {
     // The first member of each chain, or none for an empty chain.
     ghost fronts: { Self → List (Option Place) };
 
-    // Each bucket has room for the name of the place.
+    // `CanKeep p`: each bucket has room for the name of the place p.
     ghost CanKeep: { Place → Type 0 };
 
-    // THE BUCKETS ARE KEPT: both rows have equally many buckets, and are in the same memory. Each bucket has the word that it had, or the word of its
-    // present first member.
+    // `Rewrites old new`: the row `new` has as many buckets as the row `old`, and a lent row stays in the same memory. Each bucket has its old word, or the
+    // word that `set_front` writes for its first member.
     ghost Rewrites: { Self → Self → Type 0 };
 
     /// The number of buckets. O(1).
@@ -43,7 +43,7 @@ pub trait BucketRow {
         ensures fronts { fronts self.new ≡ set (fronts self.old) at front }
         ensures rewrites { Rewrites self.old self.new };
 
-    // The laws: each row is a rewriting of itself, two rewritings in turn are one, and a rewriting keeps the number of buckets.
+    // The laws. `Rewrites` holds between a row and itself. If it holds from a to b and from b to c, it holds from a to c. It keeps the number of buckets.
     ghost rewrites_none: { (b : Self) → Rewrites b b };
 
     ghost rewrites_on: { (a b c : Self) → Rewrites a b → Rewrites b c → Rewrites a c };
@@ -51,8 +51,8 @@ pub trait BucketRow {
     ghost rewrites_count: { (a b : Self) → Rewrites a b → length (fronts b) ≡ length (fronts a) };
 }
 
-/// Buckets with room for each place that links of this type can name. Buckets of 8 bytes are for any links, and buckets of 4 bytes are for links whose
-/// words have 4 bytes.
+/// Buckets with room for each place that links of the type `L` can name. Buckets of 8 bytes are for any links, and buckets of 4 bytes are for links whose words
+/// have 4 bytes.
 pub trait BucketsFor<L: LinkOps>: BucketRow {
     ghost keeps_named: { (place : Place) → L.CanName place → Self.CanKeep place };
 }
@@ -129,7 +129,7 @@ impl<L: LinkOps, W: BucketWordFor<L>, const N: usize> BucketsFor<L> for [W; N] {
     ghost keeps_named = { W.keeps_named };
 }
 
-/// Buckets in lent memory, for example of a mapped file. When the table is dropped, its caller gets the buckets back.
+/// Buckets in lent memory, for example in a mapped file. When the table is dropped, its caller gets the buckets back.
 impl<W: BucketWord> BucketRow for &mut [W] {
     ghost use Rattle.ic_hash_table.specs.Buckets.{AreRewrittenIn};
     ghost use Rattle.ic_hash_table.specs.BucketLaws.{lent_none, lent_on, rewritten_count, fronts_alike};

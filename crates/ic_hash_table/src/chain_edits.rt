@@ -15,7 +15,8 @@ use ic_link_ops::singly_linked_list::SinglyLinkedListOps;
 use ic_singly_linked_list::SinglyLinkedList;
 use ic_unsafe_ref::Place;
 
-// Removes the member `place`, which comes directly after `before`, from the chain and unlinks it. Returns the first member that the chain then has.
+// Removes the member `place` from the chain that begins with `front`, and unlinks it. The member `before` comes directly before `place`. Returns the chain's
+// first member after the removal.
 #[inline]
 pub(crate) fn unlink_after<L: SinglyLinkedListOps>(
     links: &mut L,
@@ -38,7 +39,8 @@ pub(crate) fn unlink_after<L: SinglyLinkedListOps>(
     chain.first()
 }
 
-// Inserts a linked place, which is in no chain yet, at the front of a chain. Returns the chain's new first member, which is `place`.
+// Inserts the linked `place`, which is in no chain yet, at the front of the chain that begins with `front`. Returns the chain's new first member, which is
+// `place`.
 #[inline]
 pub(crate) fn link_front<L: SinglyLinkedListOps>(
     links: &mut L,
@@ -58,7 +60,8 @@ pub(crate) fn link_front<L: SinglyLinkedListOps>(
     chain.first()
 }
 
-// Inserts all members of the chain `front` before the members of the chain `rest`. Returns the first member of the joined chain.
+// Inserts all members of the chain that begins with `front` before the members of the chain that begins with `rest`. Returns the first member of the joined
+// chain.
 pub(crate) fn join_chains<L: SinglyLinkedListOps>(
     links: &mut L,
     front: Option<Place>,

@@ -14,7 +14,7 @@ use ic_link_ops::LinkOps;
 use ic_link_ops::singly_linked_list::SinglyLinkedListOps;
 use ic_unsafe_ref::{Place, UnsafeRef, Values};
 
-// The reference to the object at a place, if there is a place.
+// The reference to the object at `place`, or `None` if `place` is `None`.
 #[inline]
 pub(crate) fn reference<V>(place: Option<Place>) -> Option<UnsafeRef<V>>
     ensures { result ≡ place }
@@ -38,7 +38,7 @@ fn is_match<V, P: Probe<V>, O: Values<V>>(objects: &O, probe: &mut P, place: Pla
     probe.is_equal(objects.value(place))
 }
 
-// Walks along a chain up to the first member that has the searched key. Returns that member, and the member before it.
+// Walks along the chain that begins with `front`, up to the first member with the searched key. Returns the member before the found one, and the found one.
 #[inline]
 pub(crate) fn find_in_chain<V, L: SinglyLinkedListOps, P: Probe<V>, O: Values<V>>(
     links: &L,
@@ -66,7 +66,8 @@ pub(crate) fn find_in_chain<V, L: SinglyLinkedListOps, P: Probe<V>, O: Values<V>
     (before, None)
 }
 
-// Walks along a chain up to the given place, without comparing keys. Returns the place, if it is a member, and the member before it.
+// Walks along the chain that begins with `front`, up to `place`, without comparing keys. Returns the member before `place`, and `place`. If `place` is no
+// member, it returns the last member and `None`.
 pub(crate) fn find_place_in_chain<L: SinglyLinkedListOps>(
     links: &L,
     front: Option<Place>,

@@ -43,7 +43,7 @@ impl<A, B, L> Drop for OccupiedEntry<'_, A, B, L> {
     }
 }
 
-/// The chain where objects with a key belong that no member has, together with the hash table and the table of links.
+/// The chain where objects with the searched key belong, if no member has this key, with the hash table and the table of links.
 pub struct VacantEntry<'a, A, B, L> {
     table: &'a mut HashTable<A, B>,
     links: &'a mut L,
@@ -132,7 +132,8 @@ impl<A: HashAdapter, B: BucketsFor<L>, L: SinglyLinkedListOps> OccupiedEntry<'_,
 
     /// Removes the member of this entry and returns it. O(1): it computes no hash, compares no keys, and takes no memory.
     ///
-    /// It requires that the table still holds its members, and that [`entry`](HashTable::entry) has returned this entry for the table.
+    /// It requires that `objects` has every member, with the key that the member was inserted by. It also requires that [`entry`](HashTable::entry) or an
+    /// insert has returned this entry.
     #[inline]
     pub fn remove<O: Values<A::Value>>(self, objects: &O) -> UnsafeRef<A::Value>
         requires held { HoldsSome L.successor (number A.key_of A.hash_of) B.fronts (L.table self.links.now) self.table.now (O.values objects.now) }

@@ -23,7 +23,7 @@ use ic_link_ops::LinkOps;
 use ic_link_ops::singly_linked_list::SinglyLinkedListOps;
 use ic_unsafe_ref::{Place, Values};
 
-// Whether the object at a place belongs in chain `to`.
+// Whether the object at `place` belongs in chain `to`, by the hash of its key.
 #[inline]
 fn belongs<A: HashAdapter, O: Values<A::Value>>(
     adapter: A,
@@ -40,7 +40,8 @@ fn belongs<A: HashAdapter, O: Values<A::Value>>(
     slots.slot(adapter.hash(key)) == to
 }
 
-// Inserts a linked place at the front of one of two chains: the second one if the place `moves`, and otherwise the first one.
+// Inserts the linked `place` at the front of one of two chains, which begin with the members `halves`. If `moves` is true, it is inserted into the second
+// chain, and otherwise into the first. Returns the new first members of both chains.
 #[inline]
 fn link_either<L: SinglyLinkedListOps>(
     links: &mut L,
@@ -66,8 +67,8 @@ fn link_either<L: SinglyLinkedListOps>(
     }
 }
 
-// Splits a chain in two. Returns the first of the members that stay, and the first of the members that belong in chain `to`. No link is acquired or
-// released.
+// Splits the chain that begins with `front` in two. Returns the first of the members that stay, and the first of the members that belong in chain `to`. No link
+// is acquired or released.
 pub(crate) fn part_chain<A: HashAdapter, L: SinglyLinkedListOps, O: Values<A::Value>>(
     adapter: A,
     slots: Slots,

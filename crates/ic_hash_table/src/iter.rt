@@ -110,8 +110,8 @@ impl<A: HashAdapter, B: BucketRow> HashTable<A, B> {
         }
     }
 
-    /// A value that prints the objects of the table, chain by chain: `{:?}` writes `[10, 20]`, and `{:#?}` writes each object on lines of its own. It
-    /// requires that `objects` has every member, with the key that the member was inserted by. O(1). It takes no memory.
+    /// A value that prints the objects of the table, chain by chain. `{:?}` writes `[10, 20]`, and `{:#?}` writes each object on lines of its own. It requires
+    /// that `objects` has every member, with the key that the member was inserted by. O(1). It takes no memory.
     pub fn debug<'a, L: SinglyLinkedListOps, O: Values<A::Value>>(
         &'a self,
         links: &'a L,

@@ -19,8 +19,7 @@ use ic_link_ops::{AlreadyLinked, LinkOps, LinkValues};
 use ic_unsafe_ref::UnsafeRef;
 
 impl<A: HashAdapter, B> HashTable<A, B> {
-    /// Inserts the object, unless its link is refused: [`insert`](HashTable::insert) for a table of links that stores the values.
-    /// O(1).
+    /// Inserts the object, unless its link is refused. It does what [`insert`](HashTable::insert) does, for a table of links that stores the values. O(1).
     ///
     /// It requires that the table of links covers the object's place, and stores the values of the object and of every member. If the link is refused, the
     /// call returns the object, and the table is unchanged.
@@ -48,8 +47,7 @@ impl<A: HashAdapter, B> HashTable<A, B> {
         self.insert_at(links, at, (None, front), object)
     }
 
-    /// Removes the object, and returns whether it was a member: [`remove`](HashTable::remove) for a table of links that stores the
-    /// values.
+    /// Removes the object, and returns whether it was a member. It does what [`remove`](HashTable::remove) does, for a table of links that stores the values.
     ///
     /// It requires that the table of links stores the object's value, with the key that the object was inserted by. If the object was not a member,
     /// nothing has changed. The call computes one hash, walks along the object's chain without comparing keys, and takes no memory. O(length of the
@@ -80,7 +78,8 @@ impl<A: HashAdapter, B> HashTable<A, B> {
         true
     }
 
-    /// Removes the first member with this key and returns it: [`remove_by`](HashTable::remove_by) for a table of links that stores the values.
+    /// Removes the first member with this key and returns it. It does what [`remove_by`](HashTable::remove_by) does, for a table of links that stores the
+    /// values.
     ///
     /// If no member has the key, the call returns `None` and changes nothing. It makes as many key comparisons as [`find`](HashTable::find), and takes no
     /// memory. O(length of the chain).

@@ -1,4 +1,4 @@
-//! Buckets have 4 bytes each if the words of the links have 4 bytes.
+//! Buckets can have 4 bytes each if the words of the links have 4 bytes.
 
 ghost use Rattle.std.specs.Prelude.{◌≡◌};
 ghost use Rattle.ic_unsafe_ref.specs.declared.place.Place.{Place};

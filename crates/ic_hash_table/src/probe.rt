@@ -13,7 +13,7 @@ use crate::HashAdapter;
 
 /// A search key of any form, which has a hash and can be compared with values.
 ///
-/// A search calls `is_equal` once for each member that it passes. Each call of `is_equal` is called a look.
+/// A search calls `is_equal` once for each member that it visits. Each of these calls is a *look*.
 pub trait Probe<V> {
     // Whether the searched key equals a value.
     ghost equal: { Self → V → Bool };
@@ -39,7 +39,7 @@ pub trait Probe<V> {
         ensures hash { hash self.new ≡ hash self.old };
 }
 
-/// A search for a key, which uses the adapter of a hash table.
+/// A search for a key by the adapter of a hash table.
 #[derive(Drop)]
 pub struct KeyProbe<'k, A: HashAdapter>
 where

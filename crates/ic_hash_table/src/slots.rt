@@ -8,7 +8,7 @@
 ghost use Rattle.std.specs.Prelude.{◌≡◌, ◌<◌, ◌≤◌};
 ghost use Rattle.ic_hash_table.specs.Slots.{slot_of, split_of, IsWellFormed, IsSplit};
 
-/// Stores how many chains are in use, and the mask of the current round of growth. More than half of the chain numbers within the mask are in use.
+/// Stores how many chains are in use, and the mask of the current round of growth. The chains in use have more than half of the numbers from 0 to the mask.
 #[derive(Clone, Copy)]
 pub struct Slots {
     used: usize,
@@ -30,8 +30,8 @@ impl Slots {
         Slots { used: count, mask }
     }
 
-    /// The number of the chain where `hash` belongs. The bits of the hash within the mask give the number, or the bits within half of the mask if that
-    /// chain is not in use yet. O(1).
+    /// The number of the chain where `hash` belongs, which is made of the bits of `hash` within the mask. If the chain of this number is not in use yet, the
+    /// bits within half of the mask are the number. O(1).
     #[inline]
     pub fn slot(&self, hash: u64) -> usize
         requires well_formed { IsWellFormed self.now }
@@ -47,7 +47,7 @@ impl Slots {
         }
     }
 
-    // The slots with one more chain in use. If all numbers within the mask are in use, the next round of growth begins, with a mask twice as large.
+    // The slots with one more chain in use. If all numbers within the mask are in use, the next round of growth begins, with a mask of one bit more.
     pub(crate) fn grown(self) -> Slots
         requires well_formed { IsWellFormed self }
         requires few { self.used < 4294967296 }
@@ -84,7 +84,7 @@ impl Slots {
         }
     }
 
-    // The chain that had the members of chain `last` before chain `last` came into use.
+    // The number of the chain that had the members of chain `last` before chain `last` came into use.
     pub(crate) fn split(&self, last: usize) -> usize
         ensures { result ≡ split_of self.now last }
     {

@@ -12,7 +12,7 @@ use std::hash::{BuildHasher, Hash};
 
 /// Says which part of an object is its key, for keys that implement the standard library's `Hash`.
 ///
-/// The key depends only on this value and on the object. While the object is not changed, its key does not change.
+/// The key depends only on the `KeyOf` and on the object. While the object is not changed, its key does not change.
 pub trait KeyOf: Copy {
     /// The type of the objects whose keys `get_key` returns.
     type Value;

@@ -42,9 +42,10 @@ fn first_from<L: SinglyLinkedListOps, B: BucketRow>(
 impl<A: HashAdapter, B: BucketRow> HashTable<A, B> {
     ghost use Rattle.ic_hash_table.specs.HashTable.{Holds};
 
-    /// Returns the member after the given one, through all chains, or the first member of all if none is given. Returns `None` if no member follows.
+    /// Returns the member after `at`, through all chains, or the first member of all if `at` is `None`. Returns `None` if no member follows.
     ///
-    /// It requires that the place is that of a member. A walk over all members takes one step for each member and each bucket, and compares no keys.
+    /// It requires that `at` is a member or `None`, and that `objects` has every member, with the key that the member was inserted by. A walk over all members
+    /// takes one step for each member and each bucket, and compares no keys.
     pub fn next<L: SinglyLinkedListOps, O: Values<A::Value>>(
         &self,
         links: &L,

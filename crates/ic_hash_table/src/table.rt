@@ -61,7 +61,7 @@ impl<A, B> HashTable<A, B> {
         self.slots.used()
     }
 
-    /// Decides which chain has the members with a hash: `table.slots().slot(hash)` is its number. O(1).
+    /// The slots of the table: `table.slots().slot(hash)` is the number of the chain where `hash` belongs. O(1).
     #[inline]
     pub fn slots(&self) -> Slots
         ensures { result ≡ slots_of self.now }
@@ -95,7 +95,7 @@ impl<A: HashAdapter, B: BucketRow> HashTable<A, B> {
     ghost use Rattle.ic_hash_table.specs.Slots.{IsWellFormed};
     ghost use Rattle.ic_hash_table.specs.declared.slots.Slots.{Slots};
 
-    /// Makes a table with no member over these buckets, all of which are in use. Every table of links holds the empty sequence for the new table.
+    /// Makes a table with no member over these buckets, all of which are in use. With every table of links, the new table holds the empty sequence.
     ///
     /// It requires that the buckets are empty, and that there are 1 to 4,294,967,296 of them. O(log n) for n buckets. It takes no memory.
     pub fn new(adapter: A, buckets: B) -> HashTable<A, B>
@@ -135,8 +135,8 @@ impl<A: HashAdapter, B: BucketRow> HashTable<A, B> {
     /// Makes a table from the buckets of an earlier table, which may have members. `used` is how many chains were in use, and `len` is how many members
     /// there were.
     ///
-    /// It requires what [`with_used`](HashTable::with_used) requires, except that the buckets need not be empty. It reads no link. If all arguments are
-    /// those of an earlier table, a table of links holds the earlier table's members for the new table. O(log n) for n chains. It takes no memory.
+    /// It requires what [`with_used`](HashTable::with_used) requires, except that the buckets need not be empty. It reads no link. If all arguments come from
+    /// an earlier table, the new table holds the members that the earlier table held. O(log n) for n chains. It takes no memory.
     pub fn from_buckets(adapter: A, buckets: B, used: usize, len: usize) -> HashTable<A, B>
         requires some { 1 ≤ used }
         requires in_bounds { used ≤ length (B.fronts buckets) }
@@ -381,7 +381,8 @@ impl<A: HashAdapter, B: BucketRow> HashTable<A, B> {
         self.slots.slot(self.adapter.hash(key))
     }
 
-    // Returns the number of the chain where objects with this key belong, the first member of the chain that has the key, and the member before it.
+    // Returns the number of the chain where objects with `key` belong, the member before the found member, and the found member. The found member is the first
+    // member of the chain that has `key`.
     #[inline]
     pub(crate) fn search<L: SinglyLinkedListOps, O: Values<A::Value>>(
         &self,
@@ -405,7 +406,7 @@ impl<A: HashAdapter, B: BucketRow> HashTable<A, B> {
         (at, before, found)
     }
 
-    // Returns the number of the chain of which the object is a member, and the member before the object. Returns `None` if the object is not a member.
+    // Returns the number of the chain that has the member `place`, and the member before `place`. Returns `None` if `place` is no member.
     pub(crate) fn locate<L: SinglyLinkedListOps, O: Values<A::Value>>(
         &self,
         links: &L,
@@ -434,7 +435,7 @@ impl<A: HashAdapter, B: BucketRow> HashTable<A, B> {
 impl<A: HashAdapter, B> HashTable<A, B> {
     ghost use Rattle.ic_hash_table.specs.HashTable.{adapter_of, slots_of, front_at, number, BelongsIn, Holds, HoldsAt, HoldsSome, ChangesOnlyInMembers};
 
-    // Inserts the object between two neighbors of chain `at`. The function reads no object.
+    // Inserts the object into chain `at`, between the adjacent members `neighbors`. The function reads no object.
     #[inline]
     pub(crate) fn insert_at<L: SinglyLinkedListOps>(
         &mut self,

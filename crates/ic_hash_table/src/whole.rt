@@ -15,7 +15,7 @@ use ic_link_ops::singly_linked_list::SinglyLinkedListOps;
 use ic_singly_linked_list::SinglyLinkedList;
 use ic_unsafe_ref::{UnsafeRef, Values};
 
-// Unlinks the members of one chain, and empties it.
+// Unlinks the members of chain `at`, and empties its bucket.
 fn clear_chain<L: SinglyLinkedListOps, B: BucketsFor<L>>(buckets: &mut B, links: &mut L, at: usize)
     requires in_bounds { at < length (B.fronts buckets.old) }
     requires shown { RepresentsFromSome L.successor (L.table links.old) (slice_index_or (B.fronts buckets.old) at None) }
@@ -36,8 +36,8 @@ impl<A, B> HashTable<A, B> {
 
     /// Removes all members: each member is unlinked, and the table is empty afterwards.
     ///
-    /// It requires that the links represent the table's chains, but it reads no objects, so that members may have other keys now. It takes one step for
-    /// each member and each bucket, compares no keys, and takes no memory. O(n) in the members and the buckets.
+    /// It requires that the links represent the table's chains. It reads no objects, so the keys of members may have changed. It takes one step for each member
+    /// and each bucket, compares no keys, and takes no memory. O(n) in the members and the buckets.
     pub fn clear<L: SinglyLinkedListOps>(&mut self, links: &mut L)
     where
         B: BucketsFor<L>,
@@ -62,7 +62,7 @@ impl<A: HashAdapter, B> HashTable<A, B> {
     ghost use Rattle.ic_hash_table.specs.HashTable.{number, Holds, HoldsSome, ChangesOnlyInMembers};
     ghost use Rattle.ic_hash_table.specs.Retained.{AreAnswers, passing, failing};
 
-    /// Removes each member whose object fails the test. The other members stay, in their order.
+    /// Removes each member whose object fails the test `keeps`. The other members stay, in their order.
     ///
     /// It requires that `objects` has every member, with the key that the member was inserted by. The test is called once for each member, from the first
     /// on. Removed members are unlinked, and their objects stay where they are. The call takes one step for each member and each bucket, and a walk along

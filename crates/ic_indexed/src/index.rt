@@ -35,16 +35,16 @@ pub trait Index<T: HasKey, A: Allocator>: Drop {
     // The number of parts into which the index divides the objects. A search compares only objects of one part, and no call changes the number of parts.
     ghost parts: { Self → ℕ };
 
-    // HOW MANY LOOKS (key comparisons) a search can make: the definition gives a bound for a number of parts, a searched key and the objects.
+    // `IsFew parts key values looks` bounds the looks (key comparisons) of a search for the key, in an index of the values with this number of parts.
     ghost IsFew: { ℕ → ℕ → List T → ℕ → Type 0 };
 
-    /// Returns the table for the links of a new index. The table has no room for links yet, and the call allocates nothing. It requires that the index is
-    /// new.
+    /// Returns the table for the links of a new index. The table has no room for links yet, and the call allocates nothing. The call requires that the index
+    /// is new.
     fn new_links(&self, alloc: A) -> Self::Links
         requires new { IsNew self.now }
         ensures none { (objects : Placed T) → ((place : Place) → object_at objects place ≡ None) → Has self.now result objects };
 
-    /// Returns the place of an object with this key, if there is one, and how many objects the search compared. It requires that the index has all
+    /// Returns the place of an object with this key, if there is one, and how many objects the search compared. The call requires that the index has all
     /// objects.
     fn find_key(
         &self,
@@ -57,16 +57,16 @@ pub trait Index<T: HasKey, A: Allocator>: Drop {
         ensures looks { (order : List Place) → IsOrderOf objects.now order
             → IsFew (parts self.now) key (values_at objects.now order) result.1 };
 
-    /// Inserts a new object where its key belongs. It requires that the index has every other object, and that the index's table covers the place. It
-    /// takes no memory.
+    /// Inserts a new object where its key belongs. The call requires that the index has every other object, and that the index's table covers the place. The
+    /// call takes no memory.
     fn insert_place(&mut self, links: &mut Self::Links, objects: &Objects<T, A>, place: Place)
         requires covered { Self.Links.Covers links.old place }
         requires lacks { LacksOne (Has self.old links.old) objects.now place }
         ensures has { Has self.new links.new objects.now }
         ensures parts { parts self.new ≡ parts self.old };
 
-    /// Removes an object from the index, before the object is taken from its place. It requires that the index has all objects, and that there is an
-    /// object at the place.
+    /// Removes an object from the index. Afterwards the caller removes the object from its place. The call requires that the index has all objects, and that
+    /// there is an object at the place.
     fn remove_place(&mut self, links: &mut Self::Links, objects: &Objects<T, A>, place: Place)
         requires all { Has self.old links.old objects.now }
         requires placed { is_placed objects.now place ≡ true }

@@ -58,7 +58,7 @@ impl<T: HasKey, I: Index<T, A>, A: Allocator> Model for Indexed<T, I, A> {
 }
 
 impl<T: HasKey, A: Allocator> Indexed<T, RBTree<ByKey<T>>, A> {
-    /// Makes a container without objects, with a tree as the index. It takes no memory. O(1).
+    /// Makes a container without objects, with a tree as the index. The call takes no memory. O(1).
     pub fn new(alloc: A) -> TreeIndexed<T, A>
     where
         A: Copy,
@@ -71,7 +71,7 @@ impl<T: HasKey, A: Allocator> Indexed<T, RBTree<ByKey<T>>, A> {
 }
 
 impl<T: HasKey, W: NodeWords, O: PrevPlace, A: Allocator> Indexed<T, RBTree<ByKey<T, W, O>>, A> {
-    /// Makes a container without objects, with a tree over links of either width as the index: `NarrowTreeIndexed::by_tree(rt.alloc())`. It takes no
+    /// Makes a container without objects, with a tree over links of either width as the index: `NarrowTreeIndexed::by_tree(rt.alloc())`. The call takes no
     /// memory. O(1).
     pub fn by_tree(alloc: A) -> Indexed<T, RBTree<ByKey<T, W, O>>, A>
     where
@@ -90,10 +90,10 @@ impl<T: HasKey, W: NodeWords, O: PrevPlace, A: Allocator> Indexed<T, RBTree<ByKe
 }
 
 impl<T: HasKey, I: Index<T, A>, A: Allocator> Indexed<T, I, A> {
-    /// Makes a container without objects, with the given index, for example: `Indexed::with_index(rt.alloc(), HashIndex::new(buckets))`. It takes no
+    /// Makes a container without objects, with the given index, for example: `Indexed::with_index(rt.alloc(), HashIndex::new(buckets))`. The call takes no
     /// memory.
     ///
-    /// It requires that the index is new. O(1).
+    /// The call requires that the index is new. O(1).
     pub fn with_index(alloc: A, index: I) -> Indexed<T, I, A>
     where
         A: Copy,
@@ -164,7 +164,7 @@ impl<T: HasKey, I: Index<T, A>, A: Allocator> Indexed<T, I, A> {
             .find_key(&self.pool.links.0, &self.pool.objects, key)
     }
 
-    /// Returns the object at a place. It requires that there is an object at the place. O(1).
+    /// Returns the object at a place. The call requires that there is an object at the place. O(1).
     #[inline]
     pub fn at(&self, place: Place) -> &T
         requires placed { is_placed self.now.values place ≡ true }
@@ -189,8 +189,8 @@ impl<T: HasKey, I: Index<T, A>, A: Allocator> Indexed<T, I, A> {
         self.in_order.last()
     }
 
-    /// Moves the object at a place to the front. The other objects keep their order. It requires that there is an object at the place. O(1), and it takes
-    /// no memory.
+    /// Moves the object at a place to the front. The other objects keep their order. The call requires that there is an object at the place. O(1), and it
+    /// takes no memory.
     pub fn move_to_front(&mut self, place: Place)
         requires placed { is_placed self.old.values place ≡ true }
         ensures values { self.new.values ≡ self.old.values }
@@ -212,9 +212,9 @@ impl<T: HasKey, I: Index<T, A>, A: Allocator> Indexed<T, I, A> {
         lists::move_to_back(&mut self.in_order, &mut self.pool.links.1, place);
     }
 
-    /// Removes the object at a place and returns it. It requires that there is an object at the place. The other objects keep their order.
+    /// Removes the object at a place and returns it. The call requires that there is an object at the place. The other objects keep their order.
     ///
-    /// The call costs about as much as a search of the index, which is O(log n) with a tree. It takes no memory.
+    /// The call costs about as much as a search of the index, which is O(log n) with a tree. The call takes no memory.
     pub fn remove(&mut self, place: Place) -> T
         requires placed { is_placed self.old.values place ≡ true }
         ensures value { object_at self.old.values place ≡ Some result }
@@ -232,7 +232,7 @@ impl<T: HasKey, I: Index<T, A>, A: Allocator> Indexed<T, I, A> {
 
     /// Removes the first object and returns it, or returns `None` if there is no object. The other objects keep their order.
     ///
-    /// The call costs about as much as a search of the index, which is O(log n) with a tree. It takes no memory.
+    /// The call costs about as much as a search of the index, which is O(log n) with a tree. The call takes no memory.
     pub fn pop_first(&mut self) -> Option<T>
         ensures popped { MatchOption result ((values_of self.old ≡ []) × (self.new ≡ self.old)) (λ first. values_of self.old ≡ first ∷ values_of self.new) }
         ensures parts { self.new.parts ≡ self.old.parts }
@@ -251,10 +251,9 @@ impl<T: HasKey, I: Index<T, A>, A: Allocator> Indexed<T, I, A> {
         Some(self.remove(place))
     }
 
-    /// Replaces the object at a place by a value, moves it to the front, and returns the old object. It requires that there is an object at the
-    /// place.
+    /// Replaces the object at a place by a value, moves it to the front, and returns the old object. The call requires that there is an object at the place.
     ///
-    /// The call costs about as much as two searches of the index, which is O(log n) with a tree. It takes no memory.
+    /// The call costs about as much as two searches of the index, which is O(log n) with a tree. The call takes no memory.
     pub fn replace_and_touch(&mut self, place: Place, value: T) -> T
         requires placed { is_placed self.old.values place ≡ true }
         ensures value { object_at self.old.values place ≡ Some result }
@@ -270,11 +269,11 @@ impl<T: HasKey, I: Index<T, A>, A: Allocator> Indexed<T, I, A> {
 
     /// Adds an object at the front.
     ///
-    /// If the call is refused, the caller gets the value back, and nothing has changed. The error is `NoPlaceLeft` exactly if all 4,294,967,296 places are
-    /// in use. Every other error is `OutOfMemory`. It is also the error if the links have 4-byte words, and all 536,870,911 places are in use that such
-    /// words can name.
+    /// If the call is refused, the caller gets the value back, and nothing has changed. The error is `NoPlaceLeft` exactly if all 4,294,967,296 places are in
+    /// use. Every other error is `OutOfMemory`. `OutOfMemory` is also the error if the links have 4-byte words, and all 536,870,911 places that such words
+    /// can name are in use.
     ///
-    /// The call costs about as much as a search of the index, which is O(log n) with a tree. It makes at most three requests for memory.
+    /// The call costs about as much as a search of the index, which is O(log n) with a tree. The call makes at most three requests for memory.
     pub fn place_front(&mut self, value: T) -> Result<UnsafeRef<T>, PlaceError<T>>
         ensures placed { IfOk result (λ object. Places self.old.values self.new.values object value) }
         ensures added { OnOk result (values_of self.new ≡ value ∷ values_of self.old) }

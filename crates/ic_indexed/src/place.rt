@@ -9,8 +9,8 @@ use ic_pool::{PlaceError, Pool, Tables};
 use ic_unsafe_ref::UnsafeRef;
 use std::alloc::Allocator;
 
-// Stores a value as a new object, and inserts the object into the index where its key belongs. The list's links have room for the object, and stay as they
-// are.
+// Stores a value as a new object, and inserts the object into the index where its key belongs. Afterwards the list's table covers the object's place, and its
+// entries are as they were.
 pub(crate) fn place<T: HasKey, I: Index<T, A>, L: Tables, A: Allocator>(
     pool: &mut Pool<T, (I::Links, L), A>,
     index: &mut I,

@@ -1,4 +1,4 @@
--- Each value has its own key, and these lemmas are about the value with a key, about the other values, and about what is left without it.
+-- Lemmas about a list of values with unique keys: about the value with a key, and about the other values.
 use Rattle.std.proofs.Common.{◌≡◌, ℕ, ◌+◌, ◌-◌, ◌≤◌, Bool, true, false, not, cond, MatchOption, Option, None, Some, IsSome, is_some, List, [], ◌∷◌, ◌++◌, length, filter, refl, sym, ap, ◌∙◌, subst, arith, append-nil, eq-eqb, length-append, ne_eqb, true≢false}
 use Rattle.std.proofs.lemmas.Bool.{eqb-false}
 use Rattle.std.proofs.lemmas.Bool.Decides.{nat_tests}
@@ -20,7 +20,7 @@ use Rattle.ic_keyed.specs.Keyed.{has_key, value_with, without, touched, with_val
 use Rattle.ic_keyed.specs.Kept.{keyed_of}
 
 module _ {T : Type 0} where
-  -- THE FIRST VALUE of a list and the last value: if a list has a first or a last value, it begins or ends with this value
+  -- if a list has a first value, it begins with this value. `last_cut` says that it ends with its last value
   pub first_cut : (values : List T) {first : T} → first_value values ≡ Some first → BeginsWith first values
   first_cut [] {first} e = absurd (none_not first e)
   first_cut (x ∷ values) e = (values, ap (λ (z : T). z ∷ values) (same_Some _ _ e))
@@ -77,7 +77,8 @@ module _ {T : Type 0} (key_of : T → ℕ) where
   pub without_nothing : (key : ℕ) (values : List T) → value_with key_of key values ≡ None → without key_of key values ≡ values
   without_nothing key values none = without_none key values (lack_found key values none)
 
-  -- IF A VALUE HAS THE KEY, this value is the first one after its use
+  -- if a search for the key finds a value, this value is the first of the values with the key. `touched_first`: after its use, the value is the first of all
+  -- values
   touched_some : (key : ℕ) (values : List T) {value : T} → value_with key_of key values ≡ Some value → (more : List T) × (filter (has_key key_of key) values ≡ value ∷ more)
   touched_some key [] {value} e = absurd (none_not value e)
   touched_some key (x ∷ values) {value} e = by (has_key key_of key x) e (touched_some key values {value = value}) where
@@ -107,9 +108,9 @@ module _ {T : Type 0} (key_of : T → ℕ) where
       let apart = all_back (λ other. has_key key_of (key_of x) other ≡ false) front (value ∷ back) own.0 in
       ((other_way x value apart.0, cut.0), cut.1, (all_without (λ other. has_key key_of (key_of x) other ≡ false) front value back own.0, cut.2))
 
-  -- ONE VALUE OF A LIST in which each value has its own key is removed, and the others stay
+  -- Lemmas about the removal of one value from a list in which each value has its own key
   module _ {value : T} {values rest : List T} (w : Without value values rest) where
-    -- if no value of a list has a key, no value of the list without one value has it
+    -- if no value of `values` has the key, no value of `rest` has the key
     pub still_lack : (key : ℕ) → Lack key_of key values → Lack key_of key rest
     still_lack key lack =
         subst (Lack key_of key) (sym w.is) (all_without (λ other. has_key key_of key other ≡ false) w.front value w.back (subst (Lack key_of key) w.was lack))
@@ -145,7 +146,7 @@ module _ {T : Type 0} (key_of : T → ℕ) where
           ∙ rw (with_none (key_of value) w.front cut.0, eq-eqb (key_of value) (key_of value) refl, with_none (key_of value) w.back cut.1) refl in
           ap (λ (l : List T). l ++ without key_of (key_of value) values) first ∙ ap (λ (l : List T). value ∷ l) without_it
 
-      -- these facts hold for each key by which a search finds the value, because the value has this key
+      -- the next lemmas are about a key with which a search finds the value. It is the value's own key
       module _ (key : ℕ) (found : value_with key_of key values ≡ Some value) where
         pub removed_it : rest ≡ without key_of key values
         removed_it = sym without_it ∙ ap (λ (n : ℕ). without key_of n values) (found_key key values found)
@@ -153,14 +154,14 @@ module _ {T : Type 0} (key_of : T → ℕ) where
         pub moved_it : value ∷ rest ≡ touched key_of key values
         moved_it = sym touched_it ∙ ap (λ (n : ℕ). touched key_of n values) (found_key key values found)
 
-  -- THE FIRST VALUE IS REMOVED, and the other values come after it in the list
+  -- if the first value is removed, the remaining values are those that came after it in the list
   pub without_first : {values rest : List T} {first : T} → HaveOwnKeys key_of values → Without first values rest → first_value values ≡ Some first → values ≡ first ∷ rest
   without_first {values} {rest} {first} own w e =
       let s = first_cut values e in
       let r : Without first values s.0 = record { front = []; back = s.0; was = s.1; is = refl } in
       s.1 ∙ ap (λ (l : List T). first ∷ l) (sym (without_it r own) ∙ without_it w own)
 
-  -- THE LAST VALUE IS REMOVED, and the other values come before it in the list
+  -- if the last value is removed, the remaining values are those that came before it in the list
   pub without_last : {values rest : List T} {last : T} → HaveOwnKeys key_of values → Without last values rest → last_value values ≡ Some last → values ≡ rest ++ last ∷ []
   without_last {values} {rest} {last} own w e =
       let s = last_cut values e in
@@ -174,7 +175,7 @@ module _ {T : Type 0} (key_of : T → ℕ) where
         sym (found_none key (values_of store) (from_each (λ value. has_key key_of key value ≡ false) store.values (λ p value there. ne_eqb (key_of value) key (none p value there)) store.order))
     found_value own key (Some p) found = found.1 ∙ sym (found_it (whole_value whole p found.1).1 own) ∙ ap (λ (n : ℕ). value_with key_of n (values_of store)) found.2
 
-  -- NO TWO VALUES HAVE EQUAL KEYS after a value is inserted at the front, whose key no value had
+  -- no two values have equal keys after a value whose key no other value had is inserted at the front
   pub own_added : (values : List T) (value : T) → HaveOwnKeys key_of values → value_with key_of (key_of value) values ≡ None → HaveOwnKeys key_of (value ∷ values)
   own_added values value own none = (lack_found (key_of value) values none, own)
 
@@ -207,7 +208,7 @@ module _ {T : Type 0} (key_of : T → ℕ) where
     own_last_out None e = subst (λ (store : IndexedOrder T). HaveOwnKeys key_of (values_of store)) (sym e.1) own
     own_last_out (Some last) e = own_front (values_of new) (last ∷ []) (subst (HaveOwnKeys key_of) e own)
 
--- ONE VALUE IS REMOVED at the front or at the back, and the values of the container are the remaining ones
+-- Lemmas about a container from which one value is removed, at the front or at the back
 module _ {T : Type 0} (old new : IndexedOrder T) (parts : new.parts ≡ old.parts) where
   pub first_popped : (o : Option T) → MatchOption o ((values_of old ≡ []) × (new ≡ old)) (λ first. values_of old ≡ first ∷ values_of new)
       → MatchOption o (((keyed_of old).values ≡ []) × (keyed_of new ≡ keyed_of old)) (λ first. keyed_of old ≡ with_values (keyed_of new) (first ∷ values_of new))

@@ -6,7 +6,8 @@ use Rattle.ic_container.specs.Values.{first_value}
 use Rattle.ic_keyed.specs.Keyed.{KeyedValues, with_values}
 use Rattle.ic_keyed.specs.Tests.{AreAnswers, Tests, passing}
 
--- THE TEST WAS CALLED for the first `turns` values. The container now has the values that are left, and after them those that passed
+-- THE TEST WAS CALLED for the first `turns` values. The container then has the values `left`, which were not tested yet, and after them the tested values
+-- that passed
 pub record Asked {T : Type 0} (tells : T → Bool → Type 0) (values now : List T) (turns : ℕ) : Type 0 where
   pub done : List T
   pub left : List T
@@ -87,7 +88,7 @@ module _ {T : Type 0} {value first : T} {others rest : List T} (same : value ∷
 pub keyed_is : {T : Type 0} (old new : KeyedValues T) (values : List T) → new.parts ≡ old.parts → new.values ≡ values → new ≡ with_values old values
 keyed_is old new values alike same = λ i. record { values = same i; parts = alike i }
 
--- ONE VALUE IS REMOVED, if there was one, and the container has one value less
+-- if a container with values loses its last value, it has one value less
 module _ {T : Type 0} (old new : KeyedValues T) where
   pub one_out : (o : Option T) → MatchOption o ((old.values ≡ []) × (new ≡ old)) (λ last. old ≡ with_values new (new.values ++ last ∷ [])) → 1 ≤ length old.values → length new.values + 1 ≡ length old.values
   one_out None e some = absurd (omega (arith, some, ap length e.0))

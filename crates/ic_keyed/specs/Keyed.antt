@@ -2,8 +2,8 @@
 use Rattle.std.specs.Prelude.{◌≡◌, ℕ, Bool, false, not, eqb, Option, List, [], ◌∷◌, ◌++◌, filter, find}
 use Rattle.std.specs.List.{AllByRecursion}
 
--- `values` has the values, from the one that was used last to the oldest. `parts` is the number of parts into which the index divides them, and a search
--- compares only values of one part
+-- `values` has the values, from the one that was used last to the oldest. `parts` is the number of parts into which the index divides the values, and a
+-- search compares only values of one part
 pub record KeyedValues (T : Type 0) : Type 0 where
   pub values : List T
   pub parts : ℕ
@@ -25,7 +25,7 @@ module _ {T : Type 0} (key_of : T → ℕ) where
   abbrev pub without : ℕ → List T → List T
   without key values = filter (λ value. not (has_key key value)) values
 
-  -- TOUCHED: the value with the key, if there is one, is now first, and the other values keep their order
+  -- the values after a use of the key: the value with the key, if there is one, is first, and the other values keep their order
   abbrev pub touched : ℕ → List T → List T
   touched key values = filter (has_key key) values ++ without key values
 

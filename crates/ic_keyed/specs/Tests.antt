@@ -1,7 +1,7 @@
 -- A test is called for values, and these definitions say what it returns.
 use Rattle.std.specs.Prelude.{◌≡◌, Bool, cond, List, [], ◌∷◌}
 
--- `tells v b` says that the test may return b for the value v. The test returns for each value what `holds` computes
+-- `tells v b` says that a test may return b for the value v. `Tests tells holds` says that the test returns for each value what `holds` computes
 abbrev pub Tests : {T : Type 0} → (T → Bool → Type 0) → (T → Bool) → Type 0
 Tests {T} tells holds = (value : T) (answer : Bool) → tells value answer → answer ≡ holds value
 

@@ -56,7 +56,7 @@ impl<T: HasKey, I: Index<T, A>, A: Allocator> Model for Keyed<T, I, A> {
 }
 
 impl<T: HasKey, A: Allocator> Keyed<T, RBTree<ByKey<T>>, A> {
-    /// Makes a container without values, with a tree as the index. It takes no memory. O(1).
+    /// Makes a container without values, with a tree as the index. The call takes no memory. O(1).
     pub fn new(alloc: A) -> TreeKeyed<T, A>
     where
         A: Copy,
@@ -68,7 +68,7 @@ impl<T: HasKey, A: Allocator> Keyed<T, RBTree<ByKey<T>>, A> {
 }
 
 impl<T: HasKey, W: NodeWords, O: PrevPlace, A: Allocator> Keyed<T, RBTree<ByKey<T, W, O>>, A> {
-    /// Makes a container without values, with a tree over links of either width as the index: `NarrowTreeKeyed::by_tree(rt.alloc())`. It takes no
+    /// Makes a container without values, with a tree over links of either width as the index: `NarrowTreeKeyed::by_tree(rt.alloc())`. The call takes no
     /// memory. O(1).
     pub fn by_tree(alloc: A) -> Keyed<T, RBTree<ByKey<T, W, O>>, A>
     where
@@ -88,9 +88,10 @@ impl<T: HasKey, I: Index<T, A>, A: Allocator> Keyed<T, I, A> {
     ghost use Rattle.ic_keyed.specs.Refusals.{IsRefused};
     ghost use Rattle.ic_keyed.specs.Tests.{AreAnswers, Tests, passing};
 
-    /// Makes a container without values, with the given index, for example: `Keyed::with_index(rt.alloc(), HashIndex::new(buckets))`. It takes no memory.
+    /// Makes a container without values, with the given index, for example: `Keyed::with_index(rt.alloc(), HashIndex::new(buckets))`. The call takes no
+    /// memory.
     ///
-    /// It requires that the index is new. O(1).
+    /// The call requires that the index is new. O(1).
     pub fn with_index(alloc: A, index: I) -> Keyed<T, I, A>
     where
         A: Copy,
@@ -127,8 +128,8 @@ impl<T: HasKey, I: Index<T, A>, A: Allocator> Keyed<T, I, A> {
         self.store.is_empty()
     }
 
-    /// Makes room for the links of `additional` more values, so that inserting them takes memory only for the values themselves. The values and their
-    /// order stay the same, even if the call is refused. It makes at most two requests for memory. O(n) in the places that are new.
+    /// Makes room for the links of `additional` more values, so that inserting them takes memory only for the values themselves. The values and their order
+    /// stay the same, even if the call is refused. The call makes at most two requests for memory. O(n) in the places that are new.
     pub fn reserve(&mut self, additional: usize) -> Result<(), CoverError>
         ensures { self.new ≡ self.old }
     {
@@ -210,8 +211,8 @@ impl<T: HasKey, I: Index<T, A>, A: Allocator> Keyed<T, I, A> {
     /// Adds a value at the front.
     ///
     /// The call is refused if another value has the key of the new value, or if there is no room for one more. If it is refused, the caller gets the value
-    /// back, and nothing has changed. It costs two searches, and at most three requests for memory. O(log n) by a tree, and O(length of a chain) by a hash
-    /// table.
+    /// back, and nothing has changed. The call costs two searches, and at most three requests for memory. O(log n) by a tree, and O(length of a chain) by a
+    /// hash table.
     pub fn insert(&mut self, value: T) -> Result<(), InsertError<T>>
         ensures inserted { OnOk result ((value_with T.key_of (T.key_of value) self.old.values ≡ None) × (self.new ≡ with_values self.old (value ∷ self.old.values))) }
         ensures refused { IfErr result (λ refused. IsRefused T.key_of value self.old.values refused × (self.new ≡ self.old)) }
@@ -226,7 +227,7 @@ impl<T: HasKey, I: Index<T, A>, A: Allocator> Keyed<T, I, A> {
         Ok(())
     }
 
-    /// Adds a value before all others, without the search of `insert`. It requires that no value in the container has the key of the new value.
+    /// Adds a value before all others, without the search of `insert`. The call requires that no value in the container has the key of the new value.
     ///
     /// If there is no room for one more, the caller gets the value back, and nothing has changed.
     /// O(log n) by a tree, and O(length of a chain) by a hash table.
@@ -245,8 +246,8 @@ impl<T: HasKey, I: Index<T, A>, A: Allocator> Keyed<T, I, A> {
     /// Replaces the value that has the same key as the given value, moves the given value to the front, and returns the old value. The other values keep
     /// their order.
     ///
-    /// If no value in the container has this key, the call returns the given value as an error, and nothing has changed. It makes one search. O(log n) by
-    /// a tree, and O(length of a chain) by a hash table.
+    /// If no value in the container has this key, the call returns the given value as an error, and nothing has changed. The call makes one search. O(log n)
+    /// by a tree, and O(length of a chain) by a hash table.
     pub fn replace(&mut self, value: T) -> Result<T, T>
         ensures replaced { IfOk result (λ gone. (value_with T.key_of (T.key_of value) self.old.values ≡ Some gone)
             × (self.new ≡ with_values self.old (value ∷ without T.key_of (T.key_of value) self.old.values))) }
@@ -258,11 +259,11 @@ impl<T: HasKey, I: Index<T, A>, A: Allocator> Keyed<T, I, A> {
         Ok(self.store.replace_and_touch(place, value))
     }
 
-    /// Replaces the value that was used longest ago by the given value, moves the given value to the front, and returns the old value. The other values
-    /// keep their order. It requires that no value in the container has the key of the given value.
+    /// Replaces the value that was used longest ago by the given value, moves the given value to the front, and returns the old value. The other values keep
+    /// their order. The call requires that no value in the container has the key of the given value.
     ///
-    /// If there is no value in the container, the call returns the given value as an error, and nothing has changed. It costs two searches. O(log n) by a
-    /// tree, and O(length of a chain) by a hash table.
+    /// If there is no value in the container, the call returns the given value as an error, and nothing has changed. The call costs two searches. O(log n) by
+    /// a tree, and O(length of a chain) by a hash table.
     pub fn replace_last(&mut self, value: T) -> Result<T, T>
         requires new { value_with T.key_of (T.key_of value) self.old.values ≡ None }
         ensures replaced { IfOk result (λ last. ReplacesLast last value self.old self.new) }
@@ -274,8 +275,8 @@ impl<T: HasKey, I: Index<T, A>, A: Allocator> Keyed<T, I, A> {
         Ok(self.store.replace_and_touch(oldest, value))
     }
 
-    /// Removes the value with the key and returns it, if there is one. The other values keep their order. It costs two searches. O(log n) by a tree, and
-    /// O(length of a chain) by a hash table.
+    /// Removes the value with the key and returns it, if there is one. The other values keep their order. The call costs two searches. O(log n) by a tree,
+    /// and O(length of a chain) by a hash table.
     pub fn remove(&mut self, key: u64) -> Option<T>
         ensures value { result ≡ value_with T.key_of key self.old.values }
         ensures removed { self.new ≡ with_values self.old (without T.key_of key self.old.values) }
@@ -300,8 +301,8 @@ impl<T: HasKey, I: Index<T, A>, A: Allocator> Keyed<T, I, A> {
         self.store.pop_last()
     }
 
-    /// Keeps the values that pass the test, in their order, and drops the other values. It calls the test once for each value, beginning with the value
-    /// that was used last. It takes a few steps for each value, and about as long as a search for each value that it drops. O(n log n) by a tree.
+    /// Keeps the values that pass the test, in their order, and drops the other values. The call runs the test once for each value, beginning with the value
+    /// that was used last. The call takes a few steps for each value, and about as long as a search for each value that it drops. O(n log n) by a tree.
     pub fn retain<F: Fn(&T) -> bool>(&mut self, keeps: F)
     where
         T: Drop,

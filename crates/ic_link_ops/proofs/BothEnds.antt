@@ -1,4 +1,4 @@
--- A walk from both ends returns exactly its sequence.
+-- This file proves that a walk from both ends returns each item of its sequence once, and no other item.
 use Rattle.std.proofs.Common.{◌≡◌, Option, Some, List, [], ◌∷◌, ◌++◌, map, reverse, refl, sym, ◌∙◌, ap, subst, append_assoc}
 use Rattle.std.proofs.lemmas.List.{reverse-append}
 use Rattle.ic_link_ops.specs.BothEnds.{Item, at_the_front, at_the_back, Leads, from_front, from_back}
@@ -44,7 +44,8 @@ module _ {A B : Type 0} (view : A → B) where
   from_back_on (at_the_front x ∷ items) more = from_back_on items more
   from_back_on (at_the_back x ∷ items) more = ap (λ (l : List B). view x ∷ l) (from_back_on items more)
 
-  -- If `view` is applied to each item that was returned, the result is the list that the definition with `view` computes.
+  -- The list `from_front view items` is what results if `view` is applied to each item that was returned at the front. The same
+  -- is true of `from_back`.
   pub from_front_map : (items : List (Item A)) → map view (from_front (λ x. x) items) ≡ from_front view items
   from_front_map [] = refl
   from_front_map (at_the_front x ∷ items) = ap (λ (l : List B). view x ∷ l) (from_front_map items)

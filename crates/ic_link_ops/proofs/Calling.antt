@@ -13,26 +13,26 @@ use Rattle.ic_link_ops.specs.Chains.{ListHead, RepresentsChain}
 use Rattle.ic_link_ops.specs.Walk.{GivesFirst}
 use Rattle.ic_link_ops.proofs.RepresentedLists.{represents_kept}
 
--- AN UNLINKED OBJECT IS ACCEPTED if a refusal would mean that the object was linked, for example over a plain table. If the
--- object was unlinked, the call returned `Ok`, and the statement about `Ok` holds.
+-- A plain table, for example, refuses to link an object only if the object was linked (`was` is true). If the object was
+-- unlinked, the call therefore returned `Ok`, and the statement P, which is about `Ok`, holds.
 pub accepted : {A X P : Type 0} {was : Bool} (Same : Type 0) (r : Result A X) → was ≡ false → OnErr r ((was ≡ true) × Same) → OnOk r P → P
 accepted Same (Ok a) off refused holds = holds
 accepted Same (Err x) off refused holds = let never : false ≡ true = sym off ∙ refused.0 in absurd (cc)
 
--- A PUSH WAS ACCEPTED OR REFUSED: if the goal follows in the accepted case, and also in the refused case, in which nothing has
--- changed, the goal holds.
+-- A push is accepted or refused. The statement `Goal` holds if it follows from the clause about an accepted push, and also from
+-- the clauses about a refused push.
 pub either : {A X P Q S Goal : Type 0} (R : X → Type 0) (r : Result A X) → OnOk r P → OnErr r Q → IfErr r (λ e. R e × S) → (P → Goal) → (Q → S → Goal) → Goal
 either R (Ok a) holds refused unchanged accepts refuses = accepts holds
 either R (Err e) holds refused unchanged accepts refuses = refuses refused unchanged.1
 
--- LISTS SURVIVE `cover`, whatever it returned: each list keeps its sequence, because no entry changed. The argument `stays` is
--- the clause of the contract that says that no entry changed.
+-- After `cover`, accepted or refused, each list keeps its sequence, because no entry changed. The argument `stays` is the clause
+-- `stays` of the contract of `cover`.
 pub still_represented : {E W : Type 0} {between : E → Option Place → Option Place → Type 0} {kept : Option Place → W} {old new : Table E} {list : ListHead W} {s : List Place}
     → ((q : Place) → new.entry q ≡ old.entry q) → RepresentsChain between kept old list s → RepresentsChain between kept new list s
 still_represented stays shown = represents_kept shown (λ q member. stays q)
 
--- WHAT A WALK LENDS in a `for` loop or to `collect`: the walk lends the objects in the list `left walk`, in order. The argument
--- `is` is the clause `walks` of the contract of `iter`.
+-- In a `for` loop, or to `collect`, a walk lends the objects in the list `left walk`, in order. The argument `is` is the clause
+-- `walks` of the contract of `iter`.
 module _ {S T : Type 0} (left : S → List T) where
   pub walk_yields : {walk : S} {xs : List T} → left walk ≡ xs → YieldsList (GivesFirst left) (λ x. x.now) walk xs
   walk_yields {walk} is =
@@ -46,12 +46,12 @@ module _ {S T : Type 0} (left : S → List T) where
   walk_copied {walk} {copied} source is =
       let lent = walk_yields {walk = walk} is in YieldsList-from_copied {s = copied} (rw (← source) at lent)
 
--- A MEMBER of a represented sequence has a position in it: some members are before it and some are after it.
+-- If q is a member of a sequence s for which `shows` is true, `HasMember` holds for q.
 pub has_member : (shows : List Place → Type 0) {q : Place} (s : List Place) → shows s → IsMember q s → HasMember shows q
 has_member shows {q} s shown member =
     let m = member_split q s member in record { front = m.0; back = m.1; shown = subst shows m.2 shown }
 
--- A REMOVED MEMBER is still covered by the table.
+-- A removed member is still covered by the table.
 module _ {L E H : Type 0} {Represents : Table E → H → List Place → Type 0} {table : L → Table E} {Trace : L → L → List LinkStep → Type 0} (linked : E → Bool)
     (replays : (a b : L) (s : List LinkStep) → Trace a b s → TraceIs linked (table a) (table b) s) (law : (t : L) (p : Place) → IsLinked linked (table t) p → IsCovered (table t) p) where
   pub removed_covered : {old new : CursorState L H} (r : Option Place) → IsValidCursor Represents table old → RemovesThere Represents table Trace old r new → IfSome r (λ p. IsCovered (table new.links) p)

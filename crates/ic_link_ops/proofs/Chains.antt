@@ -1,4 +1,5 @@
--- Chains can be cut and joined, the neighbors at their ends can be changed, and they stay if the entries of their members stay.
+-- This file proves facts about chains. A chain can be cut, and chains can be joined. The neighbors at the ends of a chain can be
+-- changed. A chain stays if the entries of its members stay.
 use Rattle.std.proofs.Common.{◌≡◌, ◌≢◌, Option, Some, None, List, [], ◌∷◌, ◌++◌, reverse, Bool, true, false, refl, sym, ap}
 use Rattle.ic_link_ops.specs.Prelude.{Place, IsAbsent, IsDistinct, IsDisjoint, first_or, last_or, first, last, but_last}
 use Rattle.ic_link_ops.specs.Chains.{IsChain}
@@ -24,19 +25,20 @@ module _ {E : Type 0} (between : E → Option Place → Option Place → Type 0)
   chain_frame old new b [] a t apart same c = tt
   chain_frame old new b (x ∷ s) a t apart same c = (rw (same x apart.0) c.0, chain_frame old new (Some x) s a t apart.1 same c.1)
 
-  -- A chain that is cut in two gives two chains: the part s, and the part r.
+  -- If the sequence s followed by r is a chain, both s and r are chains.
   pub chain_cut : (t : Place → E) (b : Option Place) (s r : List Place) (a : Option Place)
       → IsChain between t b (s ++ r) a → IsChain between t b s (first_or r a) × IsChain between t (last_or b s) r a
   chain_cut t b [] r a c = (tt, c)
   chain_cut t b (x ∷ s) r a c = let k = chain_cut t (Some x) s r a c.1 in ((rw (← first_or-append s r a) c.0, k.0), k.1)
 
-  -- Two chains that fit together form one chain.
+  -- Let s and r be chains. If r begins after the last place of s, and s ends before the first place of r, the sequence of s
+  -- followed by r is a chain.
   pub chain_glue : (t : Place → E) (b : Option Place) (s r : List Place) (a : Option Place)
       → IsChain between t b s (first_or r a) → IsChain between t (last_or b s) r a → IsChain between t b (s ++ r) a
   chain_glue t b [] r a c k = k
   chain_glue t b (x ∷ s) r a c k = (rw (first_or-append s r a) c.0, chain_glue t (Some x) s r a c.1 k)
 
-  -- If the place after the last member of a chain changes from a to a', the chain continues to a'.
+  -- If the place after the last member of the chain s changes from a to a', s is a chain with a' after it.
   pub chain_last : (old new : Place → E) (b : Option Place) (s : List Place) (a a' : Option Place)
       → TurnsAfter between old new (last s) a a' → IsDistinct s → IsChain between old b s a → IsChain between new b s a'
   chain_last old new b [] a a' turn d c = tt
@@ -46,15 +48,15 @@ module _ {E : Type 0} (between : E → Option Place → Option Place → Type 0)
     chain_last old new (Some x) (y ∷ s) a a' turn d.1 c.1,
   )
 
-  -- If the place before the first member of a chain changes from b to b', the chain begins after b'.
+  -- If the place before the first member of the chain s changes from b to b', s is a chain with b' before it.
   pub chain_first : (old new : Place → E) (b b' : Option Place) (s : List Place) (a : Option Place)
       → TurnsBefore between old new (first s) b b' → IsDistinct s → IsChain between old b s a → IsChain between new b' s a
   chain_first old new b b' [] a turn d c = tt
   chain_first old new b b' (x ∷ s) a turn d c =
       (turn.turned x (first_or s a) refl c.0, chain_beside old new (Some x) (Some x) s a d.0 turn.others c.1)
 
-  -- THE TWO SIDES OF A GAP change: first the place after the last member of s changes, and then the place before the first member
-  -- of r. Then s and r are chains with their new neighbors.
+  -- First the place after the last member of s changes to x, and then the place before the first member of r changes to y. Then s
+  -- is a chain with x after it, and r is a chain with y before it.
   pub chain_parts : (t0 t1 t2 : Place → E) (s r : List Place) (f g x y : Option Place) → IsDistinct (s ++ r)
       → TurnsAfter between t0 t1 (last s) f x → TurnsBefore between t1 t2 (first r) g y
       → IsChain between t0 None s f → IsChain between t0 g r None → IsChain between t2 None s x × IsChain between t2 y r None
@@ -64,7 +66,7 @@ module _ {E : Type 0} (between : E → Option Place → Option Place → Type 0)
         chain_first t1 t2 g y r None before (distinct_right s r d) (chain_beside t0 t1 (last s) g r None (last_outside None s r tt apart) after.others k),
       )
 
-  -- One place p is put between two chains, and the three together are one chain.
+  -- If the place p is inserted between the chains s and r, the sequence of s, p and r is one chain.
   pub chain_filled : (t0 t1 t2 t3 : Place → E) (s : List Place) (p : Place) (r : List Place) (f g : Option Place) → IsDistinct (s ++ p ∷ r)
       → TurnsAfter between t0 t1 (last s) f (Some p) → TurnsBefore between t1 t2 (first r) g (Some p)
       → between (t3 p) (last s) (first r) → ((q : Place) → q ≢ p → t3 q ≡ t2 q)
@@ -76,8 +78,8 @@ module _ {E : Type 0} (between : E → Option Place → Option Place → Type 0)
       chain_glue t3 None s (p ∷ r) None (chain_beside t2 t3 (Some p) None s (Some p) (absent_left p s r out) others parts.0)
       (stands, chain_beside t2 t3 (Some p) (Some p) r None (absent_right p s r out) others parts.1)
 
-  -- A second chain is put into a gap of the first chain. First the entries on both sides of the gap are changed, and then the
-  -- entries of the second chain's first and last member.
+  -- If a second chain is inserted at a gap of a first chain, the whole sequence is a chain. First the entries on both sides of
+  -- the gap are changed, and then the entries of the second chain's first and last member.
   pub chain_spliced : (t0 t1 t2 t3 t4 : Place → E) (s : List Place) (x : Place) (mid r : List Place)
       → IsDistinct (s ++ r) → IsDistinct (x ∷ mid) → IsDisjoint (x ∷ mid) (s ++ r)
       → TurnsAfter between t0 t1 (last s) (first r) (Some x) → TurnsBefore between t1 t2 (first r) (last s) (last (x ∷ mid))
@@ -100,7 +102,8 @@ module _ {E : Type 0} (between : E → Option Place → Option Place → Type 0)
       let r4 = chain_beside t3 t4 (last m) (last m) r None (last_outside None m r tt m_r) turn4.others r3 in
       chain_glue t4 None s (m ++ r) None s4 (chain_glue t4 (last s) m r None m4 r4)
 
-  -- The entry of the last member of a chain names the members before and after it, and so does the entry of the first member.
+  -- The entry of the last member of a chain names the places before and after this member (`last_between`), and so does the entry
+  -- of the first member (`first_between`).
   pub last_between : (t : Place → E) (b : Option Place) (s : List Place) (a : Option Place) {q : Place}
       → IsChain between t b s a → Some q ≡ last s → between (t q) (last_or b (but_last s)) a
   last_between t b [] a {q} c e = absurd (none_not q (sym e))
@@ -111,7 +114,7 @@ module _ {E : Type 0} (between : E → Option Place → Option Place → Type 0)
       → IsChain between t b (x ∷ s) a → q ≡ x → between (t q) b (first_or s a)
   first_between t b x s a c e = rw e c.0
 
-  -- If a chain is a chain for one relation of neighbors, it is also a chain for every weaker relation.
+  -- A chain for the relation `between` is also a chain for every relation that `between` implies.
   pub chain_weakened : (weaker : E → Option Place → Option Place → Type 0) → ((e : E) (b a : Option Place) → between e b a → weaker e b a)
       → (t : Place → E) (b : Option Place) (s : List Place) (a : Option Place) → IsChain between t b s a → IsChain weaker t b s a
   chain_weakened weaker weaken t b [] a c = tt
@@ -136,7 +139,7 @@ module _ {E : Type 0} (between : E → Option Place → Option Place → Type 0)
     chain_absent t b (x ∷ s) a p c free =
         ((λ e. let k : linked (t p) ≡ true = rw e (law (t x) b (first_or s a) c.0) in cc), chain_absent t (Some x) s a p c.1 free)
 
--- The mirrored relation of neighbors exchanges the place before and the place after.
+-- In the mirrored relation of neighbors, the place before and the place after are exchanged.
 abbrev pub mirrored : {E : Type 0} → (E → Option Place → Option Place → Type 0) → E → Option Place → Option Place → Type 0
 mirrored between e b a = between e a b
 

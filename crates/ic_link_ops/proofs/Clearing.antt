@@ -1,4 +1,5 @@
--- The members of a list are unlinked one after the other, from the front. The facts in this file hold for every kind of list.
+-- This file is about a walk that unlinks the members of a list one after the other, from the front. The facts in this file hold
+-- for every kind of list.
 use Rattle.std.proofs.Common.{◌≡◌, ◌≢◌, ◌<◌, Option, Some, None, List, [], ◌∷◌, ◌++◌, drop, length, refl, sym, ◌∙◌, ap, subst, arith, append_assoc, append-nil}
 use Rattle.ic_link_ops.specs.Prelude.{Place, IsAbsent, IsDistinct, first, last, Table, IsCovered}
 use Rattle.ic_link_ops.specs.Chains.{IsChain}
@@ -8,8 +9,8 @@ use Rattle.ic_link_ops.proofs.Chains.{chain_beside}
 use Rattle.ic_link_ops.proofs.Walks.{walk_blind, stretch_through}
 
 module _ {E : Type 0} (between : E → Option Place → Option Place → Type 0) where
-  -- The members of s from `current` on are still a chain. The members before `current` are in `done`, and the members from
-  -- `current` on are in `rest`.
+  -- The walk has come to `current`. The members of s before `current` are in `done`, and the members from `current` on are in
+  -- `rest`. The members in `rest` are still a chain.
   pub record Releases (old new : Table E) (s : List Place) (current : Option Place) : Type 0 where
     pub done : List Place
     pub rest : List Place
@@ -35,12 +36,12 @@ module _ {E : Type 0} {between : E → Option Place → Option Place → Type 0}
   rest_is : {old new : Table E} {s : List Place} {p : Place} (k : Releases between old new s (Some p)) → k.rest ≡ p ∷ drop 1 k.rest
   rest_is k = first_is k.rest k.at
 
-  -- The entry of the current member p names its neighbors in the list.
+  -- The entry of the current member p names the neighbors of p in the list.
   pub next_between : {old new : Table E} {s : List Place} {p : Place} (k : Releases between old new s (Some p))
       → between (new.entry p) (last k.done) (first (drop 1 k.rest))
   next_between {new = new} {p = p} k = let P : List Place → Type 0 = λ l. IsChain between new.entry (last k.done) l None in (subst P (rest_is k) k.chain).0
 
-  -- ONE STEP unlinks the current member p. The member p moves to `done`, and the member after p becomes the current member.
+  -- One step unlinks the current member p. Then p is the last member in `done`, and the member after p is the current member.
   pub releases_more : {old new new' : Table E} {s : List Place} {p : Place} {current : Option Place} → IsDistinct s
       → (k : Releases between old new s (Some p)) → ((q : Place) → q ≢ p → new'.entry q ≡ new.entry q)
       → current ≡ first (drop 1 k.rest) → (k' : Releases between old new' s current) × (k.rest ≡ p ∷ k'.rest) × (k'.done ≡ k.done ++ p ∷ [])
@@ -79,14 +80,14 @@ module _ {E : Type 0} {between : E → Option Place → Option Place → Type 0}
       stretch_through step law new covered {b = last k.done} {from = current} {to = last k.rest}
       (record { distinct = distinct_right k.done k.rest (subst IsDistinct k.parts d); chain = k.chain; starts = k.at; ends = refl })
 
-  -- A walk from the current member on reaches exactly the members that are left. The walk uses no place before, because an entry
-  -- alone determines the place after.
+  -- A walk from the current member on reaches exactly the members that are left. The walk does not need to know the place before
+  -- a member, because an entry alone determines the place after.
   pub releases_left_blind : (next : E → Option Place) → ((e : E) (before after : Option Place) → between e before after → next e ≡ after)
       → {old new : Table E} {s : List Place} {current : Option Place} → ((q : Place) (b a : Option Place) → between (new.entry q) b a → IsCovered new q)
       → IsDistinct s → (k : Releases between old new s current) → walked (λ e before. next e) new None current None ≡ k.rest
   releases_left_blind next law {new = new} {current = current} covered d k =
       walk_blind next new.entry new.extent.places None (last k.done) current None ∙ releases_left (λ e before. next e) law covered d k
 
--- After each step one member less is left.
+-- After each step `rest` has one member fewer.
 pub releases_fewer : {p : Place} {rest rest' was is : List Place} → was ≡ rest → is ≡ rest' → rest ≡ p ∷ rest' → length is < length was
 releases_fewer was is more = omega (arith, ap length was, ap length is, ap length more)

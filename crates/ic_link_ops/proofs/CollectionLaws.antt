@@ -17,27 +17,26 @@ pub record IsKind {E H : Type 0} (Represents : Table E → H → List Place → 
   pub one : (t : Table E) (list : H) (s u : List Place) → Represents t list s → Represents t list u → s ≡ u
 
 module _ {E H : Type 0} {Represents : Table E → H → List Place → Type 0} {linked : E → Bool} {empty : H} (kind : IsKind Represents linked empty) where
-  -- EVERY TABLE REPRESENTS THE EMPTY SEQUENCE for a new collection.
+  -- Every table represents the empty sequence for a new collection.
   pub new_represents_nothing : (t : Table E) → Represents t empty []
   new_represents_nothing t = kind.nothing t
 
-  -- A TABLE REPRESENTS AT MOST ONE SEQUENCE for a collection.
+  -- All sequences that a table represents for a collection are equal.
   pub one_sequence_is_represented : {t : Table E} {list : H} {s u : List Place} → Represents t list s → Represents t list u → s ≡ u
   one_sequence_is_represented {t} {list} {s} {u} shown other = kind.one t list s u shown other
 
-  -- A COLLECTION SURVIVES `cover`, whatever it returned: the collection keeps its sequence, because no entry changed. The
-  -- argument is the clause `stays` of the contract.
+  -- After `cover`, accepted or refused, a collection keeps its sequence, because no entry changed. The argument `stays` is the
+  -- clause `stays` of the contract of `cover`.
   pub kept_represented : {old new : Table E} {list : H} {s : List Place} → ((q : Place) → new.entry q ≡ old.entry q) → Represents old list s → Represents new list s
   kept_represented {old} {new} {list} {s} stays shown = kind.frame old new list s [] shown (disjoint_nothing s) (λ q out. stays q)
 
-  -- OTHER COLLECTIONS STAY: if only entries at members of `touched` change, a collection that shares no member with `touched`
-  -- keeps its sequence.
+  -- If only entries at members of `touched` change, a collection that shares no member with `touched` keeps its sequence.
   pub others_stay : {old new : Table E} {list : H} {s : List Place} (touched : List Place)
       → Represents old list s → IsDisjoint s touched → ChangesOnlyIn old new touched → Represents new list s
   others_stay {old} {new} {list} {s} touched shown apart frame = kind.frame old new list s touched shown apart frame.others
 
-  -- A SPLIT AND THEN A SPLICE at one position give the old sequence, and change no entry of another place. `splits` and `splices`
-  -- are the results of the two calls.
+  -- A split and then a splice at the same position lead back to the old sequence. Together they change only entries of its
+  -- members. `splits` and `splices` are clauses of the contracts of the two calls.
   pub split_then_splice : {t u v : Table E} {list kept handed spliced : H} {position : Option Place} (gap : Cut) → Represents t list (join gap) → IsAfter gap position
       → (splits : (g : Cut) → Represents t list (join g) → IsAfter g position → Splits Represents t u kept handed g.front g.back)
       → (splices : (g : Cut) (s : List Place) → Represents u kept (join g) → IsAfter g position → Represents u handed s → IsDisjoint s (join g) → Splices Represents u v spliced g s)

@@ -17,7 +17,8 @@ count_same f f' p (suc n) same h =
     let r = count_same f f' p n same (omega arith) in
     omega (arith, r, ap one_if e)
 
--- If the number p below n passes the test f but not the test f', and the tests differ only at p, the count falls.
+-- If the number p below n passes the test f but not the test f', and the tests differ only at p, the count of f' is less than the
+-- count of f.
 pub count_falls : (f f' : ℕ → Bool) (p : ℕ) (n : ℕ) → ((q : ℕ) → q ≢ p → f' q ≡ f q) → f p ≡ true → f' p ≡ false → p < n → count f' n < count f n
 unfolding count
 count_falls f f' p zero same on off h = absurd (omega arith)

@@ -11,13 +11,13 @@ use Rattle.ic_link_ops.proofs.CollectionLaws.{IsKind}
 use Rattle.ic_link_ops.proofs.Clearing.{Releases, releases_left_blind}
 use Rattle.ic_link_ops.proofs.Walks.{walk_blind, walked_from_gap, stretch_walked, stretch_length, stretch_one, stretch_more, stretch_less, stretch_none, stretch_empty, stretch_empty_back, stretch_between, stretch_first, stretch_last}
 
--- ONLY COVERED PLACES ARE LINKED: if an entry says that its place is linked, the table covers the place.
+-- Only covered places are linked: if an entry says that its place is linked, the table covers the place.
 pub neighbors_covered : {L E : Type 0} {linked : E → Bool} (n : E → Neighbors) (table : L → Table E) → ((t : L) (q : Place) → IsLinked linked (table t) q → IsCovered (table t) q)
     → ((e : E) → (n e).linked ≡ linked e) → (t : L) (q : Place) → (n ((table t).entry q)).linked ≡ true → IsCovered (table t) q
 neighbors_covered n table covered alike t q h = covered t q (sym (alike _) ∙ h)
 
 module _ {E : Type 0} {n : E → Neighbors} where
-  -- EACH SETTER changes one neighbor of the place p, whatever that neighbor was, and changes no other entry.
+  -- Each setter replaces one neighbor of the place p, whichever place this neighbor was, and changes no other entry.
   pub next_turns : {old new : Table E} {p : Place} {to : Option Place} (from : Option Place) → ChangesOnly old new p
       → neighbors_at n new p ≡ record (neighbors_at n old p) { next = to } → TurnsAfter (IsBetween n) old.entry new.entry (Some p) from to
   next_turns from frame set =
@@ -28,7 +28,7 @@ module _ {E : Type 0} {n : E → Neighbors} where
   prev_turns from frame set =
       turns_before frame (λ b h. record { linked = ap (λ x. x.linked) set ∙ h.linked; prev = ap (λ x. x.prev) set; next = ap (λ x. x.next) set ∙ h.next })
 
-  -- An entry and the place before determine the place after, and an entry and the place after determine the place before.
+  -- An entry and the place before determine the place after.
   pub between_one : (e : E) (a b c : Option Place) → IsBetween n e a b → IsBetween n e a c → b ≡ c
   between_one e a b c h k = sym h.next ∙ k.next
 
@@ -41,7 +41,7 @@ module _ {E : Type 0} {n : E → Neighbors} where
       → (from to : Option Place) (w : List Place) → IsWalk n t.entry from to w → length w ≤ t.extent.places
   walk_length t covered from to w k = stretch_length t (λ q b a h. covered q h.linked) k.part
 
-  -- A walk from one end to the other lists the members between the two ends.
+  -- If w is a walk from the place `from` to the place `to`, `members_between` lists w.
   pub walk_represented : (t : Table E) → ((q : Place) → (n (t.entry q)).linked ≡ true → IsCovered t q)
       → (from to : Option Place) (w : List Place) → IsWalk n t.entry from to w → members_between n t from to ≡ w
   walk_represented t covered from to w k =
@@ -87,7 +87,7 @@ module _ {E : Type 0} {n : E → Neighbors} where
   pub walk_of : (t : Table E) {list : Ends} {s : List Place} → Represents n t list s → IsWalk n t.entry list.head list.tail s
   walk_of t h = record { before = None; after = None; part = stretch_between h }
 
-  -- THE MEMBERS of a list, read from the entries, are the one sequence that the table represents for the list.
+  -- The members of a list, read from the entries, are the sequence that the table represents for the list.
   pub members_represented : (t : Table E) → ((q : Place) → (n (t.entry q)).linked ≡ true → IsCovered t q)
       → (list : Ends) (s : List Place) → Represents n t list s → members n t list ≡ s
   members_represented t covered list s shown = walk_represented t covered list.head list.tail s (walk_of t shown)
@@ -97,20 +97,19 @@ module _ {E : Type 0} {n : E → Neighbors} where
       → (list : Ends) (s : List Place) → Represents n t list s → length s ≤ t.extent.places
   represented_length t covered list s shown = walk_length t covered list.head list.tail s (walk_of t shown)
 
-  -- The members after a gap are the members from the first member after the gap to the end of the list.
+  -- The members after a gap are those that `members_between` lists from the first member after the gap to the end of the list.
   pub members_after : (t : Table E) → ((q : Place) → (n (t.entry q)).linked ≡ true → IsCovered t q)
       → {list : Ends} (front back : List Place) {position : Option Place} → Represents n t list (front ++ back) → position ≡ first back
       → members_between n t position None ≡ back
   members_after t covered front back shown here =
       walked_from_gap {between = IsBetween n} (λ e. (n e).next) (λ e b a h. h.next) t (λ q b a h. covered q h.linked) front back shown.distinct shown.chain here
 
-  -- If a list is cleared from the front, the members that are not cleared yet are the members from the current member on.
+  -- While a list is cleared from the front, the members that are not yet unlinked are the members from `current` on.
   pub members_uncleared : {old new : Table E} {s : List Place} {current : Option Place} → ((q : Place) → (n (new.entry q)).linked ≡ true → IsCovered new q)
       → IsDistinct s → (k : Releases (IsBetween n) old new s current) → members_between n new current None ≡ k.rest
   members_uncleared covered d k = releases_left_blind (λ e. (n e).next) (λ e b a h. h.next) (λ q b a h. covered q h.linked) d k
 
--- Doubly linked lists have the five facts of a collection, if the list's trait and the table's trait agree on whether a place is
--- linked.
+-- The five facts of `IsKind` hold for doubly linked lists, if n and `linked` agree on whether the place of an entry is linked.
 pub doubly_lists : {E : Type 0} {n : E → Neighbors} {linked : E → Bool} → ((e : E) → (n e).linked ≡ linked e) → IsKind (Represents n) linked no_members
 doubly_lists {n = n} alike = record {
   frame = λ old new list s touched shown apart same. represents_frame touched shown apart same;
@@ -120,7 +119,7 @@ doubly_lists {n = n} alike = record {
   one = λ t list s u shown other. represents_one (between_one {n = n}) shown other;
 }
 
--- THE PLAIN TABLE has the five facts of doubly linked lists.
+-- The five facts of `IsKind` hold for doubly linked lists in a plain table.
 pub plain_lists : IsKind (Represents neighbors_of) is_linked no_members
 plain_lists = doubly_lists (λ e. refl)
 

@@ -16,8 +16,8 @@ module _ {X : Type 0} (P : X → Type 0) where
   all_both [] t h k = k
   all_both (x ∷ s) t h k = (h.0, all_both s t h.1 k)
 
-  -- If the statement P holds for each element of a list and for x, it holds after x is inserted. If x is removed, the statement P
-  -- still holds for each remaining element.
+  -- If the statement P holds for each element of a list and for x, it holds after x is inserted. If x is removed from a list of
+  -- such elements, P holds for each remaining element.
   pub all_with : (s : List X) (x : X) (t : List X) → P x → AllByRecursion P (s ++ t) → AllByRecursion P (s ++ x ∷ t)
   all_with [] x t here h = (here, h)
   all_with (y ∷ s) x t here h = (h.0, all_with s x t here h.1)

@@ -31,7 +31,8 @@ module _ {L E H : Type 0} {Represents : Table E → H → List Place → Type 0}
   }
 
   module _ {start : L} {s : List Place} {now : CursorState L H} {after gone ahead : List Place} {p : Place} (w : Walked Represents table Trace start s now after gone (p ∷ ahead)) where
-    -- ONE STEP: the walk moves on to the next member, and the member p joins the members that the walk has passed.
+    -- In this step the walk moves on from the member p to the next member. The member p joins the members that the walk has
+    -- passed.
     pub walk_leaves : {position : Option Place} → MovesOn Represents table now position
         → Walked Represents table Trace start s (site now.links now.head position) (after ++ p ∷ []) gone ahead
     walk_leaves moves =
@@ -44,7 +45,7 @@ module _ {L E H : Type 0} {Represents : Table E → H → List Place → Type 0}
           adds_none = λ q out. rw same (w.adds_none q out);
         }
 
-    -- ONE STEP that removes: the walk removes the member p, and p joins the members that the walk has removed.
+    -- In this step the walk removes the member p, and p joins the members that the walk has removed.
     pub walk_takes : ((a b c : L) (u v : List LinkStep) → Trace a b u → Trace b c v → Trace a c (u ++ v)) → {new : CursorState L H} {r : Option Place}
         → RemovesThere Represents table Trace now r new → Walked Represents table Trace start s new after (gone ++ p ∷ []) ahead
     walk_takes does_on {new} {r} e =

@@ -26,7 +26,7 @@ module _ {E : Type 0} (d : E) where
   entry_read es p e beyond i at_p covered read = rw (← at_p) (get_or_default es i d beyond (rw at_p covered) ∙ sym read)
 
 module _ {W V : Type 0} (printed : List V → List ℕ) where
-  -- A WRITE AT p THAT KEEPS THE VALUE beside the link changes only the entry of p.
+  -- A write at the place p that keeps the value beside the link changes only the entry of p.
   pub changes_only : (d : Link W V) (es : List (Link W V)) (p : Place) (old new beyond : Link W V) (i : ℕ) → i ≡ index_of p → old ≡ slice_index_or es i beyond → value_of new ≡ value_of old
       → ChangesOnly (table_with d (printed (values_beside es)) es) (table_with d (printed (values_beside (slice_set es i new))) (slice_set es i new)) p
   changes_only d es p old new beyond i at_p read stays = record {
@@ -41,7 +41,8 @@ module _ {W V : Type 0} (printed : List V → List ℕ) where
   view_changes_only {name} = changes_only (λ vs. name ∷ printed vs)
 
 module _ {W V : Type 0} (is_linked : W → Bool) (d : Link W V) where
-  -- A WRITE THAT LINKS: the place p was unlinked and is linked now, and every other place is linked or unlinked as before.
+  -- A write that links the place p: before the write p is unlinked, and afterwards p is linked. Every other place is linked or
+  -- unlinked as before.
   pub links_entry : {names names' : List ℕ} (es : List (Link W V)) (p : Place) (old new beyond : Link W V) (i : ℕ) → i ≡ index_of p → index_of p < length es
       → old ≡ slice_index_or es i beyond → linked_by is_linked old ≡ false → linked_by is_linked new ≡ true
       → LinksAlso (linked_by is_linked) (table_with d names es) (table_with d names' (slice_set es i new)) p
@@ -52,8 +53,8 @@ module _ {W V : Type 0} (is_linked : W → Bool) (d : Link W V) where
         others = λ q apart. ap linked (others_same d es p new i at_p q apart);
       }
 
-  -- A WRITE AT A LINKED PLACE changes what the entry says of its place, by the same function by which the written link differs
-  -- from the link that was read.
+  -- The link `old` is read at the linked place p, and the link `new` is written there. If `change` turns what `old` says into
+  -- what `new` says, it also turns what the entry of p said before the write into what the entry says afterwards.
   pub says_written : (starts : linked_by is_linked d ≡ false) {R : Type 0} (says : Link W V → R) (change : R → R) (es : List (Link W V)) (p : Place) (old new beyond : Link W V) (i : ℕ)
       → i ≡ index_of p → linked_by is_linked (entry_at d es p) ≡ true → old ≡ slice_index_or es i beyond → says new ≡ change (says old)
       → says (entry_at d (slice_set es i new) p) ≡ change (says (entry_at d es p))
@@ -91,8 +92,8 @@ module _ {W : Type 0} (next_word : W → ℕ) (is_linked : W → Bool) where
       let after : place_at (next_word new) ≡ next = ap place_at names ∙ place_at_word next in
       λ k. record { linked = linked k; next = after k }
 
-  -- If a linked place's link has the word of the next place and names the previous place, its entry says that the place is
-  -- between the previous and the next place.
+  -- Let the link `new` belong to a linked place, have the word of `next` as its next word, and name `before` as the previous
+  -- place. Then `new` says that its place is between `before` and `next`.
   pub between_is : {V : Type 0} (prev : W → Option Place) (new : Link W V) (before next : Option Place) → linked_by is_linked new ≡ true → next_word (words_of new) ≡ word_of next
       → prev (words_of new) ≡ before → IsBetween (neighbors_of next_word is_linked prev) new before next
   between_is prev new before next linked names kept =

@@ -1,4 +1,4 @@
--- This file takes a tree apart at one of its members and puts it together again. The member is found by its position in the
+-- This file proves that a tree can be taken apart at one of its members. The member is given by its position in the tree's
 -- sequence.
 use Rattle.std.proofs.Common.{◌≡◌, ◌≢◌, Option, Some, List, [], ◌∷◌, ◌++◌, refl, sym, ap, ◌∙◌, arith, append_assoc, append-nil}
 use Rattle.ic_unsafe_ref.specs.declared.place.Place.{Place}
@@ -34,13 +34,14 @@ same_cut (x ∷ a) q b (z ∷ s) p t e =
     next x z a q b s p t h (here e f g) = here (cc) f g
     next x z a q b s p t h (following m e f) = following m (cc) f
 
--- The tree t0 below the frames fs0 contains the member p, with the members s before p and the members t after p within t0.
+-- The tree t0 below the frames fs0 can be taken apart at its member p: there are frames fs, a color c and subtrees a and b of p.
+-- Within t0, the members s are before p and the members t are after p.
 abbrev pub Focused : List Frame → Tree → List Place → Place → List Place → Type 0
 Focused fs0 t0 s p t =
     (fs : List Frame) × (c : Color) × (a b : Tree) × (plug fs (fork c a p b) ≡ plug fs0 t0)
     × (before fs ++ in_order a ≡ before fs0 ++ s) × (in_order b ++ after fs ≡ t ++ after fs0)
 
--- If p is at a position in the sequence of a tree, the tree can be taken apart at p.
+-- If the sequence of the tree t0 consists of s, p and t, the tree can be taken apart at p.
 pub focus : (t0 : Tree) (fs0 : List Frame) (s : List Place) (p : Place) (t : List Place) → in_order t0 ≡ s ++ p ∷ t → Focused fs0 t0 s p t
 focus leaf fs0 [] p t e = cc
 focus leaf fs0 (x ∷ s) p t e = cc
@@ -64,8 +65,8 @@ in_order_parts (frame Left c p b ∷ fs) t =
 in_order_parts (frame Right c p b ∷ fs) t = in_order_parts fs (fork c b p t) ∙ simp append_assoc
 
 module _ {E : Type 0} (n : E → Node) where
-  -- If no entry of a place that occurs in a tree changes, the entries still store the tree. Whether a place occurs is decided by
-  -- counting.
+  -- If no entry of a place that occurs in a tree changes, the entries still store the tree. A place occurs in the tree if `times`
+  -- is not 0 for it.
   pub tree_same : (old new : Place → E) (up : Option Place) (t : Tree)
       → ((q : Place) → (times q t ≡ 0 → ⊥) → new q ≡ old q) → IsTree n old up t → IsTree n new up t
   tree_same old new up t same h = tree_kept n old new up t (λ q m. same q (λ k. m (times_absent q (in_order t) (times_order q t ∙ k)))) h
@@ -75,7 +76,7 @@ module _ {E : Type 0} (n : E → Node) where
   side_same old new Left p c near far up e h = at_same (ap n e) h
   side_same old new Right p c near far up e h = at_same (ap n e) h
 
-  -- The frames around a subtree stay in the entries if no entry of a place that occurs in the frames changes.
+  -- The entries still store the frames around a subtree if no entry of a place that occurs in the frames changes.
   pub around_same : (old new : Place → E) (fs : List Frame) (o : Option Place)
       → ((q : Place) → (times_around q fs ≡ 0 → ⊥) → new q ≡ old q) → IsAround n old fs o → IsAround n new fs o
   around_same old new [] o same h = tt
@@ -85,7 +86,8 @@ module _ {E : Type 0} (n : E → Node) where
     around_same old new fs (Some p) (λ q m. same q (λ k. m (omega arith))) h.2,
   )
 
-  -- If only the entry of the place p changes, and p does not occur in the tree or in the frames, the entries still store both.
+  -- If only the entry of the place p changes, and p does not occur in a tree, the entries still store the tree (`tree_apart`).
+  -- The same is true of frames (`around_apart`).
   pub tree_apart : (old new : Place → E) (p : Place) (up : Option Place) (t : Tree)
       → times p t ≡ 0 → ((q : Place) → q ≢ p → new q ≡ old q) → IsTree n old up t → IsTree n new up t
   tree_apart old new p up t none same h = tree_same old new up t (λ q m. same q (λ e. m (rw e none))) h

@@ -1,4 +1,5 @@
--- A walk from the front tests whether a place q is a member of a list. The facts in this file hold for every kind of list.
+-- This file is about a walk from the front that tests whether a place q is a member of a list. The facts in this file hold for
+-- every kind of list.
 use Rattle.std.proofs.Common.{◌≡◌, ◌≢◌, ◌↔◌, Option, Some, None, List, [], ◌∷◌, ◌++◌, drop, true, false, IsTrue, nat_eq, refl, sym, ◌∙◌, ap, subst, eqb-true}
 use Rattle.std.proofs.lemmas.Bool.{eqb-false}
 use Rattle.ic_link_ops.specs.Prelude.{Place, IsAbsent, IsMember, IsDistinct, first, last, Table, IsCovered}
@@ -9,8 +10,8 @@ use Rattle.ic_link_ops.proofs.SequenceLemmas.{absent_right, absent_both, first_i
 use Rattle.ic_link_ops.proofs.Clearing.{Releases, releases_none, releases_more, releases_all, releases_left, next_between}
 
 module _ {E : Type 0} (between : E → Option Place → Option Place → Type 0) where
-  -- The walk has come to `current`, and q is none of the members before it. The definition uses the walk that clears a list, but
-  -- no entry is changed.
+  -- The walk has come to `current`, and q is none of the members before `current`. The definition uses `Releases`, which
+  -- describes a walk that clears a list. Here the table is the same before and after, because no entry changes.
   pub record Seeks (t : Table E) (s : List Place) (q : Place) (current : Option Place) : Type 0 where
     pub walk : Releases between t t s current
     pub passed : IsAbsent q walk.done
@@ -22,7 +23,7 @@ module _ {E : Type 0} {between : E → Option Place → Option Place → Type 0}
   unfolding releases_none
   seeks_none chain starts = record { walk = releases_none chain starts; passed = tt }
 
-  -- ONE STEP: the current member p is not q, and the member after p becomes the current one.
+  -- In one step the walk finds that the current member p is not q, and the member after p becomes the current member.
   pub seeks_more : {t : Table E} {s : List Place} {q p : Place} {current : Option Place} → IsDistinct s → (k : Seeks between t s q (Some p))
       → nat_eq p.word q.word ≡ false → current ≡ first (drop 1 k.walk.rest)
       → (k' : Seeks between t s q current) × (k.walk.rest ≡ p ∷ k'.walk.rest) × (k'.walk.done ≡ k.walk.done ++ p ∷ [])
@@ -34,7 +35,7 @@ module _ {E : Type 0} {between : E → Option Place → Option Place → Type 0}
         more.2,
       )
 
-  -- If the step needs the place before, the walk also stores that place.
+  -- If a step to the next member needs the previous member, the walk stores the previous member as `before`.
   module _ (step : E → Option Place → Option Place) (law : (e : E) (b a : Option Place) → between e b a → step e b ≡ a) where
     pub kept_next : {t : Table E} {s : List Place} {q p : Place} {before next : Option Place} (k : Seeks between t s q (Some p)) → before ≡ last k.walk.done
         → next ≡ step (t.entry p) before → next ≡ first (drop 1 k.walk.rest)
@@ -45,7 +46,7 @@ module _ {E : Type 0} {between : E → Option Place → Option Place → Type 0}
         → IsDistinct s → (k : Seeks between t s q current) → before ≡ last k.walk.done → walked step t before current None ≡ k.walk.rest
     kept_left covered d k keeps = rw keeps (releases_left step law covered d k.walk)
 
-  -- THE PLACE q IS FOUND if the current member is q: then q is a member of s.
+  -- If the current member is q, q is a member of s.
   pub found : {t : Table E} {s : List Place} {q p : Place} → Seeks between t s q (Some p) → nat_eq p.word q.word ≡ true
       → IsTrue true ↔ IsMember q s
   found {s = s} {q = q} {p = p} k equal =
@@ -53,7 +54,7 @@ module _ {E : Type 0} {between : E → Option Place → Option Place → Type 0}
       let parts : s ≡ k.walk.done ++ p ∷ drop 1 k.walk.rest = k.walk.parts ∙ ap (λ (l : List Place). k.walk.done ++ l) (first_is k.walk.rest k.walk.at) in
       ((λ _ out. (absent_right q k.walk.done (p ∷ drop 1 k.walk.rest) (subst (IsAbsent q) parts out)).0 same), (λ _. refl))
 
-  -- THE PLACE q IS NOT FOUND if no member is left: then q is not a member of s.
+  -- If no member is left, q is not a member of s.
   pub nowhere : {t : Table E} {s : List Place} {q : Place} {current : Option Place} → Seeks between t s q current → current ≡ None
       → IsTrue false ↔ IsMember q s
   nowhere {q = q} k over = ((λ yes. cc), (λ member. absurd (member (subst (IsAbsent q) (releases_all k.walk over) k.passed))))

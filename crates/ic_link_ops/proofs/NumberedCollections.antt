@@ -11,14 +11,16 @@ use Rattle.ic_link_ops.proofs.LinkedSets.{everywhere}
 use Rattle.ic_link_ops.proofs.PlacedValues.{stand_beside, stand_last, stand_first, stand_rest}
 use Rattle.ic_link_ops.proofs.SequenceLemmas.{absent_left, disjoint_cons, first_is, split_member}
 
--- ONE NUMBER CHANGED: the function has the new value x at the number k, and the old value at every other number.
+-- The function `with_at f k x` has the value x at the number k (`at_number`), and the value of f at every other number
+-- (`at_others`).
 pub at_number : {X : Type 0} (f : ℕ → X) (k : ℕ) (x : X) → with_at f k x k ≡ x
 at_number f k x = elim (eqb_tells k k) [ inl e ↦ rw e.0 refl | inr n ↦ absurd (n.1 refl) ]
 
 pub at_others : {X : Type 0} (f : ℕ → X) (k : ℕ) (x : X) (i : ℕ) → i ≢ k → with_at f k x i ≡ f i
 at_others f k x i other = elim (eqb_tells k i) [ inl e ↦ absurd (other (sym e.1)) | inr n ↦ rw n.0 refl ]
 
--- If a relation holds for the new values at k, and for the old values at every other number, it holds at each number.
+-- If the relation R holds for the new values x and y at the number k, and for the old values at every other number, R holds at
+-- each number.
 by_number : {X Y : Type 0} (R : ℕ → X → Y → Type 0) {f : ℕ → X} {g : ℕ → Y} {k : ℕ} {x : X} {y : Y} → R k x y → ((i : ℕ) → i ≢ k → R i (f i) (g i))
     → (i : ℕ) → R i (with_at f k x i) (with_at g k y i)
 by_number R {k = k} {x} {y} here others i = elim (eqb_tells k i) [
@@ -26,7 +28,8 @@ by_number R {k = k} {x} {y} here others i = elim (eqb_tells k i) [
   | inr n ↦ rw n.0 (others i (λ e. n.1 (sym e)))
 ]
 
--- If a statement holds for each new value, and for the old value at k, it held for each old value.
+-- Let the statement P hold for each value of `with_at f k x`. If P of the new value x implies P of the old value `f k`, P holds
+-- for each value of f.
 before_at : {X : Type 0} (P : X → Type 0) (f : ℕ → X) (k : ℕ) (x : X) → (P x → P (f k)) → ((i : ℕ) → P (with_at f k x i)) → (i : ℕ) → P (f i)
 before_at P f k x back all i = elim (eqb_tells k i) [
   | inl e ↦ subst (λ j. P (f j)) e.1 (back (subst P (at_number f k x) (all k)))
@@ -34,7 +37,7 @@ before_at P f k x back all i = elim (eqb_tells k i) [
 ]
 
 module _ {T : Type 0} (number : T → ℕ) where
-  -- The optional object belongs to the collection with the number i.
+  -- There is an object, and it belongs to the collection with the number i.
   IsOf : ℕ → Option T → Type 0
   IsOf i None = ⊥
   IsOf i (Some v) = number v ≡ i
@@ -66,7 +69,7 @@ module _ {T : Type 0} (number : T → ℕ) where
     none_shared apart (x ∷ s) t all_s all_t = (elsewhere apart x all_s.0 t all_t, none_shared apart s t all_s.1 all_t)
 
 module _ {E H T : Type 0} {Represents : Table E → H → List Place → Type 0} {linked : E → Bool} {empty : H} (kind : IsKind Represents linked empty) {number : T → ℕ} where
-  -- A TABLE WITHOUT LINKED PLACES has only empty collections.
+  -- A table without linked places has only empty collections, if each collection has the head of an empty one.
   pub numbered_none : {t : Table E} {heads : ℕ → H} (objects : Objects T) → ((i : ℕ) → heads i ≡ empty) → ((p : Place) → IsUnlinked linked t p)
       → HasNumbered Represents linked number t heads objects (λ i. [])
   numbered_none {t} objects none unlinked = record {
@@ -86,7 +89,7 @@ module _ {E H T : Type 0} {Represents : Table E → H → List Place → Type 0}
     pub numbered_free : {p : Place} → IsUnlinked linked old p → (i : ℕ) → IsAbsent p (has.members i)
     numbered_free {p} off i = kind.free old (heads i) (has.members i) p (has.each i).shown off
 
-    -- AFTER `cover`, whatever it returned, each collection keeps its members, because no entry changed.
+    -- After `cover`, accepted or refused, each collection has the same members as before, because no entry changed.
     pub numbered_covered : {new : Table E} → ((q : Place) → new.entry q ≡ old.entry q) → HasNumbered Represents linked number new heads objects values
     numbered_covered stays = record {
       members = has.members;
@@ -94,7 +97,8 @@ module _ {E H T : Type 0} {Represents : Table E → H → List Place → Type 0}
       only = λ p out. ap linked (stays p) ∙ has.only p out;
     }
 
-    -- AFTER AN OBJECT was put at a place or removed from it, the collections keep their values, if the place is not linked here.
+    -- After an object was put at the place p or removed from it, the collections have the same values as before, if p is unlinked
+    -- in the table.
     pub numbered_beside : {new : Objects T} {p : Place} → IsUnlinked linked old p → ((q : Place) → q ≢ p → object_at new q ≡ object_at objects q)
         → HasNumbered Represents linked number old heads new values
     numbered_beside {new} {p} off same = record {
@@ -103,8 +107,7 @@ module _ {E H T : Type 0} {Represents : Table E → H → List Place → Type 0}
       only = has.only;
     }
 
-    -- AFTER `push_back` of an object at the end of the collection to which it belongs, that collection has the object as its last
-    -- value.
+    -- After `push_back` of an object to the collection to which it belongs, the object is the last value of this collection.
     module _ {new : Table E} {after : ℕ → H} {p : Place} {v : T} (there : object_at objects p ≡ Some v) where
       pub numbered_pushed : ((s : List Place) → Represents old (heads (number v)) s → Represents new (after (number v)) (s ++ p ∷ [])) → ((i : ℕ) → i ≢ number v → after i ≡ heads i)
           → LinksAlso linked old new p → ((s : List Place) → Represents old (heads (number v)) s → ChangesOnlyIn old new (p ∷ s))
@@ -131,7 +134,8 @@ module _ {E H T : Type 0} {Represents : Table E → H → List Place → Type 0}
             let apart = disjoint_cons p (has.members i) (has.members (number v)) (numbered_free also.was i) (numbered_apart i (number v) n) in
             record { shown = rw (others i n) (others_stay kind (p ∷ has.members (number v)) e.shown apart (frame (has.members (number v)) (has.each (number v)).shown)); stand = e.stand; own = e.own }
 
-    -- AFTER `pop_front` of one collection and `into_box` of the removed object, that collection has its values without the first.
+    -- After `pop_front` of the collection k and `into_box` of the removed object, the collection k has its old values without the
+    -- first.
     module _ {k : ℕ} {p : Place} {v : T} (is : Some p ≡ first (has.members k)) (there : object_at objects p ≡ Some v) where
       -- The removed object is the first of the values of the collection k, and it belongs to k.
       pub numbered_first : values k ≡ v ∷ drop 1 (values k)

@@ -4,7 +4,7 @@ use Rattle.std.specs.List.{AllByRecursion}
 use Rattle.ic_link_ops.specs.Prelude.{Place, Objects, is_placed, first, last, but_last, ArePlaced}
 use Rattle.ic_link_ops.proofs.SequenceLemmas.{first_is, split_last}
 
--- A statement that holds for each member holds for each member but the last, and for the last member.
+-- If a statement holds for each member of w followed by p, it holds for each member of w, and it holds for p.
 pub all_but_last : (P : Place → Type 0) (w : List Place) (p : Place) → AllByRecursion P (w ++ p ∷ []) → AllByRecursion P w × P p
 all_but_last P [] p h = (tt, h.0)
 all_but_last P (x ∷ w) p h = let k = all_but_last P w p h.1 in ((h.0, k.0), k.1)

@@ -1,5 +1,5 @@
--- The facts in this file help callers to know the objects at the members of a sequence. The facts are about an object that was
--- put at a place or removed from it, and about an edit of the sequence.
+-- The facts in this file help callers to know the objects at the members of a sequence. They are about an object that is put at a
+-- place or removed from it, and about an edit of the sequence.
 use Rattle.std.proofs.Common.{◌≡◌, ◌≢◌, ◌⊎◌, inl, inr, Option, Some, None, IsSome, is_some, List, [], ◌∷◌, ◌++◌, drop, length, ◌≤◌, arith, refl, sym, ap, ◌∙◌, subst, true≢false, append-nil}
 use Rattle.std.proofs.lemmas.List.Elements.{filter_map-append}
 use Rattle.std.specs.List.{AllByRecursion, cons_option}
@@ -9,8 +9,7 @@ use Rattle.ic_link_ops.proofs.SequenceLemmas.{first_is}
 use Rattle.ic_link_ops.proofs.Walks.{few_places}
 use Rattle.ic_link_ops.proofs.Each.{all_with}
 
--- BESIDE p: if the objects at all places except p stay, and p is no member of s, the objects at the members of s stay as they
--- were.
+-- If the objects at all places except p stay, and p is no member of s, the objects at the members of s stay.
 module _ {T : Type 0} (old new : Objects T) (p : Place) (same : (q : Place) → q ≢ p → object_at new q ≡ object_at old q) where
   pub all_beside : (P : Option T → Type 0) (s : List Place) → IsAbsent p s → AllByRecursion (λ q. P (object_at old q)) s → AllByRecursion (λ q. P (object_at new q)) s
   all_beside P [] out h = tt
@@ -35,8 +34,7 @@ module _ {T : Type 0} (objects : Objects T) (p : Place) where
   placed_first s is placed = (subst (ArePlaced objects) (first_is s is) placed).0
 
   module _ {v : T} (there : object_at objects p ≡ Some v) where
-    -- ONE OBJECT MORE: if p is put into a gap of the sequence, the object at p is in the corresponding gap of the list of
-    -- objects.
+    -- If p is inserted at a gap of the sequence, the object at p is inserted at the corresponding gap of the list of objects.
     pub stand_put : (front back : List Place) → ArePlaced objects (front ++ back) → StandAt objects (front ++ p ∷ back) (values_at objects front ++ v ∷ values_at objects back)
     stand_put front back placed = record {
       placed = all_with (λ q. IsSome (object_at objects q)) front p back (ap is_some there) placed;
@@ -49,8 +47,8 @@ module _ {T : Type 0} (objects : Objects T) (p : Place) where
       are = filter_map-append (object_at objects) s (p ∷ []) ∙ rw (there, stand.are) refl;
     }
 
-    -- ONE OBJECT LESS: the object at the first member of the sequence is the first of the values. The values after the first are
-    -- the objects at the members after the first.
+    -- The object at the first member of the sequence is the first of the values. The values after the first are the objects at
+    -- the members after the first.
     module _ {s : List Place} {values : List T} (is : Some p ≡ first s) (stand : StandAt objects s values) where
       begins : values ≡ v ∷ values_at objects (drop 1 s)
       begins = sym stand.are ∙ ap (values_at objects) (first_is s is) ∙ ap (λ (o : Option T). cons_option o (values_at objects (drop 1 s))) there
@@ -61,7 +59,7 @@ module _ {T : Type 0} (objects : Objects T) (p : Place) where
       pub stand_rest : StandAt objects (drop 1 s) (drop 1 values)
       stand_rest = record { placed = (subst (ArePlaced objects) (first_is s is) stand.placed).1; are = ap (drop 1) (sym begins) }
 
--- A STATEMENT ABOUT EACH OBJECT is true for each value at the members of any sequence.
+-- If a statement is true for each object, it is true for each value at the members of any sequence.
 pub from_each : {T : Type 0} (P : T → Type 0) (objects : Objects T) → ((p : Place) (value : T) → object_at objects p ≡ Some value → P value) → (s : List Place) → AllByRecursion P (values_at objects s)
 from_each P objects each [] = tt
 from_each {T} P objects each (p ∷ s) = by (object_at objects p) refl (from_each P objects each s) where
@@ -69,7 +67,8 @@ from_each {T} P objects each (p ∷ s) = by (object_at objects p) refl (from_eac
   by None e rest = rest
   by (Some value) e rest = (each p value e, rest)
 
--- AFTER `from_box` the objects at the members of s are as before, and the new object is at the new last member p.
+-- Let `from_box` put a new object at p, and let p be inserted as the last member after s. The new object is then the last value,
+-- and the values at the members of s are as before.
 pub stand_placed : {T : Type 0} {old new : Objects T} {p : Place} {v : T} → Places old new p v → {s : List Place} {values : List T} → StandAt old s values
     → StandAt new (s ++ p ∷ []) (values ++ v ∷ [])
 stand_placed {old = old} {new} {p} places {s} stand =
@@ -83,7 +82,7 @@ pub record Begins {T : Type 0} (objects : Objects T) (s : List Place) (values : 
   pub there : object_at objects place ≡ Some value
   pub begin : values ≡ value ∷ drop 1 values
 
--- THERE IS NO VALUE, or the first of the values is the object at the first member of s.
+-- Either there is no value, or the first of the values is the object at the first member of s.
 pub stand_begins : {T : Type 0} {objects : Objects T} (s : List Place) {values : List T} → StandAt objects s values → (values ≡ []) ⊎ Begins objects s values
 stand_begins [] stand = inl (sym stand.are)
 stand_begins {T} {objects} (p ∷ s) {values} stand = by (object_at objects p) refl stand.placed.0 where
@@ -91,7 +90,7 @@ stand_begins {T} {objects} (p ∷ s) {values} stand = by (object_at objects p) r
   by None e here = absurd (true≢false (sym here))
   by (Some v) e here = inr (record { place = p; value = v; first = refl; there = e; begin = stand_first objects p e refl stand })
 
--- THERE ARE FEW VALUES: there are at most 8589934591 values at distinct members, because there are only so many places.
+-- At distinct members there are at most 8589934591 values, because there are only so many places.
 pub few_values : {T : Type 0} {objects : Objects T} {s : List Place} {values : List T} → StandAt objects s values → IsDistinct s → length values ≤ 8589934591
 few_values {T} {objects} {s} {values} stand distinct = omega (arith, ap length stand.are, fewer s, few_places s distinct) where
   fewer : (s : List Place) → length (values_at objects s) ≤ length s

@@ -1,5 +1,4 @@
--- This file proves facts about positions in a collection: which gaps are beside a position, and that a position is valid after a
--- call.
+-- This file proves which gaps are beside a position in a collection, and that a position is valid after a call.
 use Rattle.std.proofs.Common.{◌≡◌, ◌∙◌, sym, Result, Ok, Err, OnOk, OnErr, IfErr, Option, Some, None, List, [], ◌∷◌, ◌++◌, drop, append-nil, append_assoc}
 use Rattle.ic_link_ops.specs.Prelude.{Place, Cut, join, splice, at_front, at_back, first, last, IsAfter, IsBefore, Table, CursorState, RepresentsAt, IsValidCursor, MovesOn, MovesBack, HasMember, IsSecondAfter, LinkStep, acquires}
 use Rattle.ic_link_ops.specs.declared.errors.AlreadyLinked.{AlreadyLinked}
@@ -8,7 +7,7 @@ use Rattle.ic_link_ops.specs.EditsAt.{InsertsBeside}
 use Rattle.ic_link_ops.proofs.SequenceLemmas.{gap_after, gap_before, first_is}
 
 module _ {L E H : Type 0} {Represents : Table E → H → List Place → Type 0} {table : L → Table E} where
-  -- A POSITION IS VALID if a gap is before it.
+  -- A position is valid if a gap of the represented sequence is before it.
   pub stands_by_gap : {at : CursorState L H} (gap : Cut) → RepresentsAt Represents table at (join gap) → IsBefore gap at.position → IsValidCursor Represents table at
   stands_by_gap {at = at'} gap shown before =
       let k = gap_after gap at'.position before in record { gap = k.0; shown = rw k.1 shown; after = k.2 }
@@ -39,8 +38,8 @@ module _ {L E H : Type 0} {Represents : Table E → H → List Place → Type 0}
       let k = gap_there stands in
       record { front = k.0.front; back = drop 1 k.0.back; shown = rw (first_is k.0.back (sym e ∙ k.2)) at k.1 }
 
-  -- A MOVE leads to a new position if the gap after the old position is the gap before the new position. The new position is then
-  -- valid.
+  -- If the gap after the old position is the gap before the new position, the call has moved to the next member, and the new
+  -- position is valid. `moves_back` proves the same for a move to the previous member.
   pub moves_on : {old : CursorState L H} {position : Option Place} → IsValidCursor Represents table old
       → ((gap : Cut) → RepresentsAt Represents table old (join gap) → IsAfter gap old.position → IsBefore gap position) → MovesOn Represents table old position
   moves_on stands leads = record { leads = leads; stands = stands_by_gap stands.gap stands.shown (leads stands.gap stands.shown stands.after) }
@@ -51,7 +50,8 @@ module _ {L E H : Type 0} {Represents : Table E → H → List Place → Type 0}
       let k = gap_there stands in
       record { leads = leads; stands = record { gap = k.0; shown = k.1; after = leads k.0 k.1 k.2 } }
 
-  -- A POSITION IS VALID AFTER AN EDIT: the members t were put into the gap after the position, or before it.
+  -- A position stays valid if the members t are inserted at the gap after it (`put_after`) or at the gap before it
+  -- (`put_before`).
   pub put_after : {at : CursorState L H} (gap : Cut) (t : List Place) → RepresentsAt Represents table at (splice gap t) → IsAfter gap at.position → IsValidCursor Represents table at
   put_after gap t shown after = record { gap = record { front = gap.front; back = t ++ gap.back }; shown = shown; after = after }
 
@@ -59,19 +59,19 @@ module _ {L E H : Type 0} {Represents : Table E → H → List Place → Type 0}
   put_before gap t shown before =
       stands_by_gap (record { front = gap.front ++ t; back = gap.back }) (rw (append_assoc gap.front t gap.back) shown) before
 
-  -- If an edit was refused and nothing changed, the position is still valid.
+  -- If an edit was refused, and the entries, the head and the position are as before, the position is still valid.
   module _ {old new : CursorState L H} (stands : IsValidCursor Represents table old) where
     pub stands_still : table new.links ≡ table old.links → new.head ≡ old.head → new.position ≡ old.position → IsValidCursor Represents table new
     stands_still same head position = record { gap = stands.gap; shown = rw (same, head) stands.shown; after = position ∙ stands.after }
 
-    -- A position is valid after the member that it was on was removed and it moved to the next member.
+    -- If the member at the position was removed, and the new position is on the next member, the new position is valid.
     pub removed_stands : ((gap : Cut) → RepresentsAt Represents table old (join gap) → IsBefore gap old.position → Removes Represents (table old.links) (table new.links) new.head gap)
         → ((gap : Cut) → RepresentsAt Represents table old (join gap) → IsBefore gap old.position → IsSecondAfter gap new.position) → IsValidCursor Represents table new
     removed_stands removes moves =
         let k = gap_there stands in
         stands_by_gap (record { front = k.0.front; back = drop 1 k.0.back }) (removes k.0 k.1 k.2).shows (moves k.0 k.1 k.2)
 
-    -- A position is valid after the place p replaced the member that it was on, and the position is on p.
+    -- If the place p replaced the member at the position, and the new position is on p, the new position is valid.
     pub replaced_stands : {p : Place} → new.position ≡ Some p
         → ((gap : Cut) → RepresentsAt Represents table old (join gap) → IsBefore gap old.position → Replaces Represents (table old.links) (table new.links) new.head gap p)
         → IsValidCursor Represents table new
@@ -97,7 +97,7 @@ module _ {L E H : Type 0} {Represents : Table E → H → List Place → Type 0}
       after = position ∙ stands.after;
     }
 
-    -- A position stays valid after a split at the gap beside it.
+    -- A position stays valid after a split at the gap after it (`split_after`) or at the gap before it (`split_before`).
     pub split_after : {handed : H} → ((gap : Cut) → RepresentsAt Represents table old (join gap) → IsAfter gap old.position
         → Splits Represents (table old.links) (table new.links) new.head handed gap.front gap.back) → new.position ≡ old.position → IsValidCursor Represents table new
     split_after splits position = record {
@@ -111,8 +111,8 @@ module _ {L E H : Type 0} {Represents : Table E → H → List Place → Type 0}
     split_before splits position =
         let k = gap_there stands in stands_by_gap (at_front k.0.back) (splits k.0 k.1 k.2).keeps (position ∙ k.2)
 
-  -- WHAT AN INSERT PROVES: the position is valid after the call, whether the insert was accepted or refused. `keeps` is the law
-  -- that a refusal changes no entry.
+  -- The position is valid after the insert of p, whether the insert was accepted or refused. `keeps` is the law that a refusal
+  -- changes no entry.
   module _ {Refused : L → L → Place → Type 0} (keeps : (a b : L) (q : Place) → Refused a b q → table b ≡ table a) {old new : CursorState L H} (p : Place)
       (stands : IsValidCursor Represents table old) (position : new.position ≡ old.position) {T : Type 0} where
     either_way : (r : Result Unit (AlreadyLinked T)) {P : Type 0} → OnOk r P → (P → IsValidCursor Represents table new) → OnErr r (Refused old.links new.links p)

@@ -1,5 +1,5 @@
 -- This file proves facts about the sequences that a table represents for lists of any kind: after an edit, at a gap, and if the
--- table keeps their entries.
+-- entries of the members stay.
 use Rattle.std.proofs.Common.{◌≡◌, ◌≢◌, Option, Some, None, List, [], ◌∷◌, ◌++◌, reverse, Bool, true, false, refl, sym, ap, ◌∙◌, append-nil, append_assoc, drop}
 use Rattle.ic_link_ops.specs.Prelude.{Place, IsAbsent, IsDisjoint, first, last, but_last, Table}
 use Rattle.ic_link_ops.specs.Chains.{Ends, ListHead, end_of, TurnsTail, RepresentsChain, RepresentsBetween}
@@ -23,7 +23,7 @@ module _ {E W : Type 0} {between : E → Option Place → Option Place → Type 
       → RepresentsChain between kept old list s → IsAbsent p s → ((q : Place) → q ≢ p → new.entry q ≡ old.entry q) → RepresentsChain between kept new list s
   represents_beside {old} {new} {list} {s} {p} h out same = represents_kept h (λ q member. same q (λ e. member (rw e out)))
 
-  -- THE FRAME: a list that shares no member with s keeps its sequence if only entries at members of s change.
+  -- A list that shares no member with s keeps its sequence if only entries at members of s change.
   pub represents_frame : {old new : Table E} {list : ListHead W} {t : List Place} (s : List Place)
       → RepresentsChain between kept old list t → IsDisjoint t s → ((q : Place) → IsAbsent q s → new.entry q ≡ old.entry q) → RepresentsChain between kept new list t
   represents_frame {old} {new} {list} {t} s h apart same = record {
@@ -38,7 +38,8 @@ module _ {E W : Type 0} {between : E → Option Place → Option Place → Type 
       → RepresentsChain between kept t list (front ++ p ∷ back) → between (t.entry p) (last front) (first back)
   represents_middle {t} front back {p} shown = (chain_cut between t.entry None front (p ∷ back) None shown.chain).1.0
 
-  -- `before_gap` gives the neighbors of the member before a gap, and `after_gap` gives the neighbors of the member after the gap.
+  -- `before_gap` says which places are the neighbors of the member before a gap, and `after_gap` says it of the member after the
+  -- gap.
   pub before_gap : {t : Table E} {list : ListHead W} (front back : List Place) {q : Place}
       → RepresentsChain between kept t list (front ++ back) → Some q ≡ last front → between (t.entry q) (last (but_last front)) (first back)
   before_gap {t} front back shown e =
@@ -63,8 +64,8 @@ module _ {E W : Type 0} {between : E → Option Place → Option Place → Type 
     (λ e. last_not None s q (none_not q) out (sym is_back ∙ e)),
   )
 
-  -- INSERT: the place p is put into a gap. First the entries on both sides of the gap are changed, and then the entry of p is
-  -- set.
+  -- The table represents the sequence in which the place p is inserted at a gap. First the entries on both sides of the gap are
+  -- changed, and then the entry of p is set.
   pub represents_insert : {t0 t3 : Table E} {t1 t2 : Place → E} {list list' : ListHead W} (front back : List Place) {p : Place} {before after : Option Place}
       → before ≡ last front → after ≡ first back → RepresentsChain between kept t0 list (front ++ back) → IsAbsent p (front ++ back)
       → TurnsAfter between t0.entry t1 before after (Some p) → TurnsBefore between t1 t2 after before (Some p)
@@ -81,7 +82,8 @@ module _ {E W : Type 0} {between : E → Option Place → Option Place → Type 
         tail = tail (last (front ++ back)) shown.tail ∙ ap kept (new_tail front [] (p ∷ []) back is_after refl refl refl);
       }
 
-  -- REMOVE: the member p is removed. The entries of the two neighbors of p are changed so that the neighbors name each other.
+  -- The table represents the sequence from which the member p is removed. The entries of the two neighbors of p are changed so
+  -- that the neighbors name each other.
   pub represents_remove : {t0 t2 : Table E} {t1 : Place → E} {list list' : ListHead W} (front back : List Place) (p : Place) {before after : Option Place}
       → before ≡ last front → after ≡ first back → RepresentsChain between kept t0 list (front ++ p ∷ back)
       → TurnsAfter between t0.entry t1 before (Some p) after → TurnsBefore between t1 t2.entry after (Some p) before
@@ -98,8 +100,8 @@ module _ {E W : Type 0} {between : E → Option Place → Option Place → Type 
         tail = tail (last (front ++ p ∷ back)) shown.tail ∙ ap kept (new_tail front (p ∷ []) [] back is_after is_before refl refl);
       }
 
-  -- REPLACE: the place r replaces the member p. First the entries of the neighbors of p are changed, and then the entry of r is
-  -- set.
+  -- The table represents the sequence in which the place r replaces the member p. First the entries of the neighbors of p are
+  -- changed, and then the entry of r is set.
   pub represents_replace : {t0 t3 : Table E} {t1 t2 : Place → E} {list list' : ListHead W} (front back : List Place) (p : Place) {r : Place} {before after : Option Place}
       → before ≡ last front → after ≡ first back → RepresentsChain between kept t0 list (front ++ p ∷ back) → IsAbsent r (front ++ p ∷ back)
       → TurnsAfter between t0.entry t1 before (Some p) (Some r) → TurnsBefore between t1 t2 after (Some p) (Some r)
@@ -116,8 +118,9 @@ module _ {E W : Type 0} {between : E → Option Place → Option Place → Type 
         tail = tail (last (front ++ p ∷ back)) shown.tail ∙ ap kept (new_tail front (p ∷ []) (r ∷ []) back is_after refl refl refl);
       }
 
-  -- SPLICE: all members of another list, whose last member is `end`, are put into a gap. First the entries on both sides of the
-  -- gap are changed, and then the entries of the first and the last given member.
+  -- The table represents the sequence in which all members of the list `given` are inserted at a gap. The last member of `given`
+  -- is `end`. First the entries on both sides of the gap are changed, and then the entries of the first and the last member of
+  -- `given`.
   pub represents_splice : {t0 t4 : Table E} {t1 t2 t3 : Place → E} {list list' given : ListHead W} (front mid back : List Place) (x : Place) {before after end : Option Place}
       → given.head ≡ Some x → end ≡ last mid → before ≡ last front → after ≡ first back
       → RepresentsChain between kept t0 list (front ++ back) → RepresentsChain between kept t0 given mid → IsDisjoint mid (front ++ back)
@@ -136,8 +139,8 @@ module _ {E W : Type 0} {between : E → Option Place → Option Place → Type 
     tail = tail (last (front ++ back)) shown.tail ∙ ap kept (new_tail front [] (y ∷ mid) back is_after is_end refl refl);
   }
 
-  -- SPLIT: a list is cut at a gap. The entries on both sides of the gap are changed. The table then represents each part for a
-  -- list of its own, whichever part the call returns.
+  -- A list is split at a gap: the entries on both sides of the gap are changed. The table then represents the members before the
+  -- gap for the list `fronts`, and the members after the gap for the list `backs`.
   pub represents_split : {t0 t2 : Table E} {t1 : Place → E} {list fronts backs : ListHead W} (front back : List Place) {before after : Option Place}
       → before ≡ last front → after ≡ first back → RepresentsChain between kept t0 list (front ++ back)
       → TurnsAfter between t0.entry t1 before after None → TurnsBefore between t1 t2.entry after before None
@@ -161,18 +164,18 @@ module _ {E W : Type 0} {between : E → Option Place → Option Place → Type 
         },
       )
 
-  -- A TABLE REPRESENTS AT MOST ONE SEQUENCE for a list, if an entry and the place before determine the place after.
+  -- A table represents at most one sequence for a list, if an entry and the place before determine the place after.
   pub represents_one : ((e : E) (a b c : Option Place) → between e a b → between e a c → b ≡ c) → {t : Table E} {list : ListHead W} {s r : List Place}
       → RepresentsChain between kept t list s → RepresentsChain between kept t list r → s ≡ r
   represents_one one {t} {list} {s} {r} h k = chain_one between one t.entry None s r (sym h.head ∙ k.head) h.chain k.chain
 
-  -- `law` says that a place is linked if its entry says that it is between two others.
+  -- `law` says that a place is linked if its entry names the neighbors of the place.
   module _ {linked : E → Bool} (law : (e : E) (b a : Option Place) → between e b a → linked e ≡ true) where
     -- A place that is not linked is no member of a list.
     pub free_absent : {t : Table E} {list : ListHead W} {s : List Place} {p : Place} → RepresentsChain between kept t list s → linked (t.entry p) ≡ false → IsAbsent p s
     free_absent {t} {list} {s} {p} shown free = chain_absent between linked law t.entry None s None p shown.chain free
 
-    -- The member before a gap is linked, and so is the member after it.
+    -- The member before a gap is linked, and so is the member after the gap.
     pub gap_linked : {t : Table E} {list : ListHead W} (front back : List Place) {q : Place}
         → RepresentsChain between kept t list (front ++ back) → Some q ≡ last front → linked (t.entry q) ≡ true
     gap_linked front back shown e = law _ _ _ (before_gap front back shown e)
@@ -189,7 +192,7 @@ module _ {E W : Type 0} {between : E → Option Place → Option Place → Type 
     pub last_linked : {t : Table E} {list : ListHead W} {s : List Place} {q : Place} → RepresentsChain between kept t list s → Some q ≡ last s → linked (t.entry q) ≡ true
     last_linked {t} {list} {s} shown e = gap_linked {t = t} {list = list} s [] (rw append-nil shown) e
 
--- REVERSE: a list of a symmetric kind, which stores both its ends, is reversed if only its two ends are exchanged.
+-- If no entry says which neighbor comes first, as in an XOR list, a list is reversed if its two stored ends are exchanged.
 pub represents_reversed : {E : Type 0} {between : E → Option Place → Option Place → Type 0} → ((e : E) (b a : Option Place) → between e b a → between e a b)
     → {t : Table E} {ends ends' : Ends} {s : List Place} → RepresentsBetween between t ends s → ends'.head ≡ ends.tail → ends'.tail ≡ ends.head
     → RepresentsBetween between t ends' (reverse s)

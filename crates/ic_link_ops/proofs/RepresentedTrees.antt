@@ -1,5 +1,5 @@
--- This file proves facts about the trees that a table holds, and about their sequences: they stay after an edit of other entries,
--- and there is at most one.
+-- This file proves facts about the trees that a table holds, and about their sequences. A tree keeps its sequence if only entries
+-- of other places change. A table represents at most one sequence for a tree.
 use Rattle.std.proofs.Common.{◌≡◌, ◌≢◌, ◌≤◌, arith, Bool, true, false, Option, Some, None, List, [], ◌∷◌, length, refl, sym, ap, ◌∙◌}
 use Rattle.std.proofs.lemmas.Bool.{true_from_ne_false}
 use Rattle.ic_link_ops.specs.Prelude.{Place, IsAbsent, IsDisjoint, Table, IsCovered, ChangesOnlyIn}
@@ -99,7 +99,7 @@ module _ {E : Type 0} {n : E → Node} where
       → Represents n old root s → IsAbsent p s → ((q : Place) → q ≢ p → new.entry q ≡ old.entry q) → Represents n new root s
   represents_beside h out same = record { tree = h.tree; held = holds_beside h.held out same; starts = h.starts; shape = h.shape }
 
-  -- THE FRAME: a tree that shares no member with s keeps its sequence if only entries at members of s change.
+  -- A tree that shares no member with s keeps its sequence if only entries at members of s change.
   pub represents_frame : {old new : Table E} {root : Option Place} {s t : List Place}
       → Represents n old root t → IsDisjoint t s → ChangesOnlyIn old new s → Represents n new root t
   represents_frame h d keeps = record { tree = h.tree; held = holds_frame h.held d keeps; starts = h.starts; shape = h.shape }
@@ -109,7 +109,7 @@ module _ {E : Type 0} {n : E → Node} where
       → Represents n t root s → (n (t.entry p)).linked ≡ false → IsAbsent p s
   free_absent h free = holds_absent h.held free
 
-  -- The root of a represented tree is a member of its sequence, and it is linked.
+  -- The root of a represented tree is a member of the tree's sequence.
   pub root_member : {t : Table E} {root : Option Place} {s : List Place} {q : Place} → Represents n t root s → root ≡ Some q → IsAbsent q s → ⊥
   root_member h e = holds_top h.held (sym h.starts ∙ e)
 
@@ -123,13 +123,12 @@ module _ {E : Type 0} {n : E → Node} where
   pub no_members : {t : Table E} {root : Option Place} → Represents n t root [] → root ≡ None
   no_members {t} {root} h = h.starts ∙ ap top (leaf_is h.tree h.held.order)
 
-  -- A TABLE REPRESENTS AT MOST ONE SEQUENCE for a tree.
+  -- A table represents at most one sequence for a tree.
   pub one_sequence : {t : Table E} {root : Option Place} {s s' : List Place} → Represents n t root s → Represents n t root s' → s ≡ s'
   one_sequence {t} {root} {s} {s'} h k =
       sym h.held.order ∙ ap in_order (one_tree n t.entry None h.tree k.tree h.held.entries k.held.entries (sym h.starts ∙ k.starts)) ∙ k.held.order
 
--- Red-black trees have the five facts of a collection, if the tree's trait and the table's trait agree on whether a place is
--- linked.
+-- The five facts of `IsKind` hold for red-black trees, if n and `linked` agree on whether the place of an entry is linked.
 pub red_black_trees : {E : Type 0} {n : E → Node} {linked : E → Bool} → ((e : E) → (n e).linked ≡ linked e) → IsKind (Represents n) linked None
 red_black_trees {n = n} alike = record {
   frame = λ old new root s touched shown apart same. represents_kept shown (λ q m. same q (outside_of q touched s m (disjoint_sym s touched apart)));

@@ -1,4 +1,5 @@
--- This file proves what the entries of a table are after a write, if the words of the table have room for only some places.
+-- This file proves what the entries of a table are after a write, if the words of the table can perhaps name only some of the
+-- places.
 use Rattle.std.proofs.Common.{◌≡◌, ◌≢◌, ℕ, ◌∷◌, ◌<◌, List, length, Bool, true, false, slice_set, slice_index_or, sym, ap, ◌∙◌}
 use Rattle.std.proofs.lemmas.List.{length-set}
 use Rattle.std.proofs.Math.Seq.{map-set_same}
@@ -28,7 +29,8 @@ module _ {E : Type 0} (w : Width) (d : E) where
   entry_seen es p e beyond i at_p covered read = entry_read d (nameable w es) p e beyond i at_p covered (read ∙ sym (nameable_read w es i beyond (rw at_p covered)))
 
 module _ {E : Type 0} (w : Width) (d : E) where
-  -- A WRITE AT p changes nothing that entries say of any place, if the new entry says of p what the old entry said.
+  -- `says e` is what the entry e says of its place. If the new entry at p says of p what the old entry said, a write at p changes
+  -- nothing that the entries say of any place.
   pub says_kept : {R : Type 0} (says : E → R) (es : List E) (p : Place) (old new beyond : E) (i : ℕ) → i ≡ index_of p → index_of p < length (nameable w es)
       → old ≡ slice_index_or es i beyond → says new ≡ says old → (q : Place) → says (entry_at d (nameable w (slice_set es i new)) q) ≡ says (entry_at d (nameable w es) q)
   says_kept says es p old new beyond i at_p covered read same q =
@@ -37,7 +39,7 @@ module _ {E : Type 0} (w : Width) (d : E) where
       (λ apart. ap says (others_seen w d es p new i at_p covered q apart))
 
 module _ {W V : Type 0} (printed : List V → List ℕ) where
-  -- A WRITE AT p THAT KEEPS THE VALUE beside the link changes only the entry of p.
+  -- A write at the place p that keeps the value beside the link changes only the entry of p.
   pub changes_only : (w : Width) (d : Link W V) (es : List (Link W V)) (p : Place) (old new beyond : Link W V) (i : ℕ) → i ≡ index_of p → index_of p < length (nameable w es)
       → old ≡ slice_index_or es i beyond → value_of new ≡ value_of old → ChangesOnly (nameable_table w d printed es) (nameable_table w d printed (slice_set es i new)) p
   changes_only w d es p old new beyond i at_p covered read stays =
@@ -58,7 +60,8 @@ module _ {W V : Type 0} (printed : List V → List ℕ) where
   view_changes_only {name} = changes_only (λ vs. name ∷ printed vs)
 
 module _ {W V : Type 0} (is_linked : W → Bool) (w : Width) (d : Link W V) where
-  -- A WRITE THAT LINKS: the place p was unlinked and is linked now, and every other place is linked or unlinked as before.
+  -- A write that links the place p: before the write p is unlinked, and afterwards p is linked. Every other place is linked or
+  -- unlinked as before.
   pub links_entry : {names names' : List ℕ} (es : List (Link W V)) (p : Place) (old new beyond : Link W V) (i : ℕ) → i ≡ index_of p → index_of p < length (nameable w es)
       → old ≡ slice_index_or es i beyond → linked_by is_linked old ≡ false → linked_by is_linked new ≡ true
       → LinksAlso (linked_by is_linked) (table_with d names (nameable w es)) (table_with d names' (nameable w (slice_set es i new))) p
@@ -74,8 +77,8 @@ module _ {W V : Type 0} (is_linked : W → Bool) (w : Width) (d : Link W V) wher
     pub linked_seen : (es : List (Link W V)) (p : Place) → linked_by is_linked (entry_at d (nameable w es) p) ≡ true → index_of p < length (nameable w es)
     linked_seen es p = linked_in_range (linked_by is_linked) d starts (nameable w es) (index_of p)
 
-    -- A WRITE AT A LINKED PLACE changes what the entry says of its place, by the same function by which the written link differs
-    -- from the link that was read.
+    -- The link `old` is read at the linked place p, and the link `new` is written there. If `change` turns what `old` says into
+    -- what `new` says, it also turns what the entry of p said before the write into what the entry says afterwards.
     pub says_written : {R : Type 0} (says : Link W V → R) (change : R → R) (es : List (Link W V)) (p : Place) (old new beyond : Link W V) (i : ℕ)
         → i ≡ index_of p → linked_by is_linked (entry_at d (nameable w es) p) ≡ true → old ≡ slice_index_or es i beyond → says new ≡ change (says old)
         → says (entry_at d (nameable w (slice_set es i new)) p) ≡ change (says (entry_at d (nameable w es) p))
@@ -88,8 +91,8 @@ module _ {W V : Type 0} (is_linked : W → Bool) (w : Width) (d : Link W V) wher
         → old ≡ slice_index_or es i beyond → linked_by is_linked old ≡ true
     linked_read es p old beyond i at_p linked read = ap (linked_by is_linked) (sym (entry_seen w d es p old beyond i at_p (linked_seen es p linked) read)) ∙ linked
 
-  -- A WRITE THAT LINKS AND UNLINKS NO PLACE: if the new link says the same as the old link about being linked, the same places
-  -- are linked as before.
+  -- If the written link and the old link agree on whether the place is linked, the same places are linked after the write as
+  -- before.
   pub keeps_linked : (es : List (Link W V)) (p : Place) (old new beyond : Link W V) (i : ℕ) → i ≡ index_of p → index_of p < length (nameable w es)
       → old ≡ slice_index_or es i beyond → linked_by is_linked new ≡ linked_by is_linked old
       → (q : Place) → linked_by is_linked (entry_at d (nameable w (slice_set es i new)) q) ≡ linked_by is_linked (entry_at d (nameable w es) q)

@@ -1,4 +1,4 @@
--- This file proves facts about sequences of distinct places: their ends, and what is true if they are cut and joined.
+-- This file proves facts about sequences of places: about their ends, and about sequences that are cut, joined or edited.
 use Rattle.std.proofs.Common.{◌≡◌, ◌≢◌, ◌<◌, Option, Some, None, List, [], ◌∷◌, ◌++◌, drop, length, reverse, refl, sym, ◌∙◌, ap, subst, arith, append_assoc, append-nil, inl, inr}
 use Rattle.std.proofs.lemmas.List.{reverse-append}
 use Rattle.ic_link_ops.specs.Prelude.{Place, Cut, join, at_front, at_back, first, last, but_last, IsAfter, IsBefore, IsAbsent, IsMember, IsDistinct, IsDisjoint, first_or, last_or}
@@ -30,8 +30,8 @@ pub absent_both : (q : Place) (s t : List Place) → IsAbsent q s → IsAbsent q
 absent_both q [] t h k = k
 absent_both q (x ∷ s) t h k = (h.0, absent_both q s t h.1 k)
 
--- `absent_with`: if the place q is absent from a sequence and is not p, q is still absent after p is inserted. `absent_without`:
--- q is still absent after p is removed.
+-- If the place q is absent from a sequence and is not p, q is still absent after p is inserted (`absent_with`). If q is absent
+-- from a sequence, q is still absent after p is removed (`absent_without`).
 pub absent_with : (s t : List Place) (p q : Place) → q ≢ p → IsAbsent q (s ++ t) → IsAbsent q (s ++ p ∷ t)
 absent_with [] t p q n h = (n, h)
 absent_with (x ∷ s) t p q n h = (h.0, absent_with s t p q n h.1)
@@ -112,8 +112,8 @@ end_of-last : (x : Place) (s : List Place) (fresh old : Option Place) → end_of
 end_of-last x [] fresh old = refl
 end_of-last x (y ∷ s) fresh old = end_of-last y s fresh old
 
--- THE NEW HEAD of a sequence in which the part after `front` was replaced by `rest` is the first member of the new sequence.
--- Before the change the part after `front` was `was`.
+-- In a sequence the part after `front` is replaced: it is `was` before the change, and `rest` afterwards. If `old` is the first
+-- member of the old sequence, and `new` is computed from `old` by `end_of`, `new` is the first member of the new sequence.
 pub new_head : (front was rest : List Place) {before fresh old new : Option Place} → before ≡ last front → fresh ≡ first rest → old ≡ first (front ++ was)
     → new ≡ end_of before fresh old → new ≡ first (front ++ rest)
 new_head [] was rest {before} {fresh} {old} e k h is = is ∙ ap (λ b. end_of b fresh old) e ∙ k
@@ -123,8 +123,9 @@ new_head (x ∷ front) was rest {before} {fresh} {old} e k h is = is ∙ ap (λ 
 last_of_parts : (front mid back : List Place) → last (front ++ (mid ++ back)) ≡ last_or (last_or (last front) mid) back
 last_of_parts front mid back = last_or-append None front (mid ++ back) ∙ last_or-append (last front) mid back
 
--- THE NEW TAIL of a sequence in which the part between `front` and `back` was replaced by `mid` is the last member of the new
--- sequence. Before the change the part between them was `was`.
+-- In a sequence the part between `front` and `back` is replaced: it is `was` before the change, and `mid` afterwards. If `old` is
+-- the last member of the old sequence, and `new` is computed from `old` by `end_of`, `new` is the last member of the new
+-- sequence.
 pub new_tail : (front was mid back : List Place) {after fresh old new : Option Place} → after ≡ first back → fresh ≡ last_or (last front) mid
     → old ≡ last (front ++ (was ++ back)) → new ≡ end_of after fresh old → new ≡ last (front ++ (mid ++ back))
 new_tail front was mid [] {after} {fresh} {old} e k h is =
@@ -154,8 +155,8 @@ pub first_of_back : (front back : List Place) → None ≡ last_or None front �
 first_of_back [] back e = refl
 first_of_back (x ∷ s) back e = absurd (last_some x s (sym e))
 
--- If a list with distinct members and a second list share no member, and the second list is put into a gap of the first, all
--- members are distinct.
+-- If two sequences of distinct members share no member, all members are distinct after the sequence `mid` is inserted at a gap of
+-- the other one.
 pub distinct_splice : (front mid back : List Place) → IsDistinct (front ++ back) → IsDistinct mid → IsDisjoint mid (front ++ back) → IsDistinct (front ++ (mid ++ back))
 distinct_splice front [] back d m j = d
 distinct_splice front (x ∷ mid) back d m j =
@@ -197,8 +198,8 @@ pub disjoint_both : (s t u : List Place) → IsDisjoint s u → IsDisjoint t u �
 disjoint_both [] t u h k = k
 disjoint_both (x ∷ s) t u h k = (h.0, disjoint_both s t u h.1 k)
 
--- If a sequence shares no member with u, it still shares none after p is removed from it. The sequence also shares no member with
--- u after p is inserted into it, if p is absent from u.
+-- Let a sequence share no member with u. The sequence still shares no member with u after p is removed from it, or after p is
+-- inserted into it, if p is absent from u.
 pub disjoint_insert : (s t u : List Place) (p : Place) → IsDisjoint (s ++ t) u → IsAbsent p u → IsDisjoint (s ++ p ∷ t) u
 disjoint_insert [] t u p d out = (out, d)
 disjoint_insert (x ∷ s) t u p d out = (d.0, disjoint_insert s t u p d.1 out)
@@ -207,7 +208,7 @@ pub disjoint_remove : (s t u : List Place) (p : Place) → IsDisjoint (s ++ p �
 disjoint_remove [] t u p d = d.1
 disjoint_remove (x ∷ s) t u p d = (d.0, disjoint_remove s t u p d.1)
 
--- A reversed sequence has its ends exchanged and its members unchanged.
+-- If a sequence is reversed, its ends are exchanged, and it has the same members.
 pub reverse_cons : (x : Place) (s : List Place) → reverse (x ∷ s) ≡ reverse s ++ x ∷ []
 reverse_cons x s = reverse-append (x ∷ []) s
 
@@ -229,7 +230,7 @@ distinct_reverse [] d = tt
 distinct_reverse (x ∷ s) d =
     rw (reverse_cons x s) (distinct_insert (reverse s) [] x (rw append-nil (distinct_reverse s d.1)) (rw append-nil (absent_reverse x s d.0)))
 
--- WHERE A CURSOR IS NEXT: a cursor that has a gap before it also has a gap of the same sequence after it.
+-- A cursor that has a gap before it also has a gap of the same sequence after it.
 pub gap_after : (gap : Cut) (cursor : Option Place) → IsBefore gap cursor → (next : Cut) × (join next ≡ join gap) × IsAfter next cursor
 gap_after gap cursor before = after gap.front gap.back cursor before where
   after : (front back : List Place) (cursor : Option Place) → cursor ≡ first back → (next : Cut) × (join next ≡ front ++ back) × IsAfter next cursor
@@ -259,12 +260,12 @@ pub first_is : (s : List Place) {p : Place} → Some p ≡ first s → s ≡ p �
 first_is [] {p} e = absurd (none_not p (sym e))
 first_is (x ∷ s) e = ap (λ (q : Place). q ∷ s) (sym (some_same e))
 
--- A sequence without a last member is unchanged if its last member is removed, because it is empty.
+-- A sequence without a last member is empty, so `but_last` does not change the sequence.
 pub but_last_of_none : (s : List Place) → last s ≡ None → but_last s ≡ s
 but_last_of_none [] e = refl
 but_last_of_none (x ∷ s) e = absurd (last_some x s e)
 
--- If p is put at the back of a sequence, p is the last member, and the other members are those that the sequence had before.
+-- If p is inserted at the back of a sequence, p is the last member, and the other members are those that the sequence had before.
 pub last_of_push : (s : List Place) (p : Place) → last (s ++ p ∷ []) ≡ Some p
 last_of_push s p = last_or-append None s (p ∷ [])
 
@@ -273,7 +274,7 @@ but_last_of_push [] p = refl
 but_last_of_push (x ∷ []) p = refl
 but_last_of_push (x ∷ y ∷ s) p = ap (λ (l : List Place). x ∷ l) (but_last_of_push (y ∷ s) p)
 
--- A sequence without its first member is shorter, and so is a sequence without its last member.
+-- A sequence that is not empty becomes shorter if its first member (`fewer`) or its last member (`fewer_back`) is removed.
 pub fewer : (s : List Place) (p : Place) → Some p ≡ first s → length (drop 1 s) < length s
 fewer [] p e = absurd (none_not p (sym e))
 fewer (x ∷ s) p e = omega arith
@@ -287,7 +288,7 @@ fewer_back (x ∷ y ∷ s) p e = omega (arith, fewer_back (y ∷ s) p e)
 pub absent_turned : (q : Place) (s t : List Place) → IsAbsent q (t ++ s) → IsAbsent q (s ++ t)
 absent_turned q s t h = absent_both q s t (absent_right q t s h) (absent_left q t s h)
 
--- IN A SEQUENCE OF DISTINCT MEMBERS only one gap is after each member.
+-- In a sequence of distinct members only one gap is after each member.
 last_inside : (b : Option Place) (y : Place) (s t : List Place) → IsOutside b (y ∷ s ++ t) → b ≢ last_or (Some y) s
 last_inside None y s t out e = last_some y s (sym e)
 last_inside (Some q) y s t out e = last_not (Some y) s q (λ h. out.0 (sym (some_same h))) (absent_left q s t out.1) (sym e)
@@ -307,7 +308,7 @@ pub same_gap : (gap other : Cut) → IsDistinct (join gap) → join gap ≡ join
     → (gap.front ≡ other.front) × (gap.back ≡ other.back)
 same_gap gap other d e k = same_front None gap.front gap.back other.front other.back tt d e k
 
--- A MEMBER OF A SEQUENCE has a position in it: some members are before it and some are after it.
+-- If q is a member of the sequence s, s consists of the members before q, q itself, and the members after q.
 pub member_split : (q : Place) (s : List Place) → IsMember q s → (front : List Place) × (back : List Place) × (s ≡ front ++ q ∷ back)
 member_split q [] member = absurd (member tt)
 member_split q (x ∷ s) member = elim (same_or_not q x) [

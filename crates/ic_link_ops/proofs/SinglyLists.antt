@@ -10,19 +10,20 @@ use Rattle.ic_link_ops.proofs.Clearing.{Releases, releases_left_blind}
 use Rattle.ic_link_ops.proofs.RepresentedLists.{free_absent, represents_frame, represents_one}
 use Rattle.ic_link_ops.proofs.Walks.{walk_blind, stretch_through, stretch_length, stretch_empty, stretch_of, stretch_first}
 
--- ONLY COVERED PLACES ARE LINKED: if an entry says that its place is linked, the table covers the place.
+-- Only covered places are linked: if an entry says that its place is linked, the table covers the place.
 pub successors_covered : {L E : Type 0} {linked : E → Bool} (s : E → Successor) (table : L → Table E) → ((t : L) (q : Place) → IsLinked linked (table t) q → IsCovered (table t) q)
     → ((e : E) → (s e).linked ≡ linked e) → (t : L) (q : Place) → (s ((table t).entry q)).linked ≡ true → IsCovered (table t) q
 successors_covered s table covered alike t q h = covered t q (sym (alike _) ∙ h)
 
 module _ {E : Type 0} {s : E → Successor} where
-  -- THE SETTER changes the place after p, whatever that place was, and changes no other entry.
+  -- The setter replaces the place after p, whichever place this was, and changes no other entry.
   pub successor_turns : {old new : Table E} {p : Place} {to : Option Place} (from : Option Place) → ChangesOnly old new p
       → successor_at s new p ≡ record (successor_at s old p) { next = to } → TurnsAfter (IsFollowed s) old.entry new.entry (Some p) from to
   successor_turns from frame set =
       turns_after frame (λ a h. record { linked = ap (λ x. x.linked) set ∙ h.linked; next = ap (λ x. x.next) set })
 
-  -- No entry of a singly linked list names the place before. If the place before a member changes, nothing is written.
+  -- No entry of a singly linked list names the place before its own place. If the place before a member changes, no entry has to
+  -- change.
   pub unwritten : {t : Place → E} {at from to : Option Place} → TurnsBefore (IsFollowed s) t t at from to
   unwritten = record { turned = λ q b e h. record { linked = h.linked; next = h.next }; others = λ q apart. refl }
 
@@ -32,7 +33,7 @@ module _ {E : Type 0} {s : E → Successor} where
   pub followed_linked : {linked : E → Bool} → ((e : E) → (s e).linked ≡ linked e) → (e : E) (b a : Option Place) → IsFollowed s e b a → linked e ≡ true
   followed_linked alike e b a h = sym (alike e) ∙ h.linked
 
-  -- A walk from the place `front` to the end lists the rest of the chain.
+  -- If w is a walk from the place `front` to the end of the list, `members_from` lists w.
   pub walk_represented : (t : Table E) → ((q : Place) → (s (t.entry q)).linked ≡ true → IsCovered t q)
       → (front : Option Place) (w : List Place) → IsWalk s t.entry front w → members_from s t front ≡ w
   walk_represented t covered front w k =
@@ -70,13 +71,12 @@ module _ {E : Type 0} {s : E → Successor} where
       → (list : Front) (m : List Place) → Represents s t list m → length m ≤ t.extent.places
   represented_length t covered list m shown = stretch_length t (λ q b a h. covered q h.linked) (stretch_of shown)
 
-  -- If a list is cleared from the front, the members that are not cleared yet are the members from the current member on.
+  -- While a list is cleared from the front, the members that are not yet unlinked are the members from `current` on.
   pub members_uncleared : {old new : Table E} {m : List Place} {current : Option Place} → ((q : Place) → (s (new.entry q)).linked ≡ true → IsCovered new q)
       → IsDistinct m → (k : Releases (IsFollowed s) old new m current) → members_from s new current ≡ k.rest
   members_uncleared covered d k = releases_left_blind (λ e. (s e).next) (λ e b a h. h.next) (λ q b a h. covered q h.linked) d k
 
--- Singly linked lists have the five facts of a collection, if the list's trait and the table's trait agree on whether a place is
--- linked.
+-- The five facts of `IsKind` hold for singly linked lists, if s and `linked` agree on whether the place of an entry is linked.
 pub singly_lists : {E : Type 0} {s : E → Successor} {linked : E → Bool} → ((e : E) → (s e).linked ≡ linked e) → IsKind (Represents s) linked (list_from None)
 singly_lists {s = s} alike = record {
   frame = λ old new list m touched shown apart same. represents_frame touched shown apart same;

@@ -9,8 +9,7 @@ use Rattle.ic_link_ops.proofs.BothEnds.{both_ends}
 use Rattle.ic_link_ops.proofs.SequenceLemmas.{split_last, first_is}
 use Rattle.ic_link_ops.proofs.CollectionLaws.{IsKind, one_sequence_is_represented}
 
--- `Left s w` says that w is the list of members left in the state s. The function `left` computes the list of members left in a
--- state.
+-- `Left s w` says that w is the list of members left in the state s. The function `left` computes this list.
 module _ {S : Type 0} (Left : S → List Place → Type 0) (left : S → List Place) (law : (s : S) (w : List Place) → Left s w → left s ≡ w) where
   -- A call that returned a member leaves fewer members.
   pub goes : (end : List Place → Option Place) (others : List Place → List Place) → ((w : List Place) (p : Place) → Some p ≡ end w → length (others w) < length w)
@@ -23,11 +22,12 @@ module _ {S : Type 0} (Left : S → List Place → Type 0) (left : S → List Pl
     rests = λ _. tt;
   }
 
--- `rest s` is the part of the collection that the walk s has not removed yet, and the table that the walk borrows.
+-- `rest s` consists of the head of the part of the collection that the walk s has not removed yet, and of the table that the walk
+-- borrows.
 module _ {S L E H : Type 0} {Represents : Table E → H → List Place → Type 0} {linked : E → Bool} {empty : H} (kind : IsKind Represents linked empty)
     (table : L → Table E) (Trace : L → L → List LinkStep → Type 0) (rest : S → Taking L H) where
-  -- WHAT A WALK FROM BOTH ENDS REMOVES, if it ends with no member left, is its sequence, with each member once. First come the
-  -- items from the front, and then the items from the back in reverse order.
+  -- If a walk from both ends has ended with no member left, it has removed each member of its sequence w once. The sequence w
+  -- consists of the members from the front, followed by the members from the back in reverse order.
   pub two_ended_taking : (start end : S) (w : List Place) (items : List (Item Place)) → Leaves Represents table (rest start) w
       → Leads (λ s r t. TakesFirst Represents table Trace (rest s) r (rest t)) (λ s r t. TakesLast Represents table Trace (rest s) r (rest t)) start items end
       → Leaves Represents table (rest end) [] → from_front (λ p. p) items ++ reverse (from_back (λ p. p) items) ≡ w

@@ -1,5 +1,5 @@
--- This file proves facts about how often a place occurs in a sequence, in a tree, and around a subtree, so that distinctness can
--- be counted.
+-- This file proves facts about how often a place occurs in a sequence, in a tree, and around a subtree. Places are distinct if
+-- none of them occurs more than once.
 use Rattle.std.proofs.Common.{◌≡◌, ◌≢◌, ◌+◌, ◌≤◌, List, [], ◌∷◌, ◌++◌, refl, arith, inl, inr, eq-eqb, ne_eqb}
 use Rattle.ic_link_ops.specs.Prelude.{Place, index_of, IsAbsent, IsDistinct}
 use Rattle.ic_unsafe_ref.proofs.PlaceLemmas.{same_index, same_or_not}
@@ -16,7 +16,7 @@ one_at_self p = rw (eq-eqb (index_of p) (index_of p) refl) refl
 pub one_at_other : (q p : Place) → q ≢ p → one_at q p ≡ 0
 one_at_other q p h = rw (ne_eqb (index_of q) (index_of p) (λ e. h (same_index q p e))) refl
 
--- If the count that compares q with p is 0, the places q and p are different.
+-- If `one_at q p` is 0, the places q and p are different.
 pub apart : (q p : Place) → one_at q p ≡ 0 → q ≢ p
 apart q p h e = let k : one_at q p ≡ 1 = rw e (one_at_self p) in absurd (omega arith)
 

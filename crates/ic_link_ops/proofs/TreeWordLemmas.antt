@@ -23,7 +23,7 @@ parent_set n parent =
     let at : place_at ((word_of parent + n % 8) / 8 * 8) ≡ parent = ap place_at names ∙ place_at_word parent in
     λ k. record { linked = nat_eq (links k) 1; parent = at k; color = cond (nat_eq (colors k) 0) Red Black }
 
--- If the lowest bit of the word n is replaced by another color, the word has the new color and keeps its other parts.
+-- If the lowest bit of the word n is replaced by the bit of another color, the word has the new color and keeps its other parts.
 pub color_set : (n : ℕ) (color : Color) → parts_at (n / 2 * 2 + one_if_black color) ≡ record (parts_at n) { color = color }
 color_set n Red =
     let links : (n / 2 * 2 + 0) / 2 % 2 ≡ n / 2 % 2 = omega arith in
@@ -36,7 +36,7 @@ color_set n Black =
     let colors : (n / 2 * 2 + 1) % 2 ≡ 1 = omega arith in
     λ k. record { linked = nat_eq (links k) 1; parent = place_at (names k); color = cond (nat_eq (colors k) 0) Red Black }
 
--- The sum of the parent's word, 2 and the color is the word of a linked place with this parent and this color.
+-- The sum of the parent's word, 2, and 1 if the color is black, is the word of a linked place with this parent and this color.
 pub parts_below : (parent : Option Place) (color : Color) → parts_at (word_of parent + 2 + one_if_black color) ≡ linked_below parent color
 parts_below parent Red =
     let fits = (word_fits parent).1 in
@@ -53,7 +53,8 @@ parts_below parent Black =
     let at : place_at ((word_of parent + 2 + 1) / 8 * 8) ≡ parent = ap place_at names ∙ place_at_word parent in
     λ k. record { linked = nat_eq (links k) 1; parent = at k; color = cond (nat_eq (colors k) 0) Red Black }
 
--- If x is below 2, `one_if` of the test whether x is 1 is x itself.
+-- Let x be 0 or 1. Then `one_if` of the test whether x is 1 is x. If 0 is read as red and 1 as black, `one_if_black` of this
+-- color is x as well.
 one_if_one : (x : ℕ) → x < 2 → one_if (nat_eq x 1) ≡ x
 one_if_one zero h = refl
 one_if_one (suc zero) h = refl

@@ -30,7 +30,8 @@ abbrev member : Color → Option Place → Option Place → Option Place → Nod
 member c a b up = record { linked = true; left = a; right = b; parent = up; color = c }
 
 module _ {E : Type 0} {n : E → Node} {entry : Place → E} {p : Place} {c : Color} {a b up : Option Place} where
-  -- A SETTER: if the new entry is f of the old entry of p, it is f of the parts of p, which are its color, children and parent.
+  -- A setter computes the parts e of the new entry by the function f from the old entry of p. If p has the color c, the children
+  -- a and b and the parent `up`, e is f of these parts.
   at_set : (f : Node → Node) (e : Node) → e ≡ f (n (entry p)) → IsAt n entry p c a b up → e ≡ f (member c a b up)
   at_set f e set h = set ∙ ap f (λ k. record { linked = h.linked k; left = h.left k; right = h.right k; parent = h.parent k; color = h.color k })
 
@@ -44,8 +45,8 @@ module _ {E : Type 0} {n : E → Node} {entry : Place → E} {p : Place} {c : Co
   }
 
 module _ {E : Type 0} {n : E → Node} {old new : Place → E} {p : Place} {c : Color} {a b up : Option Place} where
-  -- An entry that reads the same keeps its parts. Each setter of one part of an entry changes that part and keeps the other
-  -- parts.
+  -- `IsAt` still holds for the same parts if the new entry of p has the parts of the old one. Each setter of one part of an entry
+  -- changes this part and keeps the other parts.
   pub at_same : n (new p) ≡ n (old p) → IsAt n old p c a b up → IsAt n new p c a b up
   at_same same h = at_is (at_set (λ e. e) (n (new p)) same h)
 
@@ -90,7 +91,8 @@ module _ {E : Type 0} (n : E → Node) where
   top_parent entry up leaf q h e = absurd (none_not q e)
   top_parent entry up (fork c a p b) q h e = rw (← some_same e) h.0.parent
 
-  -- If r is no member, and `read` yields a child or a parent, then a place for which `read` yields r is no member either.
+  -- Let `read` return a child or the parent from a place's entry. If r is no member, each place for which `read` returns r is no
+  -- member either.
   pub read_absent : (entry : Place → E) (read : Node → Option Place) (r : Place)
       → ((p : Place) (c : Color) (a b up : Option Place) → IsAt n entry p c a b up → a ≢ Some r → b ≢ Some r → up ≢ Some r → read (n (entry p)) ≢ Some r)
       → (up : Option Place) (t : Tree) → IsTree n entry up t → up ≢ Some r → IsAbsent r (in_order t)
@@ -104,7 +106,7 @@ module _ {E : Type 0} (n : E → Node) where
         read_absent entry read r not (Some p) b h.2 below k.2 q e,
       )
 
-  -- A TABLE HAS AT MOST ONE TREE below a root with a given parent.
+  -- A table has at most one tree with a given root and a given parent of the root.
   pub one_tree : (entry : Place → E) (up : Option Place) (t t' : Tree) → IsTree n entry up t → IsTree n entry up t' → top t ≡ top t' → t ≡ t'
   one_tree entry up leaf leaf h h' e = refl
   one_tree entry up leaf (fork c a p b) h h' e = absurd (none_not p e)

@@ -5,7 +5,8 @@ use Rattle.ic_link_ops.specs.Turns.{TurnsAfter, TurnsBefore}
 use Rattle.ic_link_ops.proofs.SequenceLemmas.{some_same}
 
 module _ {E : Type 0} {between : E → Option Place → Option Place → Type 0} where
-  -- If a change at p replaces the neighbor of p on one side, the change is an edit of that neighbor and of no other entry.
+  -- Only the entry of p changes. If the change replaces the place after p, `TurnsAfter` holds. If the change replaces the place
+  -- before p, `TurnsBefore` holds.
   pub turns_after : {old new : Table E} {p : Place} {from to : Option Place} → ChangesOnly old new p
       → ((a : Option Place) → between (old.entry p) a from → between (new.entry p) a to) → TurnsAfter between old.entry new.entry (Some p) from to
   turns_after {old} {new} {p} {from} {to} frame turn = record {

@@ -1,4 +1,5 @@
--- The facts in this file help callers whose objects are linked in exactly one of two fields, after each kind of step.
+-- The facts in this file help callers whose objects are each linked in exactly one of two fields. They say that this is still
+-- true after each kind of step.
 use Rattle.std.proofs.Common.{◌≡◌, Bool, true, false, not, Some, None, is_some, refl, sym, ap, ◌∙◌, true≢false}
 use Rattle.ic_link_ops.specs.Prelude.{Place, Objects, Places, Frees, object_at, is_placed, Table, IsLinked, IsUnlinked, LinksAlso, Unlinks}
 use Rattle.ic_unsafe_ref.proofs.Placing.{placed_there, others_placed, gone_there, others_left}
@@ -29,11 +30,11 @@ module _ {E F T : Type 0} {linked_a : E → Bool} {linked_b : F → Bool} {old :
   pub unlinked_vacant : (p : Place) → object_at old p ≡ None → IsUnlinked linked_a a p × IsUnlinked linked_b b p
   unlinked_vacant p none = same_once (sym (ap is_some none)) refl refl (once.each p)
 
-  -- AFTER `cover` of both tables each object is still linked in exactly one field.
+  -- After `cover` of both tables each object is still linked in exactly one field.
   pub once_covered : {c : Table E} {d : Table F} → ((q : Place) → c.entry q ≡ a.entry q) → ((q : Place) → d.entry q ≡ b.entry q) → IsLinkedOnce linked_a linked_b old c d
   once_covered stays_a stays_b = record { each = λ q. same_once refl (ap linked_a (stays_a q)) (ap linked_b (stays_b q)) (once.each q) }
 
-  -- A NEW OBJECT is put at a place and linked in the first field. Each object is then linked in exactly one field.
+  -- After a new object is put at a place and linked in the first field, each object is linked in exactly one field.
   pub once_placed : {new : Objects T} {c : Table E} {p : Place} {v : T} → Places old new p v → LinksAlso linked_a a c p → IsLinkedOnce linked_a linked_b new c b
   once_placed {new} {c} {p} places also = record {
     each = λ q. everywhere (λ q. IsOnce (is_placed new q) (linked_a (c.entry q)) (linked_b (b.entry q))) p q
@@ -41,14 +42,16 @@ module _ {E F T : Type 0} {linked_a : E → Bool} {linked_b : F → Bool} {old :
         (λ n. same_once (ap is_some (others_placed places q n)) (also.others q n) refl (once.each q));
   }
 
-  -- AN OBJECT MOVES from the first field to the second. Each object is still linked in exactly one field.
+  -- After an object is unlinked in the first field and linked in the second one, each object is still linked in exactly one
+  -- field.
   pub once_moved : {c : Table E} {d : Table F} {p : Place} {v : T} → object_at old p ≡ Some v → Unlinks linked_a a c p → LinksAlso linked_b b d p → IsLinkedOnce linked_a linked_b old c d
   once_moved {c} {d} {p} there off also = record {
     each = λ q. everywhere (λ q. IsOnce (is_placed old q) (linked_a (c.entry q)) (linked_b (d.entry q))) p q
         (same_once (ap is_some there) off.is also.is refl) (λ n. same_once refl (off.others q n) (also.others q n) (once.each q));
   }
 
-  -- AN OBJECT LEAVES the second field and its place. Each other object is still linked in exactly one field.
+  -- After an object is unlinked in the second field and removed from its place, each other object is still linked in exactly one
+  -- field.
   pub once_taken : {new : Objects T} {d : Table F} {p : Place} → Frees old new p → Unlinks linked_b b d p → IsLinkedOnce linked_a linked_b new a d
   once_taken {new} {d} {p} frees off = record {
     each = λ q. everywhere (λ q. IsOnce (is_placed new q) (linked_a (a.entry q)) (linked_b (d.entry q))) p q

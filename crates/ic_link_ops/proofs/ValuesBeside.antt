@@ -1,4 +1,4 @@
--- This file proves facts about the values beside the links of a table if a value is read or set.
+-- This file proves facts about a value beside a link of a table that is read or set.
 use Rattle.std.proofs.Common.{◌≡◌, ℕ, ◌<◌, List, length, Some, true, slice_set, slice_index_or, ap, ◌∙◌, arith}
 use Rattle.std.proofs.lemmas.List.{get_or-map, length-map, map-set}
 use Rattle.ic_link_ops.specs.Prelude.{Place, index_of, object_at, is_placed, with_object, at_indexes}

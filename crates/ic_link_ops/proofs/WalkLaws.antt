@@ -1,5 +1,5 @@
--- A walk from both ends, if it ends with nothing left, lends its whole sequence, each object once. First come the items from the
--- front, and then the items from the back in reverse order.
+-- If a walk from both ends has ended with nothing left, it has lent each object of its sequence once. The sequence consists of
+-- the items from the front, followed by the items from the back in reverse order.
 use Rattle.std.proofs.Common.{◌≡◌, List, [], ◌++◌, reverse, Bor, refl, sym, ◌∙◌}
 use Rattle.ic_link_ops.specs.Walk.{GivesFirst, GivesLast}
 use Rattle.ic_link_ops.specs.BothEnds.{Item, Leads, from_front, from_back}

@@ -1,4 +1,4 @@
--- This file proves that a walk lists a part of a chain, and how it proceeds step by step from either end.
+-- This file proves that a walk lists a part of a chain, and what each step of a walk from either end does.
 use Rattle.std.proofs.Common.{◌≡◌, ◌≢◌, ℕ, zero, suc, ◌<◌, ◌≤◌, Option, Some, None, List, [], ◌∷◌, ◌++◌, drop, length, length-append, Bool, true, false, nat_eq, ◌||◌, Bor, refl, sym, ◌∙◌, ap, arith, subst, ne_eqb, eq-eqb, eqb-true}
 use Rattle.std.specs.Prelude.{IsSome}
 use Rattle.std.specs.Option.{option_copied}
@@ -16,7 +16,7 @@ use Rattle.ic_link_ops.proofs.Chains.{chain_cut, last_between, first_between}
 nat_eq_refl : (i : ℕ) → nat_eq i i ≡ true
 nat_eq_refl i = eq-eqb i i refl
 
--- The test whether an end is the place p fails if the end is not p, and succeeds if it is p.
+-- If the end `to` is not p, `is_end to p` is false. If `is_end to p` is true, `to` is p, and if it is false, `to` is not p.
 pub is_end_not : (to : Option Place) (p : Place) → to ≢ Some p → is_end to p ≡ false
 is_end_not None p h = refl
 is_end_not (Some q) p h = ne_eqb (index_of q) (index_of p) (λ e. h (ap Some (same_index q p e)))
@@ -28,7 +28,7 @@ is_end_yes (Some q) p e = ap Some (same_index q p (eqb-true (index_of q) (index_
 pub is_end_no : (to : Option Place) (p : Place) → is_end to p ≡ false → to ≢ Some p
 is_end_no to p e h = let k : is_end (Some p) p ≡ true = nat_eq_refl (index_of p) in let m : is_end (Some p) p ≡ false = rw h at e in cc
 
--- The test whether the place with the given index is a member of the sequence.
+-- `member w i` says whether the place with the index i is a member of the sequence w.
 abbrev member : List Place → ℕ → Bool
 member [] i = false
 member (x ∷ w) i = nat_eq (index_of x) i || member w i
@@ -56,7 +56,7 @@ all_small (x ∷ s) = (index_small x, all_small s)
 pub few_places : (s : List Place) → IsDistinct s → length s ≤ 8589934591
 few_places s distinct = pigeonhole s 8589934591 distinct (all_small s)
 
--- If a step does not use the place before, walks that begin with different places before are equal.
+-- If a step does not use the place before, a walk does not depend on the place that is before its first member.
 pub walk_blind : {E : Type 0} (next : E → Option Place) (t : Place → E) (fuel : ℕ) (b b' from to : Option Place)
     → walk (λ e before. next e) t fuel b from to ≡ walk (λ e before. next e) t fuel b' from to
 unfolding walk
@@ -64,7 +64,8 @@ walk_blind next t zero b b' from to = refl
 walk_blind next t (suc fuel) b b' None to = refl
 walk_blind next t (suc fuel) b b' (Some p) to = refl
 
--- Each member of a chain is covered by the table, if each place between two others is covered.
+-- `covered` says that the table covers each place whose entry names its neighbors. If so, the table covers each member of a
+-- chain.
 chain_covered : {E : Type 0} (between : E → Option Place → Option Place → Type 0) (t : Table E)
     → ((q : Place) (b a : Option Place) → between (t.entry q) b a → IsCovered t q)
     → (b : Option Place) (w : List Place) (a : Option Place) → IsChain between t.entry b w a → AllByRecursion (λ q. index_of q < t.extent.places) w
@@ -111,12 +112,13 @@ module _ {E : Type 0} {between : E → Option Place → Option Place → Type 0}
       → between (t p) (last_or b (but_last w)) a
   stretch_last {t} {b} {from} {a} {p} {w} k = last_between between t b w a k.chain k.ends
 
-  -- A part of a chain has at most as many members as the table covers places, if each place between two others is covered.
+  -- A part of a chain has at most as many members as the table covers places, if the table covers each place whose entry names
+  -- its neighbors.
   pub stretch_length : (t : Table E) → ((q : Place) (b a : Option Place) → between (t.entry q) b a → IsCovered t q)
       → {b from to a : Option Place} {w : List Place} → IsStretch between t.entry b from to a w → length w ≤ t.extent.places
   stretch_length t covered {b} {from} {to} {a} {w} k = pigeonhole w t.extent.places k.distinct (chain_covered between t covered b w a k.chain)
 
-  -- `law` says that a step goes to the place after.
+  -- `law` says that a step leads from a place to the place after it.
   module _ (step : E → Option Place → Option Place) (law : (e : E) (b a : Option Place) → between e b a → step e b ≡ a) where
     walk_is : (t : Place → E) (w : List Place) (fuel : ℕ) (b a : Option Place) → IsDistinct w → IsChain between t b w a → length w ≤ fuel
         → walk step t fuel b (first w) (last w) ≡ w
@@ -145,7 +147,7 @@ module _ {E : Type 0} {between : E → Option Place → Option Place → Type 0}
     walk_through t (x ∷ w) (suc m) b c h =
         rw (law (t x) b (first w) c.0) (ap (λ (l : List Place). x ∷ l) (walk_through t w m (Some x) c.1 (omega (arith, h))))
 
-    -- A walk without a given last place lists the rest of the chain.
+    -- A walk that begins in a chain, and has no given last place, lists the rest of the chain.
     pub stretch_through : (t : Table E) → ((q : Place) (b a : Option Place) → between (t.entry q) b a → IsCovered t q)
         → {b from to : Option Place} {w : List Place} → IsStretch between t.entry b from to None w → walked step t b from None ≡ w
     stretch_through t covered {b} {from} {to} {w} k = rw k.starts (walk_through t.entry w t.extent.places b k.chain (stretch_length t covered k))
@@ -190,8 +192,8 @@ module _ {E : Type 0} {between : E → Option Place → Option Place → Type 0}
         },
       )
 
-  -- THE MEMBERS AFTER A GAP are what a walk along the entries reaches from the first member after the gap, if an entry alone
-  -- determines the place after.
+  -- If an entry alone determines the place after, a walk from the first member after a gap reaches exactly the members after the
+  -- gap.
   pub walked_from_gap : (next : E → Option Place) → ((e : E) (b a : Option Place) → between e b a → next e ≡ a)
       → (t : Table E) → ((q : Place) (b a : Option Place) → between (t.entry q) b a → IsCovered t q)
       → (front back : List Place) {position : Option Place} → IsDistinct (front ++ back) → IsChain between t.entry None (front ++ back) None → position ≡ first back
@@ -209,7 +211,7 @@ module _ {S T : Type 0} (rest : S → List T) where
   yields_placed s t None (Some v) placed e left = cc
   yields_placed s t (Some x) (Some v) placed e left = (left ∙ ap (λ v. v ∷ rest t) (sym (same_Some x.now v e)), tt)
 
-  -- A step that lent an object leaves one object less.
+  -- A step that lent an object leaves one object fewer.
   pub makes_progress : (can : S → Type 0) (s t : S) (r : Option (Bor T)) → can t → GivesFirst rest s r t → MakesProgress can (item_count rest) s r t
   makes_progress can s t None on given = record { on = λ _. tt; keeps = tt; rests = λ _. tt }
   makes_progress can s t (Some x) on given =

@@ -8,7 +8,7 @@ use Rattle.std.proofs.lemmas.Nat.{xor_lt}
 use Rattle.ic_link_ops.specs.Prelude.{Place, word_of, IsNameable}
 use Rattle.ic_link_ops.specs.Widths.{Width, wide, narrow, HasRoom, CanKeep, nameable, count_nameable, most_places}
 
--- If words have room for the name of an end, they have room for its word. The end is a place or none.
+-- If words of the width w can name the end o, which is a place or none, they have room for the word of o.
 pub word_kept : (w : Width) (o : Option Place) → IsNameable (HasRoom w) o → CanKeep w (word_of o)
 word_kept wide o h = tt
 word_kept narrow None h = omega arith
@@ -19,7 +19,8 @@ pub xor_kept : (w : Width) (a b : ℕ) → CanKeep w a → CanKeep w b → CanKe
 xor_kept wide a b h k = tt
 xor_kept narrow a b h k = xor_lt 32 a b h k
 
--- THE NAMEABLE LINKS of a list are as many as `count_nameable` computes from the number of all links.
+-- The number of nameable links in a list is what `count_nameable` computes from the number of all links. It is at most the number
+-- of all links.
 pub nameable_count : {E : Type 0} (w : Width) (es : List E) → length (nameable w es) ≡ count_nameable w (length es)
 nameable_count wide es = refl
 nameable_count narrow es = length-take 536870911 es
@@ -38,8 +39,8 @@ pub nameable_written : {E : Type 0} (w : Width) (es : List E) (i : ℕ) (e : E) 
 nameable_written wide es i e h = refl
 nameable_written narrow es i e h = take-set-lt 536870911 es i e (omega (arith, h, length-take 536870911 es))
 
--- If the link with the index i stays, the nameable link with the index i stays. The lemmas `nameable_grown`, `nameable_enough`
--- and `nameable_at_most` count the covered places.
+-- If the link with the index i stays, the nameable link with the index i stays. `nameable_grown` and `nameable_enough` compute
+-- the number of covered places after `cover`, and `nameable_at_most` says that there are at most as many covered places as links.
 pub nameable_stays : {E : Type 0} (w : Width) (d : E) (es fs : List E) (i : ℕ) → slice_index_or fs i d ≡ slice_index_or es i d
     → slice_index_or (nameable w fs) i d ≡ slice_index_or (nameable w es) i d
 nameable_stays wide d es fs i same = same

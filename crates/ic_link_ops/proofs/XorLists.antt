@@ -11,7 +11,7 @@ use Rattle.ic_link_ops.proofs.RepresentedLists.{represents_frame, represents_one
 use Rattle.ic_link_ops.proofs.Walks.{stretch_of, stretch_between, stretch_length, stretch_walked}
 
 module _ {E : Type 0} {linked : E → Bool} {joins : E → Option Place → Option Place → Type 0} where
-  -- A REPLACEMENT of one neighbor of p changes the place before or the place after p, and no other entry.
+  -- A replacement of one neighbor of p changes the place before p or the place after p, and changes no other entry.
   pub replaced_before : {old new : Table E} {p : Place} {from to : Option Place} → ChangesOnly old new p → linked (new.entry p) ≡ linked (old.entry p)
       → ((x : Option Place) → joins (old.entry p) from x → joins (new.entry p) to x) → TurnsBefore (IsJoined linked joins) old.entry new.entry (Some p) from to
   replaced_before frame kept turn = turns_before frame (λ b h. record { linked = kept ∙ h.linked; joined = turn b h.joined })
@@ -43,8 +43,8 @@ module _ {E : Type 0} {linked : E → Bool} {joins : E → Option Place → Opti
       → {list : Ends} {s : List Place} → Represents linked joins t list s → length s ≤ t.extent.places
   represented_length t covered shown = part_length t covered (stretch_of shown)
 
-  -- `law` says that `other` computes the neighbor other than the known one. The function `other` is the step of a walk from
-  -- either end.
+  -- `law` says that `other` computes the neighbor other than the known one. A walk from either end uses the function `other` for
+  -- its steps.
   module _ (other : E → Option Place → Option Place) (law : (e : E) (a b : Option Place) → joins e a b → other e a ≡ b) where
     pub joined_step : (e : E) (b a : Option Place) → IsJoined linked joins e b a → other e b ≡ a
     joined_step e b a h = law e b a h.joined
@@ -63,7 +63,7 @@ module _ {E : Type 0} {linked : E → Bool} {joins : E → Option Place → Opti
         → (list : Ends) (s : List Place) → Represents linked joins t list s → members other t list ≡ s
     members_represented t covered list s shown = part_walked t covered (stretch_between shown)
 
--- XOR lists have the five facts of a collection. `one` is the law that one neighbor determines the other neighbor.
+-- The five facts of `IsKind` hold for XOR lists. `one` is the law that one neighbor determines the other neighbor.
 pub xor_lists : {E : Type 0} {linked : E → Bool} {joins : E → Option Place → Option Place → Type 0}
     → ((e : E) (a b c : Option Place) → joins e a b → joins e a c → b ≡ c) → IsKind (Represents linked joins) linked no_members
 xor_lists one = record {

@@ -1,4 +1,4 @@
--- A walk from both ends returns items of a list by calls at the front and calls at the back, which may come in any order.
+-- A walk from both ends returns the items of a list. Calls at the front and calls at the back may come in any order.
 use Rattle.std.specs.Prelude.{◌≡◌, Option, Some, List, [], ◌∷◌}
 
 -- An item that a walk returned, with the end of the list (front or back) at which the walk returned it.
@@ -15,7 +15,7 @@ module _ {S A : Type 0} (next_gives next_back_gives : S → Option A → S → T
 
 module _ {A B : Type 0} (view : A → B) where
   -- `from_front` lists the items that were returned at the front, and `from_back` those that were returned at the back, each in
-  -- the order of the calls.
+  -- the order of the calls. `view` is applied to each item.
   abbrev pub from_front : List (Item A) → List B
   from_front [] = []
   from_front (at_the_front x ∷ items) = view x ∷ from_front items

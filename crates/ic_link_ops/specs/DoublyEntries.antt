@@ -29,7 +29,7 @@ unlinked = link_of no_words
 abbrev pub is_linked : DoublyLink → Bool
 is_linked = plain.linked_by has_words
 
--- The previous and the next place which a link names, and whether its place is linked.
+-- The parts of a link: whether its place is linked, and which places are before and after it.
 abbrev pub neighbors_of : DoublyLink → Neighbors
 neighbors_of = readings.neighbors_of next_word_of has_words prev_of
 
@@ -45,16 +45,16 @@ entry_at = plain.entry_at unlinked
 abbrev pub table_of : List DoublyLink → Table DoublyLink
 table_of = plain.table_of unlinked
 
--- THE PLAIN TABLE of links of two words, in the form in which the contracts of its callers describe it.
+-- The plain table `links`, in the form in which the contracts of its callers describe it.
 abbrev pub plain_table : {A : Type 0} → DoublyLinkOps A → Table DoublyLink
 plain_table links = table_of (entries links)
 
--- A table of links with two words represents the sequence of places for the doubly linked list with these ends.
+-- A table of links with two words represents a sequence of places for a doubly linked list.
 abbrev pub RepresentsList : Table DoublyLink → Ends → List Place → Type 0
 RepresentsList = Represents neighbors_of
 
--- `PlainRepresents` says that the plain table represents the sequence s for the list. `PlainRepresentsSome` says that it
--- represents some sequence.
+-- `PlainRepresents` says that the plain table represents the sequence s for the list. `PlainRepresentsSome` says that the plain
+-- table represents some sequence for the list.
 abbrev pub PlainRepresents : {A : Type 0} → DoublyLinkOps A → Ends → List Place → Type 0
 PlainRepresents links list s = RepresentsList (plain_table links) list s
 

@@ -4,8 +4,8 @@ use Rattle.ic_unsafe_ref.specs.declared.place.Place.{Place}
 use Rattle.ic_link_ops.specs.Sequences.{Cut, join, insert, remove, replace, splice}
 use Rattle.ic_link_ops.specs.Tables.{Table, ChangesOnlyIn}
 
--- `Represents t head s` says that the table t represents the sequence s for the collection with this head. A `gap` is the cut of
--- the sequence, before the edit, at which the edit happens. The steps of the table determine which places are linked afterwards.
+-- `Represents t head s` says that the table t represents the sequence s for the collection with this head. The edit happens at
+-- the gap, which is a cut of the sequence before the edit. The steps of the table determine which places are linked afterwards.
 module _ {E H : Type 0} (Represents : Table E → H → List Place → Type 0) (old new : Table E) where
   -- The place p is inserted at the gap, and no entries are changed except those of the members and of p.
   pub record Inserts (head : H) (gap : Cut) (p : Place) : Type 0 where

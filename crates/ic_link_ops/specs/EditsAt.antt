@@ -11,19 +11,19 @@ use Rattle.ic_link_ops.specs.Edits.{Inserts, Removes, Replaces, Splices, Splits}
 use Rattle.ic_link_ops.specs.Errors.{object_of, ByCause}
 use Rattle.ic_link_ops.specs.Positions.{CursorState, RepresentsAt, IsValidCursor, IsSecondAfter}
 
--- WHERE TWO COLLECTIONS ARE APART: `Holds gap t` is true for each gap beside the position and for the members t of the given
--- collection, if the two collections share no member.
+-- If the collection of `old` and the collection `given` share no member, `Holds gap t` is true. Here the gap is beside the
+-- position of `old`, and t is the sequence of the collection `given`.
 module _ {L E H : Type 0} (Represents : Table E → H → List Place → Type 0) (table : L → Table E) where
   abbrev pub WhereApart : (Cut → Option Place → Type 0) → CursorState L H → H → (Cut → List Place → Type 0) → Type 0
   WhereApart IsBeside old given Holds = (gap : Cut) (t : List Place) → RepresentsAt Represents table old (join gap) → IsBeside gap old.position
       → Represents (table old.links) given t → IsDisjoint t (join gap) → Holds gap t
 
 -- `Represents t head s` says that the table t represents the sequence s for the collection with this head. `table` turns the
--- links into a table as contracts describe it, and `Trace` lists the table's steps. `old` and `new` are the states before and
--- after the call.
+-- links into a table as contracts describe it. `Trace` says by which steps the links changed. `old` and `new` are the states
+-- before and after the call.
 module _ {L E H : Type 0} (Represents : Table E → H → List Place → Type 0) (table : L → Table E) (Trace : L → L → List LinkStep → Type 0) where
-  -- The object is inserted into the gap beside the position, or its link is refused and nothing else has changed. The position
-  -- stays, whether the object is inserted or refused.
+  -- The object is inserted at the gap beside the position, or the table refuses to link the object. If it is refused, the
+  -- collection stays and the error contains the object. The position stays in either case.
   pub record InsertsBeside {T : Type 0} (Refused : L → L → Place → Type 0) (IsBeside : Cut → Option Place → Type 0)
       (old : CursorState L H) (object : Place) (result : Result Unit (AlreadyLinked T)) (new : CursorState L H) : Type 0 where
     pub inserted : (gap : Cut) → RepresentsAt Represents table old (join gap) → IsBeside gap old.position
@@ -46,7 +46,8 @@ module _ {L E H : Type 0} (Represents : Table E → H → List Place → Type 0)
     pub stands : IsValidCursor Represents table new
 
   -- The object replaces the member that the position is on. The call returns the replaced member, and the position is then on the
-  -- object. If the position is null or the object's link is refused, the call returns the object, and nothing else has changed.
+  -- object. If the position is null, or the table refuses to link the object, the call returns an error with the object. The
+  -- collection and the position then stay.
   pub record ReplacesThere {T : Type 0} (Refused : L → L → Place → Type 0)
       (old : CursorState L H) (object : Place) (result : Result Place (ReplaceError T)) (new : CursorState L H) : Type 0 where
     pub answer : IfOk result (λ out. old.position ≡ Some out)
@@ -71,8 +72,8 @@ module _ {L E H : Type 0} (Represents : Table E → H → List Place → Type 0)
     pub stands : IsValidCursor Represents table new
 
   -- The object replaces the member after the position, or the first member if the position is null, and the call returns the
-  -- replaced member. If there is no member to replace or the object's link is refused, the call returns the object, and nothing
-  -- else has changed. The position stays.
+  -- replaced member. If there is no member to replace, or the table refuses to link the object, the call returns an error with
+  -- the object, and the collection stays. The position always stays.
   pub record ReplacesNext {T : Type 0} (Refused : L → L → Place → Type 0)
       (old : CursorState L H) (object : Place) (result : Result Place (ReplaceError T)) (new : CursorState L H) : Type 0 where
     pub answer : (gap : Cut) → RepresentsAt Represents table old (join gap) → IsAfter gap old.position → IfOk result (λ out. first gap.back ≡ Some out)
@@ -85,7 +86,7 @@ module _ {L E H : Type 0} (Represents : Table E → H → List Place → Type 0)
     pub position : new.position ≡ old.position
     pub stands : IsValidCursor Represents table new
 
-  -- All members of the given collection are inserted into the gap beside the position, if the two collections share no member.
+  -- All members of the collection `given` are inserted at the gap beside the position, if the two collections share no member.
   -- The position stays.
   pub record SplicesBeside (IsBeside : Cut → Option Place → Type 0) (old : CursorState L H) (given : H) (new : CursorState L H) : Type 0 where
     pub spliced : WhereApart Represents table IsBeside old given (Splices Represents (table old.links) (table new.links) new.head)
@@ -93,8 +94,8 @@ module _ {L E H : Type 0} (Represents : Table E → H → List Place → Type 0)
     pub position : new.position ≡ old.position
     pub stands : WhereApart Represents table IsBeside old given (λ gap t. IsValidCursor Represents table new)
 
-  -- The collection is split at the gap beside the position. The members on one side of the gap stay in the collection, and the
-  -- call returns the members on the other side as a new collection. The position stays.
+  -- The collection is split at the gap beside the position. The members `kept gap` stay in the collection, and the call returns
+  -- the members `handed gap` as a new collection. The position stays.
   pub record SplitsBeside (IsBeside : Cut → Option Place → Type 0) (kept handed : Cut → List Place)
       (old : CursorState L H) (result : H) (new : CursorState L H) : Type 0 where
     pub split : (gap : Cut) → RepresentsAt Represents table old (join gap) → IsBeside gap old.position

@@ -8,7 +8,7 @@ use Rattle.ic_link_ops.specs.declared.side.Side.TheVariants.{Left, Right}
 use Rattle.ic_link_ops.specs.Trees.{Tree, fork, top, in_order}
 use Rattle.ic_link_ops.specs.RedBlackTree.{Node, IsAt, IsTree}
 
--- The parts of a tree entry after its child on one side was replaced by another child.
+-- `with_child d e x` is the tree entry e with the child x on the side d.
 abbrev pub with_child : Side → Node → Option Place → Node
 with_child Left e x = record e { left = x }
 with_child Right e x = record e { right = x }
@@ -71,7 +71,8 @@ module _ {E : Type 0} (node : E → Node) where
   IsAtSide entry Left p c near far up = IsAt node entry p c near far up
   IsAtSide entry Right p c near far up = IsAt node entry p c far near up
 
-  -- The entries store the frames of a tree, that is, all members of the tree outside the subtree with the root o.
+  -- The entries store all members of a tree outside one subtree. The list of frames describes these members, and o is the root of
+  -- the subtree.
   abbrev pub IsAround : (Place → E) → List Frame → Option Place → Type 0
   IsAround entry [] o = Unit {0}
   IsAround entry (frame d c p b ∷ fs) o =

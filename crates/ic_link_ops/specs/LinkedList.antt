@@ -27,7 +27,7 @@ module _ {E : Type 0} (neighbors : E → Neighbors) where
   abbrev pub IsChain : (Place → E) → Option Place → List Place → Option Place → Type 0
   IsChain entry before s after = chains.IsChain IsBetween entry before s after
 
-  -- THE TABLE `t` REPRESENTS the sequence `s` for the doubly linked list with these ends.
+  -- The table t represents the sequence s for the doubly linked list whose ends are stored in `list`.
   abbrev pub Represents : Table E → Ends → List Place → Type 0
   Represents t list s = RepresentsBetween IsBetween t list s
 
@@ -47,7 +47,7 @@ module _ {E : Type 0} (neighbors : E → Neighbors) where
   abbrev pub members : Table E → Ends → List Place
   members t list = members_between t list.head list.tail
 
-  -- The places w are a part of a chain: its first place is `front`, and its last place is `back`.
+  -- The sequence w is a part of a chain. The first place of w is `front`, and the last place of w is `back`.
   pub record IsWalk (entry : Place → E) (front back : Option Place) (w : List Place) : Type 0 where
     pub before : Option Place
     pub after : Option Place

@@ -12,7 +12,7 @@ narrow_bits_of w = w.bits
 abbrev pub no_narrow_word : NarrowWord
 no_narrow_word = record { bits = 0; is_word = (omega arith, refl) }
 
--- The number that a narrow word stores, if the word may be the mark of an unlinked place.
+-- The number that a narrow marked word stores. If the place is unlinked, this number is the mark 1.
 abbrev pub marked_narrow_bits_of : NarrowMarkedWord → ℕ
 marked_narrow_bits_of w = w.bits
 

@@ -12,18 +12,18 @@ use Rattle.ic_link_ops.specs.Tables.{Table, IsUnlinked}
 abbrev pub with_at : {X : Type 0} → (ℕ → X) → ℕ → X → ℕ → X
 with_at f k x i = cond (eqb k i) x (f i)
 
--- In this module `heads` stores the head of each collection by its number. `number` computes, from an object, the number of the
--- collection to which it belongs.
+-- In this module `heads i` is the head of the collection with the number i, and `number v` is the number of the collection to
+-- which the object v belongs.
 module _ {E H T : Type 0} (Represents : Table E → H → List Place → Type 0) (linked : E → Bool) (number : T → ℕ) where
-  -- The collection with the number i has these members, these values are the objects at the members, and each object belongs to
-  -- the collection i.
+  -- The collection with the number i has the members `members`. The objects at these members are `values`, in order, and each of
+  -- them belongs to the collection i.
   pub record IsNumbered (t : Table E) (heads : ℕ → H) (objects : Objects T) (i : ℕ) (members : List Place) (values : List T) : Type 0 where
     pub shown : Represents t (heads i) members
     pub stand : StandAt objects members values
     pub own : AllByRecursion (λ v. number v ≡ i) values
 
-  -- THE TABLE HAS THESE COLLECTIONS and nothing else: the collection i has the objects `values i`, and every place that is no
-  -- member is unlinked.
+  -- The table t has exactly these collections: for each number i the collection i has the objects `values i`. Every place that is
+  -- a member of no collection is unlinked.
   pub record HasNumbered (t : Table E) (heads : ℕ → H) (objects : Objects T) (values : ℕ → List T) : Type 0 where
     pub members : ℕ → List Place
     pub each : (i : ℕ) → IsNumbered t heads objects i (members i) (values i)

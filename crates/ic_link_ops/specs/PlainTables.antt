@@ -14,7 +14,8 @@ module _ {W A V : Type 0} where
   abbrev pub entries : PlainTable W A V → List (Link W V)
   entries t = t.entries.items
 
-  -- `with_entries t es` is the table t with the links es instead of its own links. There are as many links in es as in t.
+  -- `with_entries t es` is the table t with the links es instead of its own links. The list es has to be as long as the list of
+  -- links of t.
   abbrev pub with_entries : PlainTable W A V → List (Link W V) → PlainTable W A V
   with_entries t es = record t { entries = with_items t.entries es }
 
@@ -23,11 +24,11 @@ module _ {E : Type 0} (unlinked : E) where
   abbrev pub entry_at : List E → Place → E
   entry_at es p = slice_index_or es (index_of p) unlinked
 
-  -- The table that is made of these entries and has this identity, which distinguishes it from other tables of its type.
+  -- The table with the entries es and the given identity. The identity distinguishes the table from other tables of its type.
   abbrev pub table_with : List ℕ → List E → Table E
   table_with identity es = record { extent = record { places = length es; identity = identity }; entry = entry_at es }
 
-  -- The table that is made of these entries and owns them. The identity of a table that owns its entries is empty.
+  -- The table with the given entries and an empty identity.
   abbrev pub table_of : List E → Table E
   table_of = table_with []
 
@@ -36,8 +37,8 @@ module _ {W V : Type 0} where
   abbrev pub values_beside : List (Link W V) → List V
   values_beside es = map value_of es
 
-  -- The table that is made of those links whose places can be named by words of this width. The numbers of the links' values are
-  -- part of the table's extent.
+  -- The table of those links in es whose places can be named by words of the width w. `printed` turns the values of these links
+  -- into numbers, which are the table's identity.
   abbrev pub nameable_table : Width → Link W V → (List V → List ℕ) → List (Link W V) → Table (Link W V)
   nameable_table w unlinked printed es = table_with unlinked (printed (values_beside (nameable w es))) (nameable w es)
 

@@ -12,7 +12,7 @@ pub record CursorState (L H : Type 0) : Type 0 where
   pub position : Option Place
 
 module _ {L H : Type 0} where
-  -- The state that consists of this table of links, this head of a collection, and this position.
+  -- The state with the given table of links, head of a collection, and position.
   abbrev pub site : L → H → Option Place → CursorState L H
   site links head position = record { links = links; head = head; position = position }
 
@@ -22,21 +22,20 @@ module _ {L E H : Type 0} (Represents : Table E → H → List Place → Type 0)
   abbrev pub RepresentsAt : CursorState L H → List Place → Type 0
   RepresentsAt at s = Represents (table at.links) at.head s
 
-  -- THE POSITION IS VALID: the position is null, or it is on a member of the sequence that the table represents for the
+  -- In the state `at` the position is valid: it is null, or it is on a member of the sequence that the table represents for the
   -- collection.
   pub record IsValidCursor (at : CursorState L H) : Type 0 where
     pub gap : Cut
     pub shown : RepresentsAt at (join gap)
     pub after : IsAfter gap at.position
 
-  -- A move from the old position to the next member leads to the new position: the gap after the old position is the gap before
-  -- the new position.
+  -- A call moves to the next member: the gap after the position of `old` is the gap before the new position, which is `position`.
   pub record MovesOn (old : CursorState L H) (position : Option Place) : Type 0 where
     pub leads : (gap : Cut) → RepresentsAt old (join gap) → IsAfter gap old.position → IsBefore gap position
     pub stands : IsValidCursor (site old.links old.head position)
 
-  -- A move from the old position to the previous member leads to the new position: the gap before the old position is the gap
-  -- after the new position.
+  -- A call moves to the previous member: the gap before the position of `old` is the gap after the new position, which is
+  -- `position`.
   pub record MovesBack (old : CursorState L H) (position : Option Place) : Type 0 where
     pub leads : (gap : Cut) → RepresentsAt old (join gap) → IsBefore gap old.position → IsAfter gap position
     pub stands : IsValidCursor (site old.links old.head position)
@@ -51,7 +50,7 @@ pub record HasMember (shows : List Place → Type 0) (p : Place) : Type 0 where
 abbrev pub IsSecondAfter : Cut → Option Place → Type 0
 IsSecondAfter gap position = position ≡ first (drop 1 gap.back)
 
--- The object at a position. If the position is null, there is no object.
+-- The object at a position. The result is none if the position is null.
 abbrev pub object_there : {T : Type 0} → Objects T → Option Place → Option T
 object_there objects None = None
 object_there objects (Some p) = object_at objects p

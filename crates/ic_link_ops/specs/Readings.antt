@@ -8,13 +8,13 @@ use Rattle.ic_link_ops.specs.SinglyLinkedList.{Successor}
 use Rattle.ic_link_ops.specs.LinkedList.{Neighbors}
 
 module _ {W V : Type 0} (next_word : W → ℕ) where
-  -- The next word of the link l is the exclusive or of the words of the places a and b, which are its neighbors in an XOR linked
-  -- list.
+  -- The neighbors of the link l in an XOR linked list are a and b. The next word of l is then the exclusive or of the words of a
+  -- and b.
   abbrev pub HasXorNeighbors : Link W V → Option Place → Option Place → Type 0
   HasXorNeighbors l a b = next_word (words_of l) ≡ bit_xor (word_of a) (word_of b)
 
-  -- The neighbor other than a in an XOR linked list. The word of this neighbor is the exclusive or of the link's next word and
-  -- the word of a.
+  -- If one neighbor of the link l in an XOR linked list is a, the result is the other neighbor. Its word is the exclusive or of
+  -- the link's next word and the word of a.
   abbrev pub xor_other : Link W V → Option Place → Option Place
   xor_other l a = place_at (bit_xor (next_word (words_of l)) (word_of a))
 

@@ -20,7 +20,8 @@ module _ {E : Type 0} (node : E → Node) where
   abbrev pub node_at : Table E → Place → Node
   node_at t p = node (t.entry p)
 
-  -- The place p is linked, and it has the color c, the left child a, the right child b, and the parent `up`.
+  -- The entry of the place p says that p is linked, and has the color c, the left child a, the right child b, and the parent
+  -- `up`.
   pub record IsAt (entry : Place → E) (p : Place) (c : Color) (a b up : Option Place) : Type 0 where
     pub linked : (node (entry p)).linked ≡ true
     pub left : (node (entry p)).left ≡ a
@@ -28,21 +29,21 @@ module _ {E : Type 0} (node : E → Node) where
     pub parent : (node (entry p)).parent ≡ up
     pub color : (node (entry p)).color ≡ c
 
-  -- The entries store this tree: each member has its color, its children and its parent in the tree. The parent of the root is
-  -- `up`.
+  -- The entries store the tree: the entry of each member has the color, the children and the parent that this member has in the
+  -- tree. The parent of the root is `up`.
   abbrev pub IsTree : (Place → E) → Option Place → Tree → Type 0
   IsTree entry up leaf = Unit {0}
   IsTree entry up (fork c a p b) = IsAt entry p c (top a) (top b) up × IsTree entry (Some p) a × IsTree entry (Some p) b
 
-  -- The table holds the tree: its members from left to right are the list s, in which no place occurs twice. The entries store
-  -- the tree's children, parents and colors, and the root has no parent.
+  -- The table t holds the tree. The members of the tree from left to right are s, and no place occurs twice in s. The entries
+  -- store the tree's children, parents and colors, and the root has no parent.
   pub record Holds (t : Table E) (tree : Tree) (s : List Place) : Type 0 where
     pub order : in_order tree ≡ s
     pub distinct : IsDistinct s
     pub entries : IsTree t.entry None tree
 
-  -- THE TABLE REPRESENTS s for the tree with this root: the table holds a binary tree with this root and the members s from left
-  -- to right. The root is none if s is empty. The tree's shape is right.
+  -- The table t represents the sequence s for the tree with the given root. This means that t holds a binary tree that has this
+  -- root, the members s from left to right, and the red-black shape (`IsRight`). The root is none if s is empty.
   pub record Represents (t : Table E) (root : Option Place) (s : List Place) : Type 0 where
     pub tree : Tree
     pub held : Holds t tree s
@@ -53,8 +54,8 @@ module _ {E : Type 0} (node : E → Node) where
   abbrev pub RepresentsSome : Table E → Option Place → Type 0
   RepresentsSome t root = (s : List Place) × Represents t root s
 
-  -- THE TABLE REPRESENTS s BETWEEN TWO ENDS: the table holds a binary tree with the members s from left to right. The ends are
-  -- the first and the last of s, or none if s is empty. The colors may be any.
+  -- The table t holds a binary tree with the members s from left to right. The ends `front` and `back` are the first and the last
+  -- member of s, or none if s is empty. The members can have any colors.
   pub record RepresentsEnds (t : Table E) (front back : Option Place) (s : List Place) : Type 0 where
     pub tree : Tree
     pub held : Holds t tree s

@@ -34,8 +34,7 @@ remove gap = gap.front ++ drop 1 gap.back
 abbrev pub replace : Cut → Place → List Place
 replace gap p = gap.front ++ p ∷ drop 1 gap.back
 
--- The sequence after all members of t were inserted at the gap. A split, in contrast, keeps one part of a sequence and makes a
--- new sequence of the other part.
+-- The sequence after all members of t were inserted at the gap.
 abbrev pub splice : Cut → List Place → List Place
 splice gap t = gap.front ++ (t ++ gap.back)
 

@@ -29,8 +29,8 @@ abbrev pub NoRedPair : Tree → Type 0
 NoRedPair leaf = Unit {0}
 NoRedPair (fork c a p b) = (c ≡ Red → (top_color a ≡ Black) × (top_color b ≡ Black)) × NoRedPair a × NoRedPair b
 
--- THE SHAPE IS RIGHT: the root is black, no red member has a red child, and all paths from the root down to a missing child have
--- equally many black members.
+-- The tree t has the red-black shape. Its root is black, no red member has a red child, and all paths from the root down to a
+-- missing child have equally many black members.
 pub record IsRight (t : Tree) : Type 0 where
   pub black_root : top_color t ≡ Black
   pub no_red_pair : NoRedPair t

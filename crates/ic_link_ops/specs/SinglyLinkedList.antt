@@ -30,7 +30,7 @@ module _ {E : Type 0} (successor : E → Successor) where
     pub linked : (successor e).linked ≡ true
     pub next : (successor e).next ≡ after
 
-  -- THE TABLE REPRESENTS the sequence s for the singly linked list, whose head stores only the first member.
+  -- The table represents a sequence of places for a singly linked list, whose head stores only the first member.
   abbrev pub Represents : Table E → Front → List Place → Type 0
   Represents = RepresentsChain IsFollowed (λ last. tt)
 
@@ -49,7 +49,7 @@ module _ {E : Type 0} (successor : E → Successor) where
   abbrev pub members : Table E → Front → List Place
   members t list = members_from t list.head
 
-  -- The places w are the last part of a chain. The first place of w is `front`.
+  -- The sequence w is the last part of a chain. The first place of w is `front`.
   pub record IsWalk (entry : Place → E) (front : Option Place) (w : List Place) : Type 0 where
     pub before : Option Place
     pub part : IsStretch IsFollowed entry before front (last w) None w

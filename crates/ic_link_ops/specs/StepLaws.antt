@@ -5,7 +5,8 @@ use Rattle.ic_link_ops.specs.Tables.{Extent, Table, KeepsLinked, with_extent}
 use Rattle.ic_link_ops.specs.LinkSteps.{LinkStep, acquires, releases, Makes, TraceIs}
 
 module _ {E : Type 0} (linked : E → Bool) where
-  -- If a step leads from one table to another, it also leads from and to every table in which the same places are linked.
+  -- `Makes` reads in its two tables only which places are linked. Each of the two tables can therefore be exchanged for a table
+  -- with the same linked places: the first by `makes_from`, the second by `makes_to`.
   makes_from : (s : LinkStep) (a b c : Table E) → KeepsLinked linked a b → Makes linked s b c → Makes linked s a c
   makes_from (acquires p) a b c k l = record { was = sym (k p) ∙ l.was; is = l.is; others = λ q n. l.others q n ∙ k q }
   makes_from (releases p) a b c k l = record { was = sym (k p) ∙ l.was; is = l.is; others = λ q n. l.others q n ∙ k q }
@@ -21,7 +22,7 @@ module _ {E : Type 0} (linked : E → Bool) where
   replays_from (x ∷ []) a b c k l = makes_from x a b c k l
   replays_from (x ∷ y ∷ rest) a b c k l = (l.0, makes_from x a b l.0 k l.1, l.2)
 
-  -- TWO LISTS OF STEPS can be joined: if s leads from a to b and t leads from b to c, the list s followed by t leads from a to c.
+  -- Two lists of steps can be joined. If s leads from a to b and t leads from b to c, the list s followed by t leads from a to c.
   pub replays_on : (s t : List LinkStep) (a b c : Table E) → TraceIs linked a b s → TraceIs linked b c t → TraceIs linked a c (s ++ t)
   replays_on [] t a b c l m = replays_from t a b c l m
   replays_on (x ∷ []) [] a b c l m = makes_to x a b c l m

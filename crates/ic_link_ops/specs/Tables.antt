@@ -4,10 +4,10 @@ use Rattle.ic_unsafe_ref.specs.declared.place.Place.{Place}
 use Rattle.ic_unsafe_ref.specs.Places.{index_of}
 use Rattle.ic_link_ops.specs.Sequences.{IsAbsent}
 
--- An extent is the number of places that a table covers, and the table's identity, which distinguishes it from other tables of
--- its type. The identity is empty if the table owns its entries. The identity contains the variant's number if the type is a sum
--- of tables. The identity also contains the name of each borrow that the table holds, and the numbers of the values beside the
--- links. Each call of a collection leaves the extent unchanged.
+-- An extent is the number of places that a table covers, and the table's identity. The identity distinguishes the table from
+-- other tables of its type. It contains the name of each borrow that the table holds, and the numbers of the values beside the
+-- links. If the type is a sum of tables, the identity also contains the number of the variant. The identity of a plain table
+-- without values is empty. Each call of a collection leaves the extent unchanged.
 pub record Extent : Type 0 where
   pub places : ℕ
   pub identity : List ℕ
@@ -39,12 +39,13 @@ module _ {E : Type 0} where
   abbrev pub IsUnlinked : (E → Bool) → Table E → Place → Type 0
   IsUnlinked linked t p = linked (t.entry p) ≡ false
 
-  -- The tables `old` and `new` differ in no entry except the entry at p, and their extents are equal.
+  -- The tables `old` and `new` have equal extents, and equal entries at all places except p.
   pub record ChangesOnly (old new : Table E) (p : Place) : Type 0 where
     pub extent : new.extent ≡ old.extent
     pub others : (q : Place) → q ≢ p → new.entry q ≡ old.entry q
 
-  -- THE FRAME: the tables `old` and `new` differ in no entry except the entries at members of s, and their extents are equal.
+  -- The tables `old` and `new` have equal extents, and equal entries at all places that are not in s. A clause that says so is
+  -- called a frame.
   pub record ChangesOnlyIn (old new : Table E) (s : List Place) : Type 0 where
     pub extent : new.extent ≡ old.extent
     pub others : (q : Place) → IsAbsent q s → new.entry q ≡ old.entry q

@@ -14,18 +14,18 @@ pub record Taking (L H : Type 0) : Type 0 where
 
 -- `Represents t head s` says that the table t represents the sequence s for the collection with this head.
 module _ {L E H : Type 0} (Represents : Table E → H → List Place → Type 0) (table : L → Table E) where
-  -- The sequence w consists of the members that the walk has not returned yet.
+  -- In the state t of the walk, w is the sequence of the members that the walk has not returned yet.
   abbrev pub Leaves : Taking L H → List Place → Type 0
   Leaves t w = Represents (table t.links.now) t.head w
 
-  -- Some sequence of members remains for the walk, and it may be empty.
+  -- Some sequence of members remains for the walk, and this sequence may be empty.
   abbrev pub CanTake : Taking L H → Type 0
   CanTake t = (w : List Place) × Leaves t w
 
   module _ (Trace : L → L → List LinkStep → Type 0) where
-    -- One call of the walk led from the state s to the state t and returned r. The call returns and unlinks the member at the
-    -- given end of the remaining members, and makes no other step. If no member remains, the call returns none and changes
-    -- nothing.
+    -- One call of the walk led from the state s to the state t and returned r. If the members w remained, the call returned and
+    -- unlinked the member `end w`, and made no other step. The members `others w` then remain. If no member remained, the call
+    -- returned none and changed nothing.
     pub record Takes (end : List Place → Option Place) (others : List Place → List Place) (s : Taking L H) (r : Option Place) (t : Taking L H) : Type 0 where
       pub same_links : t.links.ghost_name ≡ s.links.ghost_name
       pub answer : (w : List Place) → Leaves s w → r ≡ end w

@@ -37,7 +37,7 @@ node_in w = record {
 abbrev pub node_of : {V : Type 0} → Link ThreeWords V → Node
 node_of l = node_in (words_of l)
 
--- The numbers that are printed for the three words of a link. The third number contains the flags and twice the parent's number,
--- which is 2 * (index + 1).
+-- The numbers that are printed for the three words of a link. The number for the third word is 4 * (parent + 1) + 2 * linked +
+-- black.
 abbrev pub printed_words : ThreeWords → List ℕ
 printed_words w = printed (word_of w.left) ∷ printed (bits_of w.right) ∷ number_of w.third ∷ []

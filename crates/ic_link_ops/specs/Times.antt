@@ -5,21 +5,21 @@ use Rattle.ic_unsafe_ref.specs.Places.{index_of}
 use Rattle.ic_link_ops.specs.Trees.{Tree, leaf, fork}
 use Rattle.ic_link_ops.specs.Frames.{Frame, frame}
 
--- The count is 1 if the places q and p are equal, and 0 otherwise.
+-- `one_at q p` is 1 if the places q and p are equal, and 0 otherwise.
 abbrev pub one_at : Place → Place → ℕ
 one_at q p = cond (nat_eq (index_of q) (index_of p)) 1 0
 
--- The count of how often the place q occurs in a sequence.
+-- The number of times that the place q occurs in a sequence.
 abbrev pub times_in : Place → List Place → ℕ
 times_in q [] = 0
 times_in q (x ∷ s) = one_at q x + times_in q s
 
--- The count of how often the place q occurs in a tree.
+-- The number of times that the place q occurs in a tree.
 abbrev pub times : Place → Tree → ℕ
 times q leaf = 0
 times q (fork c a p b) = times q a + one_at q p + times q b
 
--- The count of how often the place q occurs in a tree outside one subtree. The frames describe the rest of the tree around the
+-- The number of times that the place q occurs in a tree outside one subtree. The list of frames describes the tree without this
 -- subtree.
 abbrev pub times_around : Place → List Frame → ℕ
 times_around q [] = 0

@@ -6,7 +6,8 @@ use Rattle.ic_link_ops.specs.Tables.{Table}
 
 -- `Represents t head s` says that the table t represents the sequence s for the list with this head.
 module _ {E H : Type 0} (Represents : Table E → H → List Place → Type 0) where
-  -- The table represents two lists that share no member, and the position is valid in the first list.
+  -- The table t represents a sequence for `list` and one for `other`, and the two lists share no member. The position is null or
+  -- on a member of `list`.
   pub record AreApart (t : Table E) (list other : H) (position : Option Place) : Type 0 where
     pub gap : Cut
     pub rest : List Place

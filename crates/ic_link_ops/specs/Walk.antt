@@ -12,16 +12,17 @@ abbrev pub is_end : Option Place → Place → Bool
 is_end None p = false
 is_end (Some q) p = nat_eq (index_of q) (index_of p)
 
--- `step e before` is the place after the place of the entry e, if `before` is the place before it.
+-- `step e before` is the place after the place of the entry e. `before` is the place before the place of e.
 module _ {E : Type 0} (step : E → Option Place → Option Place) where
-  -- The list of at most `fuel` members from the place `front` to the place `back`, if the place `before` is before `front`.
+  -- The members from the place `front` to the place `back`, or only the first `fuel` of them. `before` is the place before
+  -- `front`.
   unfoldable pub walk : (Place → E) → ℕ → Option Place → Option Place → Option Place → List Place
   walk entry zero before front back = []
   walk entry (suc fuel) before None back = []
   walk entry (suc fuel) before (Some p) back = p ∷ cond (is_end back p) [] (walk entry fuel (Some p) (step (entry p) before) back)
 
-  -- The members from the place `front` to the place `back`. A walk through distinct places is not longer than the number of
-  -- places that the table covers.
+  -- The members from the place `front` to the place `back`. `before` is the place before `front`. The walk can list as many
+  -- members as the table covers places, which is enough if the members are distinct.
   abbrev pub walked : Table E → Option Place → Option Place → Option Place → List Place
   walked t before front back = walk t.entry t.extent.places before front back
 

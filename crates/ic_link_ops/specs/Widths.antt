@@ -21,12 +21,13 @@ abbrev pub count_nameable : Width → ℕ → ℕ
 count_nameable wide n = n
 count_nameable narrow n = min 536870911 n
 
--- Words of this width have room for the name of the place.
+-- A word of the given width can name the place p.
 abbrev pub HasRoom : Width → Place → Type 0
 HasRoom wide p = ⊤
 HasRoom narrow p = index_of p < 536870911
 
--- A word of this width has room for the number, which is 8 * (index + 1) for a place, or the exclusive or of two such numbers.
+-- A word of the given width has room for the number n. The number for a place is 8 * (index + 1). Links also store the exclusive
+-- or of two such numbers.
 abbrev pub CanKeep : Width → ℕ → Type 0
 CanKeep wide n = ⊤
 CanKeep narrow n = n < 4294967296
@@ -36,7 +37,7 @@ abbrev pub nameable : {E : Type 0} → Width → List E → List E
 nameable wide es = es
 nameable narrow es = take 536870911 es
 
--- Words of the width w have room for each place of the links that `nameable w` keeps.
+-- Words of the width w can name the place of each link in `nameable w es`.
 pub nameable_has_room : {E : Type 0} (w : Width) (es : List E) (p : Place) → index_of p < length (nameable w es) → HasRoom w p
 nameable_has_room wide es p h = tt
 nameable_has_room narrow es p h = omega (arith, h, length-take 536870911 es)

@@ -8,7 +8,7 @@ use Rattle.ic_link_ops.specs.declared.marked_word.MarkedWord.{MarkedWord}
 abbrev pub bits_of : Word → ℕ
 bits_of w = w.bits
 
--- The number that a link's word stores, if it may be the mark of an unlinked place. The mark is the number 1.
+-- The number that a marked word stores. If the place is unlinked, this number is the mark 1.
 abbrev pub marked_bits_of : MarkedWord → ℕ
 marked_bits_of w = w.bits
 

@@ -6,11 +6,11 @@ use Rattle.ic_unsafe_ref.specs.declared.place.Place.{Place}
 use Rattle.ic_unsafe_ref.specs.Places.{word_of, place_at}
 use Rattle.ic_unsafe_ref.proofs.PlaceLemmas.{place_at_word}
 
--- The exclusive or of a, b and again a is b, because a cancels out.
+-- The exclusive or of a, b and a is b.
 pub xor_back : (a b : ℕ) → bit_xor (bit_xor a b) a ≡ b
 xor_back a b = xor_comm (bit_xor a b) a ∙ sym (xor_assoc a a b) ∙ ap (λ (x : ℕ). bit_xor x b) (xor_self a)
 
--- If two places have the same word, the places are equal. A missing place has a word of its own.
+-- If a and b have the same word, they are equal. Each of them is a place or none, and none has the word 0, which no place has.
 pub word_same : (a b : Option Place) → word_of a ≡ word_of b → a ≡ b
 word_same a b e = sym (place_at_word a) ∙ ap place_at e ∙ place_at_word b
 
@@ -30,8 +30,8 @@ joins_finds_other w a b j = ap place_at (joins_rest w a b j) ∙ place_at_word b
 pub joins_one_other : (w : ℕ) (a b c : Option Place) → w ≡ bit_xor (word_of a) (word_of b) → w ≡ bit_xor (word_of a) (word_of c) → b ≡ c
 joins_one_other w a b c j k = word_same b c (sym (joins_rest w a b j) ∙ joins_rest w a c k)
 
--- If w joins the words of `old` and x by exclusive or, taking out the word of `old` and putting in the word of `new` joins `new`
--- and x.
+-- Let w be the exclusive or of the words of `old` and x. The exclusive or of w, the word of `old` and the word of `new` is then
+-- the exclusive or of the words of `new` and x.
 pub joins_replaced : (w : ℕ) (old new x : Option Place) → w ≡ bit_xor (word_of old) (word_of x)
     → bit_xor (bit_xor w (word_of old)) (word_of new) ≡ bit_xor (word_of new) (word_of x)
 joins_replaced w old new x j =

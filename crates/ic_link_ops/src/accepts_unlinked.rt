@@ -11,8 +11,8 @@ use std::alloc::Allocator;
 
 /// A table that links each place that it covers, unless the place is linked in it already.
 ///
-/// Every plain table has this trait, whatever the width of its words is, with values or without. A lent plain table also has this
-/// trait. A table of claimed links does not have it, because that table also refuses a place that another holder has claimed.
+/// Every plain table has this trait, with words of 8 or 4 bytes, and with or without values. A lent table has the trait, too. A
+/// table of claimed links does not have the trait, because it also refuses a place that another holder has claimed.
 pub trait AcceptsUnlinked: LinkOps {
     // The law: if a table refuses the link of a place, the place is linked in the table.
     ghost refused_is_linked: { (old new : Self) (p : Place) → Self.Refused old new p → IsLinked Self.linked (Self.table old) p };

@@ -57,7 +57,7 @@ impl<T> Drop for AlreadyLinked<T> {
 pub enum ReplaceError<T> {
     /// The cursor was on no member, or there was no member at the position that the call replaces.
     Null(UnsafeRef<T>),
-    /// The object is linked already. An object that is itself the member which the call would replace is also linked already.
+    /// The object is linked already. This is also the error if the object is itself the member that the call would replace.
     AlreadyLinked(UnsafeRef<T>),
 }
 

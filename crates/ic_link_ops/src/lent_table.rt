@@ -1,4 +1,5 @@
-//! A lent plain table gives access to the links that a plain table lends, for a loop that makes many calls.
+//! A lent table gives access to the links that a plain table lends. A loop over a lent table reads the address of the links only
+//! once.
 //!
 //! ```text
 //! fn pop_all(list: &mut LinkedList<Job>, links: &mut [Link]) {
@@ -19,9 +20,9 @@ use ic_unsafe_ref::Place;
 /// A table of the links that a plain table lends. The lent table exists for as long as the links are borrowed.
 ///
 /// A lent table has the same link traits as the plain table. Each call on the plain table reads the address of the links. In a
-/// loop over the lent table no call reads the address. When the borrow ends, the plain table has the links as the lent table left
-/// them. Pass the lent links to a function that contains the loop, as in the example at the top of this file. The contract of the
-/// function that contains the loop states the links that the loop leaves.
+/// loop over the lent table the calls do not read the address again. When the borrow ends, the plain table has the links as the
+/// lent table left them. Pass the lent links to a function that contains the loop, as in the example at the top of this file. The
+/// contract of this function then states what the links are after the loop.
 pub struct LentTable<'a, W, V = ()> {
     pub(crate) entries: &'a mut [Link<W, V>],
 }
@@ -39,8 +40,8 @@ impl<'a, W, V> LentTable<'a, W, V> {
 
     /// The lent table of the links that [`PlainTable::lend`](crate::PlainTable::lend) lends. O(1).
     ///
-    /// The lent table covers the places that its words can name. If the words have 4 bytes, the lent table covers the first
-    /// 536,870,911 places, and otherwise it covers all places.
+    /// The lent table covers the places of the lent links that its words can name. If the words have 4 bytes, these are at most
+    /// the first 536,870,911 places. Words of 8 bytes can name all places.
     #[inline]
     pub fn new(links: &'a mut [Link<W, V>]) -> LentTable<'a, W, V>
         ensures { IsView links.entry result }
@@ -63,7 +64,7 @@ impl<W: Words, V: LinkValue> LentTable<'_, W, V> {
         W::count_nameable(self.entries.len())
     }
 
-    // The index, in the lent slice, of the link of the place.
+    // The index at which the lent slice stores the link of `place`. The call requires that the table covers `place`.
     #[inline]
     #[tactic(auto, using(crate::proofs::WidthLemmas::nameable_fits))]
     pub(crate) fn slot(&self, place: Place) -> usize

@@ -1,7 +1,7 @@
 //! This crate defines tables of links, and the traits that collections require of a table.
 //!
-//! A link field is a table with one entry for each place that it covers. A program makes the table once, lets the table cover the
-//! places of the program's objects, and passes the table to each call of a collection.
+//! All links of one field are in one table, which has an entry for each place that the table covers. A program makes the table
+//! once, lets the table cover the places of the program's objects, and passes the table to each call of a collection.
 //!
 //! ```text
 //! let mut links = linked_list::LinkOps::new(rt.alloc());

@@ -27,7 +27,7 @@ pub trait Words: Drop {
     // The width of each word that names a place: 8 bytes or 4 bytes.
     ghost width: { Width };
 
-    /// The words that a table stores for a place which it covers for the first time. The place is unlinked.
+    /// The words that a table stores for a newly covered place. The place is unlinked.
     fn unlinked() -> Self
         ensures { result ≡ unlinked };
 
@@ -61,7 +61,7 @@ pub trait NextWord: Words {
     // The number that the next word stores.
     ghost next_word: { Self → ℕ };
 
-    // Everything that the words store, except the next word, is unchanged.
+    // The two states of the words name the same previous place, if words of this type name one.
     ghost KeepsOthers: { Self → Self → Type 0 };
 
     ghost use Rattle.ic_link_ops.specs.Words.{bits_of};
@@ -71,7 +71,7 @@ pub trait NextWord: Words {
         requires linked { Self.is_linked self.now ≡ true }
         ensures { bits_of result ≡ next_word self.now };
 
-    /// Replaces the next word. The call requires that the place is linked, and that the words have room for the new word. The
+    /// Replaces the next word. The call requires that the place is linked, and that a word of this width has room for `word`. The
     /// place stays linked.
     fn set_next_word(&mut self, word: Word)
         requires linked { Self.is_linked self.old ≡ true }
@@ -80,7 +80,7 @@ pub trait NextWord: Words {
         ensures linked { Self.is_linked self.new ≡ Self.is_linked self.old }
         ensures others { KeepsOthers self.old self.new };
 
-    // The law: the words have room for the next word that they store.
+    // The law: a word of this width has room for the next word of a linked place.
     ghost next_word_kept: { (w : Self) → Self.is_linked w ≡ true → CanKeep Self.width (next_word w) };
 }
 
@@ -118,7 +118,7 @@ pub struct Link<W, V = ()> {
 impl<W: Words, V: LinkValue> Link<W, V> {
     ghost use Rattle.ic_link_ops.specs.Links.{link_with, words_of};
 
-    /// An unlinked link, as a table stores it for a place that it covers for the first time. O(1).
+    /// An unlinked link with the initial value. A table stores such a link for each newly covered place. O(1).
     #[inline]
     pub fn new() -> Link<W, V>
         ensures { result ≡ link_with W.unlinked V.initial }
@@ -160,7 +160,7 @@ impl<W: Words, V: LinkValue> Default for Link<W, V> {
 
     ghost is_default = { λ l. l ≡ link_with W.unlinked V.initial };
 
-    /// An unlinked link, as [`Link::new`].
+    /// The unlinked link that [`Link::new`] returns.
     fn default() -> Link<W, V> {
         Link::new()
     }

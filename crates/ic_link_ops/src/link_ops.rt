@@ -6,16 +6,16 @@ ghost use Rattle.ic_link_ops.specs.Prelude.{Place, Table, IsCovered, IsLinked, C
 
 use ic_unsafe_ref::Place;
 
-/// A table of links: one entry for each place that it covers, which says whether the place is linked.
+/// A table of links has one entry for each place that the table covers. The entry says whether the place is linked.
 ///
-/// Collections use only this trait and the trait of their kind. A plain table refuses a link exactly if the place is
-/// linked in it. A table of claimed links also refuses a place that another holder has claimed.
+/// Collections use only this trait and the trait of their kind. A plain table refuses to link exactly the places that are linked
+/// in it already. A table of claimed links also refuses a place that another holder has claimed.
 ///
-/// A setter belongs to one kind of collection and changes one entry. The contract of a setter states only what its own kind reads
-/// in the entry afterwards. The contract states nothing about what other kinds read in the entry, because kinds share words. For
-/// example, a call that sets a next place also changes the word that an XOR list reads. No collection depends on this, because a
-/// linked place is a member of one collection of the table, and that collection has one kind. If you call setters of two kinds at
-/// one place, set all that you want to read again.
+/// A setter belongs to one kind of collection and changes one entry. The contract of a setter states only what collections of
+/// this kind read in the entry afterwards. The contract states nothing about what collections of other kinds read in the entry,
+/// because kinds share words. For example, a call that sets a next place also changes the word that an XOR list reads. No
+/// collection is harmed by this, because a linked place is a member of only one collection of the table. After you called a
+/// setter of another kind at a place, set each link of your kind there before you read it.
 ///
 /// The plain tables are `linked_list::LinkOps`, `singly_linked_list::LinkOps`, `xor_linked_list::LinkOps` and `rbtree::LinkOps`.
 ///
@@ -35,15 +35,13 @@ pub trait LinkOps {
     // `linked` says whether an entry belongs to a linked place.
     ghost linked: { Self.Entry → Bool };
 
-    // The words of a table of this type have room for the name of the place. Whether the words have room does not depend on what
-    // they contain now.
+    // A link word of a table of this type can name the place. Whether it can does not depend on what the table contains.
     ghost CanName: { Place → Type 0 };
 
-    // THE STEPS: between the first state and the second state, the table made the steps in the list, in this order, and no other
-    // step.
+    // Between the first state and the second state, the table made exactly the steps of the list, in this order.
     ghost Trace: { Self → Self → List LinkStep → Type 0 };
 
-    // The link of the place was refused, and no entry of the table has changed.
+    // The table refused to link the place between the first state and the second state, and no entry has changed.
     ghost Refused: { Self → Self → Place → Type 0 };
 
     /// Links `place` and returns true, or returns false if the table refuses the link.
@@ -61,9 +59,9 @@ pub trait LinkOps {
         ensures released { Trace self.old self.new (releases place ∷ []) }
         ensures frame { ChangesOnly (table self.old) (table self.new) place };
 
-    // The laws: Only covered places are linked. The words have room for the name of every covered place. A table that stays the
-    // same has made no step. Two lists of steps, one after the other, are one list of steps. The steps determine which places are
-    // linked. A refusal changes no entry.
+    // The laws: Only covered places are linked. A link word can name every covered place. A table that stays the same has made no
+    // step. The steps from `a` to `b`, followed by those from `b` to `c`, lead from `a` to `c`. The steps determine which places
+    // are linked. A refusal changes no entry.
     ghost linked_is_covered: { (t : Self) (p : Place) → IsLinked linked (table t) p → IsCovered (table t) p };
 
     ghost covered_has_name: { (t : Self) (p : Place) → IsCovered (table t) p → CanName p };

@@ -24,15 +24,15 @@ pub trait LinkValue: Drop {
     // The value beside a link before a call sets a value.
     ghost initial: { Self };
 
-    // The values of a table as numbers. The numbers are part of the table's extent, so no call of a collection changes the
-    // values.
+    // `printed` turns the values of a table into numbers. The numbers are part of the table's extent, which no call of a
+    // collection changes. A call of a collection therefore changes no value.
     ghost printed: { List Self → List ℕ };
 
     /// The value beside a link before a call sets a value.
     fn initial() -> Self
         ensures { result ≡ initial };
 
-    // The law: the count and the numbers of the values determine the values.
+    // The law: two lists of values are equal if they have the same length and the same numbers.
     ghost tells: { (s t : List Self) → length s ≡ length t → printed s ≡ printed t → s ≡ t };
 }
 

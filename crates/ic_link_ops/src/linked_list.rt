@@ -61,7 +61,8 @@ pub trait LinkedListOps: link_ops::LinkOps {
     /// Links `place` between `prev` and `next` and returns true, or returns false if the link is refused. The call requires that
     /// `place` is covered, and that the table's words have room for `prev` and `next`. O(1).
     ///
-    /// The call does what `acquire_link`, `set_prev` and `set_next` do, so that a table can write each word once.
+    /// The call does what `acquire_link`, `set_prev` and `set_next` do. A table can implement the call so that it writes each
+    /// word only once.
     #[inline]
     fn link_between(&mut self, place: Place, prev: Option<Place>, next: Option<Place>) -> bool
         requires covered { IsCovered (Self.table self.old) place }
@@ -87,7 +88,7 @@ pub trait LinkedListOps: link_ops::LinkOps {
 /// The words of a doubly linked list's link. The first word names the next place, or is the mark 1 if the place is unlinked. The
 /// second word names the previous place.
 ///
-/// An XOR list uses only the first word.
+/// Singly linked lists and XOR lists use only the first word.
 #[derive(Drop)]
 pub struct TwoWords {
     next: MarkedWord,

@@ -11,7 +11,7 @@ ghost use Rattle.ic_link_ops.specs.Widths.{HasRoom, narrow};
 use ic_unsafe_ref::Place;
 use std::marker::Model;
 
-/// A place or none, stored as the place's word, `8 * (index + 1)`, or 0.
+/// A place or none in 4 bytes. A place is stored as its word, `8 * (index + 1)`, and none is stored as 0.
 ///
 /// In contracts the word is an `Option<Place>`.
 #[derive(Drop)]

@@ -67,7 +67,7 @@ impl NarrowTreeWord {
         }
     }
 
-    // The parent's word.
+    // The word of `parent` in 4 bytes, or 0 if there is no parent.
     #[inline]
     fn kept(parent: Option<Place>) -> u32
         requires named { IsNameable (HasRoom narrow) parent }

@@ -30,8 +30,7 @@ impl Model for PlaceWord {
 }
 
 impl PlaceWord {
-    /// The word for an end of a collection. The outermost member at this end is `place`, or `None` if the collection is empty.
-    /// O(1).
+    /// The word for an end of a collection: `place` is the member at this end, or `None` if the collection is empty. O(1).
     #[inline]
     #[tactic(auto, using(ic_unsafe_ref::proofs::PlaceLemmas::place_at_word))]
     pub fn of(place: Option<Place>) -> PlaceWord

@@ -103,10 +103,11 @@ pub trait RBTreeOps: link_ops::LinkOps {
     ghost linked_alike: { (e : Self.Entry) → (node e).linked ≡ Self.linked e };
 }
 
-/// The words of a tree's link: one word for each child, and one word for the parent, the color and whether the place is linked.
+/// The words of a tree's link, each of 8 bytes. Two words store the children. The third word stores the parent, the color and
+/// whether the place is linked.
 ///
-/// A list stores its previous place as the left child and its next place as the right child. An XOR list uses the word of the
-/// right child.
+/// A doubly linked list stores the previous place as the left child and the next place as the right child. A singly linked list
+/// or an XOR list stores its one word as the word of the right child.
 #[derive(Drop)]
 pub struct ThreeWords {
     left: PlaceWord,
@@ -137,13 +138,13 @@ impl link::Link<ThreeWords> {
     ghost use Rattle.ic_link_ops.specs.Links.{words_of};
     ghost use Rattle.ic_link_ops.specs.ThreeWords.{printed_words};
 
-    /// The numbers that are printed for the three words: one for the left child, one for the right child, and one for the parent
-    /// and the color.
+    /// The numbers that are printed for the three words. They are about the left child, about the right child, and about the
+    /// parent and the color.
     ///
     /// A child is printed as `2 * (index + 1)`, and a missing child as 0. If an XOR list wrote the entry, the list's word is
-    /// printed in the place of the right child. The third number is `4 * (parent + 1) + 2 * linked + black`. The term `parent +
-    /// 1` is 0 if there is no parent, and true counts as 1. The link stores four times the first two numbers. In the third word
-    /// the link stores `8 * (parent + 1)` for the parent. O(1).
+    /// printed instead of the right child. The third number is `4 * (parent + 1) + 2 * linked + black`. The term `parent + 1` is
+    /// 0 if there is no parent, and true counts as 1. The link stores four times the first two numbers. The third word of the
+    /// link contains `8 * (parent + 1)`, twice the parent's part of the printed number. O(1).
     #[inline]
     pub fn words(&self) -> [u64; 3]
         ensures { result ≡ printed_words (words_of self.now) }

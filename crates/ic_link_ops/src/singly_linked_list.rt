@@ -44,7 +44,7 @@ pub trait SinglyLinkedListOps: link_ops::LinkOps {
     /// Links `place` before `next` and returns true, or returns false if the link is refused. The call requires that `place` is
     /// covered, and that the table's words have room for `next`. O(1).
     ///
-    /// The call does what `acquire_link` and `set_next` do, so that a table can write the word once.
+    /// The call does what `acquire_link` and `set_next` do. A table can implement the call so that it writes the word only once.
     #[inline]
     fn link_before(&mut self, place: Place, next: Option<Place>) -> bool
         requires covered { IsCovered (Self.table self.old) place }

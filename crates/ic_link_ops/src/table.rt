@@ -53,7 +53,7 @@ impl<W: Words, A: Allocator, V: LinkValue> PlainTable<W, A, V> {
         W::count_nameable(self.entries.len())
     }
 
-    // The index, in the `Vec`, of the link of the place.
+    // The index at which the `Vec` stores the link of `place`. The call requires that the table covers `place`.
     #[inline]
     #[tactic(auto, using(crate::proofs::WidthLemmas::nameable_fits))]
     pub(crate) fn slot(&self, place: Place) -> usize
@@ -64,7 +64,7 @@ impl<W: Words, A: Allocator, V: LinkValue> PlainTable<W, A, V> {
         place.index()
     }
 
-    // The index, in the `Vec`, of the link of the place, which has to be linked.
+    // The index at which the `Vec` stores the link of `place`. The call requires that `place` is linked.
     #[inline]
     pub(crate) fn slot_of_linked(&self, place: Place) -> usize
         requires linked { IsLinked (linked_by W.is_linked) (table_beside W.width W.unlinked V.initial V.printed self.now) place }
@@ -94,8 +94,8 @@ impl<W: Words, A: Allocator, V: LinkValue> PlainTable<W, A, V> {
         self.entries[place.index()].is_linked()
     }
 
-    /// Unlinks `place`, whichever call linked it. A place that is unlinked stays unlinked. The call requires that the table
-    /// covers `place`. O(1).
+    /// Unlinks `place`, whichever call linked it. If `place` is unlinked already, it stays unlinked. The call requires that the
+    /// table covers `place`. O(1).
     ///
     /// Every other entry stays, so each collection in which `place` is not a member keeps its sequence. Use this call for objects
     /// that `fast_clear` left linked. The call breaks a collection in which `place` is a member.
@@ -111,7 +111,7 @@ impl<W: Words, A: Allocator, V: LinkValue> PlainTable<W, A, V> {
         entry.words.unlink();
     }
 
-    /// Lends the links, in the order of their places. [`LentTable::new`](crate::LentTable::new) makes a table of them.
+    /// Lends the links, in the order of their places. [`LentTable::new`](crate::LentTable::new) makes a table of the lent links.
     ///
     /// When the borrow ends, the table has the links that were written last. O(1).
     #[inline]
@@ -124,10 +124,10 @@ impl<W: Words, A: Allocator, V: LinkValue> PlainTable<W, A, V> {
 
     /// Covers the first `count` places, with an unlinked entry for each newly covered place.
     ///
-    /// The call is refused if `count` is above 4,294,967,296, or above 536,870,911 if the words have 4 bytes, or if there is no
-    /// memory. If the call is refused, nothing has changed. The entries that exist already stay as they are. If at least `count`
-    /// places are covered already, nothing changes. The call requests memory at most once. O(n) in the number of newly covered
-    /// places.
+    /// The greatest possible `count` is 4,294,967,296, or 536,870,911 if the words have 4 bytes. The call is refused if `count`
+    /// is greater, or if there is no memory. A refused call changes nothing. The entries that exist already stay as they are. If
+    /// at least `count` places are covered already, nothing changes. The call requests memory at most once. O(n) in the number of
+    /// newly covered places.
     pub fn cover(&mut self, count: usize) -> Result<(), CoverError>
         ensures too_many { (result ≡ Err CoverError.TooManyPlaces) ↔ most_places W.width < count }
         ensures covers { OnOk result ((table_beside W.width W.unlinked V.initial V.printed self.new).extent.places ≡ max (table_beside W.width W.unlinked V.initial V.printed self.old).extent.places count) }

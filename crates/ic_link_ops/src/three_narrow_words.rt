@@ -12,11 +12,11 @@ use crate::word::Word;
 use ic_unsafe_ref::Place;
 use std::cmp::min;
 
-/// The words of a tree's link, each of 4 bytes: one word for each child, and one word for the parent, the color and whether the
-/// place is linked.
+/// The words of a tree's link, each of 4 bytes. Two words store the children. The third word stores the parent, the color and
+/// whether the place is linked.
 ///
-/// A list stores its previous place as the left child and its next place as the right child. An XOR list uses the word of the
-/// right child.
+/// A doubly linked list stores the previous place as the left child and the next place as the right child. A singly linked list
+/// or an XOR list stores its one word as the word of the right child.
 #[derive(Drop)]
 pub struct ThreeNarrowWords {
     left: NarrowPlaceWord,

@@ -1,8 +1,8 @@
 //! A link consists of words, and this file defines the word.
 //!
-//! A place is stored as its word, `8 * (index + 1)`, and no place as 0. Each word of a linked place is therefore a multiple of 8
-//! below `2^36`. The exclusive or of two words is also a multiple of 8 below `2^36`, so a place is read from it without a test of
-//! its range.
+//! A link stores a place as its word, `8 * (index + 1)`, and stores 0 for no place. Each of these words is therefore a multiple
+//! of 8 below `2^36`. The exclusive or of two words is also a multiple of 8 below `2^36`, so a place is read from it without a
+//! test of its range.
 //!
 //! ```text
 //! let word = Word::between(Some(first), Some(third));

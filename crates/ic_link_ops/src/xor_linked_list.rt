@@ -20,22 +20,22 @@ use crate::word::Word;
 use ic_unsafe_ref::Place;
 use std::alloc::{Allocator, Global};
 
-/// A table for XOR lists. Each entry joins two neighbors in one word, and does not say which of the two is before.
+/// A table for XOR lists. Each entry joins two neighbors in one word, and does not say which of the two comes first in the list.
 ///
 /// A caller has to know one neighbor of a place to read the other neighbor.
 pub trait XorLinkedListOps: link_ops::LinkOps {
     // The two places are the neighbors of the entry's place, in either order.
     ghost HasNeighbors: { Self.Entry → Option Place → Option Place → Type 0 };
 
-    // `other e a` is the neighbor of the place of e that is not the place a.
+    // If one neighbor of the place of the entry e is a, `other e a` is the other neighbor.
     ghost other: { Self.Entry → Option Place → Option Place };
 
-    /// The place after `place`, if `prev` is the place before it. The call requires that `place` is linked. O(1).
+    /// The place after `place`, if `prev` is the place before `place`. The call requires that `place` is linked. O(1).
     fn next(&self, place: Place, prev: Option<Place>) -> Option<Place>
         requires linked { IsLinked Self.linked (Self.table self.now) place }
         ensures { result ≡ other ((Self.table self.now).entry place) prev };
 
-    /// The place before `place`, if `next` is the place after it. The call requires that `place` is linked. O(1).
+    /// The place before `place`, if `next` is the place after `place`. The call requires that `place` is linked. O(1).
     fn prev(&self, place: Place, next: Option<Place>) -> Option<Place>
         requires linked { IsLinked Self.linked (Self.table self.now) place }
         ensures { result ≡ other ((Self.table self.now).entry place) next };
@@ -66,7 +66,7 @@ pub trait XorLinkedListOps: link_ops::LinkOps {
     /// Links `place` between `prev` and `next` and returns true, or returns false if the link is refused. The call requires that
     /// `place` is covered, and that the table's words have room for `prev` and `next`. O(1).
     ///
-    /// The call does what `acquire_link` and `set` do, so that a table can write the word once.
+    /// The call does what `acquire_link` and `set` do. A table can implement the call so that it writes the word only once.
     #[inline]
     fn link_between(&mut self, place: Place, prev: Option<Place>, next: Option<Place>) -> bool
         requires covered { IsCovered (Self.table self.old) place }
@@ -84,8 +84,8 @@ pub trait XorLinkedListOps: link_ops::LinkOps {
         true
     }
 
-    // The laws: The two neighbors can be exchanged. One neighbor determines the other neighbor, and `other` computes the other
-    // neighbor.
+    // The laws: The order of the two neighbors does not matter. One neighbor determines the other neighbor, and `other` computes
+    // it.
     ghost symmetric: { (e : Self.Entry) (a b : Option Place) → HasNeighbors e a b → HasNeighbors e b a };
 
     ghost one_other: { (e : Self.Entry) (a b c : Option Place) → HasNeighbors e a b → HasNeighbors e a c → b ≡ c };

@@ -9,7 +9,7 @@ use ic_unsafe_ref::Place;
 use std::alloc::Global;
 use std::process::Abort;
 
-/// `LAST` is the index of the last place, and `LAST_NARROW` the index of the last place for which words of 4 bytes have a number.
+/// `LAST` is the index of the last place. `LAST_NARROW` is the index of the last place for which words of 4 bytes have a number.
 pub(crate) const LAST: usize = 4_294_967_295;
 
 pub(crate) const LAST_NARROW: usize = 536_870_910;

@@ -39,8 +39,8 @@ fn doubly<L: LinkedListOps>(
     [links.prev(place), links.next(place)]
 }
 
-// Sets the places before and after a linked place in an XOR list to the first and the last place, and returns both as the table has them. The place
-// after it replaces `None`.
+// Sets the place before a linked place in an XOR list to `first`, and the place after it to none and then to `last`. Returns both places as the table has
+// them.
 fn xor<L: XorLinkedListOps>(
     links: &mut L,
     place: Place,
@@ -169,7 +169,8 @@ fn is_read<L: LinkedListOps + SinglyLinkedListOps + XorLinkedListOps>(
     [by_doubly, SinglyLinkedListOps::next(links, place)] == [wanted; 2]
 }
 
-// If an XOR list has written a link word, other kinds of lists must read it as a place, as a place that no table can cover, or as no place.
+// Other kinds of lists must read the words that an XOR list has written. They must read the word of the neighbors 0 and 2 as the place 1, the word of the
+// first and the last place as a place that no table can cover, and the word of two equal neighbors as no place.
 // Promise: a word of another kind.
 #[test]
 fn what_an_xor_list_wrote_is_read_by_others(rt: HostRuntime) {

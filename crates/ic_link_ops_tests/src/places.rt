@@ -9,7 +9,8 @@ fn index(place: Option<Place>) -> Option<usize> {
     Some(place?.index())
 }
 
-// Returns the indices of places: the last place, no place after the last, and the places that words name, up to an index twice as large.
+// Returns the indices of the last place and of the place after it, which does not exist. Then come the indices of the places that five words name. The
+// greatest of these indices is twice the index of the last place.
 fn limits() -> [Option<usize>; 7] {
     [
         index(Place::new(4_294_967_295)),

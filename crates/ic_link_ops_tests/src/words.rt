@@ -31,8 +31,8 @@ fn marks(word: Word) -> ([u64; 3], [bool; 2]) {
     (numbers, [mark.is_word(), marked.is_word()])
 }
 
-// Returns the numbers of a tree's word that is unlinked, that is linked, that then gets a parent, and that then becomes red. Also returns the word of
-// its parent, and whether the word is then red and linked.
+// Returns the numbers of a tree's word that is unlinked, that is linked, that then gets a parent, and that then becomes red. Also returns the number of the
+// word of its parent, and whether the tree's word is then red and linked.
 fn tree_numbers(parent: Option<Place>) -> ([u64; 5], bool) {
     let mut word = TreeWord::linked();
     let black = word.number();

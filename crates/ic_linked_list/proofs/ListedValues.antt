@@ -37,8 +37,8 @@ module _ {E T : Type 0} {n : E → Neighbors} {linked : E → Bool} where
       let f = front_of has.members (stand_of has) in
       let on = answer has.members has.shown ∙ sym f.1 in (ap is_some on, ap (object_there objects) on ∙ f.2)
 
-  -- a list of the first `count` values is a list of all values, if `count` is at least the number of values. This is so at the end of a loop that
-  -- links them one by one
+  -- a list of the first `count` values is a list of all values, if `count` is at least the number of values. A loop that links the objects of the values one
+  -- by one has such a `count` at its end
   pub has_all : {t : Table E} {list : Ends} {objects : Objects T} {values : List T} {count : ℕ} → HasValues n linked t list objects (take count values)
       → length values ≤ count → HasValues n linked t list objects values
   has_all {values = values} {count} has over = rw (take_all count values over) at has

@@ -1,4 +1,4 @@
--- Lemmas about a list of which some members are kept, one after the other, and the other members are unlinked.
+-- A sift keeps or unlinks the members of a list, one member after the other, and these lemmas are about its steps.
 use Rattle.std.proofs.Common.{◌≡◌, ◌<◌, Bool, true, false, not, cond, inl, inr, Option, Some, None, List, [], ◌∷◌, ◌++◌, drop, length, append_assoc, append-nil, refl, sym, ◌∙◌, ap, subst, arith}
 use Rattle.std.specs.List.{AllByRecursion, filter}
 use Rattle.ic_link_ops.specs.Prelude.{Place, Objects, object_at, IsAbsent, first, last, Table, IsCovered, ChangesOnlyIn, ArePlaced, RepresentsPlaced, LinkStep, releases_each}
@@ -25,12 +25,12 @@ pub placed_here : {E W V : Type 0} {between : E → Option Place → Option Plac
     → RepresentsPlaced (RepresentsChain between kept t list) objects → RepresentsChain between kept t list s → ArePlaced objects s
 placed_here leads {objects = objects} p shown = subst (ArePlaced objects) (one_represented leads p.shown shown) p.placed
 
--- the test of places that calls the test of the member alone keeps a place exactly if the object at it passes the test
+-- the test of places that calls the test of the member alone keeps a place if and only if the object at the place passes the test
 same_test : {V : Type 0} (holds : V → Bool) (before here : Option V) → keep_of (by_itself holds) before here ≡ passes holds here
 same_test holds before None = refl
 same_test holds before (Some v) = refl
 
--- the result of a choice between two lists is equal if the two tests, and both lists, are equal
+-- if two tests are equal, and the lists to choose from are equal, the chosen lists are equal
 picked : (a b : Bool) (x : Place) {with_it without with_it' without' : List Place} → a ≡ b → with_it ≡ with_it' → without ≡ without'
     → (cond a (x ∷ with_it) without ≡ cond b (x ∷ with_it') without')
 picked true true x e h k = ap (λ (l : List Place). x ∷ l) h
@@ -45,7 +45,7 @@ picked_out true false x e h k = absurd (cc)
 picked_out false true x e h k = absurd (cc)
 picked_out false false x e h k = ap (λ (l : List Place). x ∷ l) k
 
--- if a test looks at nothing but the member, the kept members are the members that pass a filter by this test
+-- if a test depends only on the member, the kept members are the members that pass a filter by this test
 module _ {V : Type 0} (holds : V → Bool) (objects : Objects V) where
   pub kept_filtered : (prev : Option Place) (s : List Place) → sift (keep_at (by_itself holds) objects) prev s ≡ filter (test_at holds objects) s
   kept_filtered prev [] = refl
@@ -61,8 +61,8 @@ module _ {V : Type 0} (holds : V → Bool) (objects : Objects V) where
 -- under which a member is kept exactly if `keep` says so
 module _ {L E W : Type 0} (between : E → Option Place → Option Place → Type 0) (kept : Option Place → W) (table : L → Table E) (Trace : L → L → List LinkStep → Type 0)
     (Holds : Place → Type 0) (Lawful : Type 0) (keep : Option Place → Place → Bool) where
-  -- A SIFT IN PROGRESS: of the first members of s, the members `done` are kept and the members `out` are unlinked. The members `rest` after them are
-  -- as they were
+  -- a sift is in progress: of the first members of s, the members `done` are kept and the members `out` are unlinked. The members `rest` after them are as they
+  -- were
   pub record Sifting (old new : L) (list : ListHead W) (s : List Place) (prev current : Option Place) : Type 0 where
     pub done : List Place
     pub rest : List Place
@@ -77,7 +77,7 @@ module _ {L E W : Type 0} (between : E → Option Place → Option Place → Typ
     pub released : Trace old new (releases_each out)
     pub frame : ChangesOnlyIn (table old) (table new) s
 
-  -- AT FIRST no members are kept or unlinked, and all members of s are left
+  -- at first no members are kept or unlinked, and all members of s are left
   pub sift_begins : {t : L} {list : ListHead W} {s : List Place} {current : Option Place} → Trace t t [] → RepresentsChain between kept (table t) list s → current ≡ list.head
       → AllByRecursion Holds s → (k : Sifting t t list s None current) × (k.done ≡ []) × (k.rest ≡ s)
   sift_begins {s = s} nothing shown on holds = (
@@ -113,7 +113,7 @@ module _ {L E W : Type 0} (between : E → Option Place → Option Place → Typ
     pub sift_held : {q : Place} → prev ≡ Some q → Holds q
     sift_held on = last_holds Holds k.done k.rest (sym k.keeps ∙ on) k.holds
 
-    -- AT THE END, when no member is left, the list has the members `done`
+    -- at the end, when no member is left, the list has the members `done`
     pub sift_whole : current ≡ None → RepresentsChain between kept (table new) list k.done
     sift_whole over = let none : k.rest ≡ [] = nothing_first k.rest (sym over ∙ k.at) in rw (none, append-nil) at k.shown
 
@@ -147,7 +147,7 @@ module _ {L E W : Type 0} (between : E → Option Place → Option Place → Typ
         → length (walked step (table new) prev' next None) < length (walked step (table mid) prev current None)
     sift_fewer k m fewer = omega (arith, sift_left k, sift_left m, fewer)
 
-  -- ONE STEP keeps the next member p or unlinks it, and goes on to the member after p
+  -- one step keeps the next member p or unlinks it, and goes on to the member after p
   module _ (does_on : (a b c : L) (s t : List LinkStep) → Trace a b s → Trace b c t → Trace a c (s ++ t))
       {old mid : L} {list : ListHead W} {s : List Place} {prev current : Option Place} {p : Place} {r : List Place} (k : Sifting old mid list s prev current) (is : k.rest ≡ p ∷ r) where
     pub sift_turns : {new : L} {list' : ListHead W} {prev' next : Option Place} (kept_here : Bool) → (Lawful → keep prev p ≡ kept_here)
@@ -208,8 +208,7 @@ module _ {L E W : Type 0} (between : E → Option Place → Option Place → Typ
       refl,
     )
 
--- THE SIFT holds also for another condition: if `Asked` implies `Lawful`, and the kept and unlinked members are the same, a sift under `Lawful` is a
--- sift under `Asked`
+-- if `Asked` implies `Lawful`, and the kept and unlinked members are the same, a sift under the condition `Lawful` is a sift under the condition `Asked`
 pub sifts_as : {L E H : Type 0} {Represents : Table E → H → List Place → Type 0} {table : L → Table E} {Trace : L → L → List LinkStep → Type 0} {Lawful Asked : Type 0} {old new : L} {head : H}
     {s kept_by out_by kept_by' out_by' : List Place} → (Asked → Lawful) → kept_by ≡ kept_by' → out_by ≡ out_by' → SiftsTo Represents table Trace Lawful old new head s kept_by out_by
     → SiftsTo Represents table Trace Asked old new head s kept_by' out_by'

@@ -1,4 +1,4 @@
--- Lemmas about a list that is cut after its first n members, and whose parts are put together in exchanged order.
+-- In these lemmas a list is cut after its first n members, and its parts are put together in exchanged order.
 use Rattle.std.proofs.Common.{ℕ, Option, List, [], ◌++◌, drop, sym, ◌∙◌, subst, append-nil}
 use Rattle.std.specs.Prelude.{take}
 use Rattle.std.proofs.lemmas.List.{take-append-drop}
@@ -17,7 +17,7 @@ module _ {E W : Type 0} {between : E → Option Place → Option Place → Type 
   parts_apart = subst (λ (l : List Place). IsDisjoint (take n s) l) (sym (append-nil (drop n s))) (distinct_disjoint (take n s) (drop n s) cut_represented.distinct)
 
 module _ {E : Type 0} {old mid new : Table E} (n : ℕ) (s : List Place) where
-  -- THE FRAME: the cut, and then the splice, change no entry except those of members of s
+  -- the cut and the splice together change no entry except those of members of s
   pub turned_frame : ChangesOnlyIn old mid (take n s ++ drop n s) → ChangesOnlyIn mid new (drop n s ++ (take n s ++ [])) → ChangesOnlyIn old new s
   turned_frame cut spliced = record {
     extent = spliced.extent ∙ cut.extent;

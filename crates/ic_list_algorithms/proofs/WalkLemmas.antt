@@ -1,4 +1,4 @@
--- Lemmas about a walk over a list from its front, and about what the walk has found after each member.
+-- These lemmas are about a walk over a list from its front, and about what the walk has found after each member.
 use Rattle.std.specs.Prelude.{take}
 use Rattle.std.proofs.Common.{◌≡◌, ◌+◌, ◌-◌, ◌<◌, ◌≤◌, ℕ, zero, suc, Bool, true, false, not, ◌&&◌, Option, Some, None, List, [], ◌∷◌, ◌++◌, drop, length, length-append, append_assoc, append-nil, refl, sym, ◌∙◌, ap, subst, arith}
 use Rattle.std.specs.Prelude.{IsTrue, ◌↔◌}
@@ -24,8 +24,7 @@ last_holds P (x ∷ []) back {q} e h = let same : x ≡ q = cc in subst P same h
 last_holds P (x ∷ y ∷ front) back e h = last_holds P (y ∷ front) back e h.1
 
 module _ {E : Type 0} (between : E → Option Place → Option Place → Type 0) where
-  -- THE WALK HAS COME to `current`: it has passed the members `done` of s, and the members `rest` from `current` on are left. `prev` is the last
-  -- passed member
+  -- the walk has come to `current`: it has passed the members `done` of s, and the members `rest` from `current` on are left. `prev` is the last passed member
   pub record WalksTo (t : Table E) (s : List Place) (prev current : Option Place) : Type 0 where
     pub done : List Place
     pub rest : List Place
@@ -35,12 +34,12 @@ module _ {E : Type 0} (between : E → Option Place → Option Place → Type 0)
     pub keeps : prev ≡ last done
 
 module _ {E : Type 0} {between : E → Option Place → Option Place → Type 0} where
-  -- AT FIRST the walk is on the first member, has passed no members, and all members of s are left
+  -- at first the walk is on the first member, has passed no members, and all members of s are left
   pub walk_begins : {W : Type 0} {kept : Option Place → W} {t : Table E} {list : ListHead W} {s : List Place} {current : Option Place} → RepresentsChain between kept t list s
       → current ≡ list.head → (k : WalksTo between t s None current) × (k.done ≡ []) × (k.rest ≡ s)
   walk_begins {s = s} shown on = (record { done = []; rest = s; parts = refl; chain = shown.chain; at = on ∙ shown.head; keeps = refl }, refl, refl)
 
-  -- AT THE END, when `current` is none, no members are left, and the walk has passed all members of s
+  -- at the end, when `current` is none, no members are left, and the walk has passed all members of s
   pub walk_ends : {t : Table E} {s : List Place} {prev current : Option Place} (k : WalksTo between t s prev current) → current ≡ None → (k.rest ≡ []) × (k.done ≡ s)
   walk_ends {s = s} k over =
       let none : k.rest ≡ [] = nothing_first k.rest (sym over ∙ k.at) in
@@ -67,7 +66,7 @@ module _ {E : Type 0} {between : E → Option Place → Option Place → Type 0}
 
   -- `leads`: the law that an entry, with the place before it, names the place after it
   module _ (step : E → Option Place → Option Place) (leads : (e : E) (b a : Option Place) → between e b a → step e b ≡ a) where
-    -- ONE STEP moves the walk from the member p to the next member: p is passed now, and the members after p are left
+    -- one step moves the walk from the member p to the next member. Then p is passed, and the members after p are left
     pub walk_goes : {t : Table E} {s : List Place} {prev current next : Option Place} {p : Place} (k : WalksTo between t s prev current) → current ≡ Some p
         → next ≡ step (t.entry p) prev → (m : WalksTo between t s (Some p) next) × (k.rest ≡ p ∷ m.rest) × (m.done ≡ k.done ++ p ∷ [])
     walk_goes {t} {s} {p = p} k on read =
@@ -100,8 +99,8 @@ module _ {E : Type 0} {between : E → Option Place → Option Place → Type 0}
         let m = walk_goes k on read in
         omega (arith, walk_left t covered distinct k, walk_left t covered distinct m.0, ap length m.1)
 
--- THE NUMBER of passed members: if n members were passed before a step, n + 1 members are passed after the step. `one_left` counts down from n in the
--- same way
+-- if n members were passed before a step, n + 1 members are passed after the step (`one_more`). If `left` more members must be passed before a step, `left` - 1
+-- must be passed after it (`one_left`)
 pub one_more : (done : List Place) (p : Place) {n : ℕ} {more : List Place} → n ≡ length done → more ≡ done ++ p ∷ [] → n + 1 ≡ length more
 one_more done p e m = omega (arith, e, ap length m, length-append done (p ∷ []))
 
@@ -136,7 +135,7 @@ take_beyond (x ∷ s) zero h = absurd (omega (arith, h))
 take_beyond (x ∷ s) (suc n) h = ap (λ (l : List Place). x ∷ l) (take_beyond s n (omega (arith, h)))
 
 module _ {E : Type 0} {between : E → Option Place → Option Place → Type 0} {t : Table E} {s : List Place} {prev current : Option Place} {n : ℕ} (k : WalksTo between t s prev current) where
-  -- THE MEMBER AT POSITION n is `current`, if the walk has passed n members
+  -- the member at position n is `current`, if the walk has passed n members
   pub nth_here : n ≡ length k.done → current ≡ first (drop n s)
   nth_here e = k.at ∙ ap first (sym (ap (drop n) k.parts ∙ drop_passed k.done k.rest n e))
 
@@ -158,7 +157,7 @@ module _ {E : Type 0} {between : E → Option Place → Option Place → Type 0}
   gap_beyond over few = k.keeps ∙ ap last ((walk_ends k over).1 ∙ sym (take_beyond s n few))
 
 module _ (holds : Place → Bool) where
-  -- NOWHERE SO FAR: if the test holds for no member of `done`, and not for p, it holds for no member of `done` followed by p
+  -- if the test holds for no member of `done`, and not for p, it holds for no member of `done` followed by p
   pub nowhere_more : (done : List Place) {more : List Place} {p : Place} → HoldsNowhere holds done → holds p ≡ false → more ≡ done ++ p ∷ [] → HoldsNowhere holds more
   nowhere_more done {p = p} h here is = subst (HoldsNowhere holds) (sym is) (all_both (λ x. holds x ≡ false) done (p ∷ []) h (here, tt))
 
@@ -171,20 +170,20 @@ pub test_there : {V : Type 0} (holds : V → Bool) (objects : Objects V) (p : Pl
 test_there holds objects p is e = rw is e
 
 module _ {X : Type 0} (lt : X → X → Bool) {answer : Bool} (prev : Option X) {rest : List X} (so_far : answer ≡ ordered_from lt prev rest) where
-  -- NEIGHBORS IN ORDER SO FAR: if the next member p may come after `prev`, the answer is whether the members after p are in order. `order_breaks`
-  -- says that it is false if p may not come after `prev`
+  -- if the next member p may come after `prev`, `answer` is whether the members after p are in order. If p may not come after `prev`, `answer` is false
+  -- (`order_breaks`)
   pub order_goes : {p : X} {r : List X} → rest ≡ p ∷ r → comes_after lt prev p ≡ true → answer ≡ ordered_from lt (Some p) r
   order_goes is after = let whole = rw is at so_far in rw after at whole
 
   pub order_breaks : {p : X} {r : List X} → rest ≡ p ∷ r → comes_after lt prev p ≡ false → false ≡ answer
   order_breaks is after = let whole = rw is at so_far in sym (rw after at whole)
 
-  -- at the end, when no members are left, the answer is true
+  -- at the end, when no members are left, `answer` is true
   pub order_ends : rest ≡ [] → true ≡ answer
   order_ends none = sym (rw none at so_far)
 
 module _ {X : Type 0} (lt : X → X → Bool) where
-  -- IN ORDER: if the test is a strict weak order, and no member goes before the member right before it, no member goes before an earlier member
+  -- if the test is a strict weak order, and no member goes before the member right before it, no member goes before an earlier member
   module _ (order : IsStrictWeakOrder lt) where
     from_neighbors : (p : X) (s : List X) → ordered_from lt (Some p) s ≡ true → AllByRecursion (λ y. lt y p ≡ false) s × IsOrdered lt s
     from_neighbors p [] e = (tt, tt)

@@ -1,5 +1,6 @@
 pub mod Asked
 pub mod Counts
+pub mod Effects
 pub mod Ordered
 pub mod Runs
 pub mod Sifts

@@ -1,4 +1,4 @@
--- What a walk over a list finds, given a test or an order of its members.
+-- These definitions say what a walk over a list finds, given a test or an order of its members.
 use Rattle.std.specs.Prelude.{◌≡◌, ℕ, Bool, true, false, not, ◌&&◌, length, Option, Some, None, List, [], ◌∷◌, ◌++◌}
 use Rattle.std.specs.List.{AllByRecursion}
 use Rattle.ic_link_ops.specs.Prelude.{Place, Objects, object_at}
@@ -9,7 +9,7 @@ module _ {V : Type 0} (test : V → Bool) where
   passes None = false
   passes (Some v) = test v
 
-  -- THE TEST OF PLACES calls the test for the object at the place p
+  -- the test of places calls the test for the object at the place p
   abbrev pub test_at : Objects V → Place → Bool
   test_at objects p = passes (object_at objects p)
 
@@ -18,7 +18,7 @@ module _ {X : Type 0} (holds : X → Bool) where
   abbrev pub HoldsNowhere : List X → Type 0
   HoldsNowhere s = AllByRecursion (λ x. holds x ≡ false) s
 
-  -- THE FIRST member of s for which the test holds is q, at the given position
+  -- q is the first member of s for which the test holds, and q is at `position`
   pub record HoldsFirst (s : List X) (position : ℕ) (q : X) : Type 0 where
     pub front : List X
     pub back : List X
@@ -33,7 +33,7 @@ module _ {X : Type 0} (lt : X → X → Bool) where
   comes_after None x = true
   comes_after (Some p) x = not (lt x p)
 
-  -- NEIGHBORS ARE IN ORDER: no member goes before the member right before it in the sequence. The first member does not go before `prev`
+  -- `ordered_from prev s`: no member of s goes before the member right before it. The first member does not go before `prev`
   abbrev pub ordered_from : Option X → List X → Bool
   ordered_from prev [] = true
   ordered_from prev (x ∷ s) = comes_after prev x && ordered_from (Some x) s

@@ -1,4 +1,4 @@
-//! How `retain` and `dedup_by` choose the members that they keep. Both call a test of a member and of the member that was kept last.
+//! These types choose the members that `retain` and `dedup_by` keep. A choice is a test of a member and of the member that was kept last.
 
 ghost use Rattle.std.specs.Prelude.{◌≡◌, Bool, Option, Some, None};
 ghost use Rattle.std.specs.Fn.{ComputesKey, ComputesOnPairs, CalledAt, CalledAtTwo};
@@ -10,21 +10,22 @@ pub(crate) trait Keeps<V> {
     // The states of the test in which it may be called.
     ghost ready: { Self → Type 0 };
 
-    // From the given state on, each call returns what the given mathematical test returns. The arguments of the test are the member that was kept
-    // last, if there is one, and the member itself.
+    // `obeys state test`: from `state` on, each call returns what the mathematical function `test` returns. The arguments of `test` are the member that was
+    // kept last, if there is one, and the member itself.
     ghost obeys: { Self → (Option V → V → Bool) → Type 0 };
 
-    // What one call may return for a member and for the member that was kept last, and the state that the call leaves.
+    // `asks f prev x answer g`: in the state f a call for the member x may return `answer` and leave the state g. `prev` is the member that was kept last, or
+    // none.
     ghost asks: { Self → Option V → V → Bool → Self → Type 0 };
 
-    /// Whether the member is kept, if no member was kept before.
+    /// Whether `member` is kept, if no member was kept before.
     fn keeps_first(&mut self, member: &V) -> bool
         requires ready { ready self.old }
         ensures again { ready self.new }
         ensures answer { (test : Option V → V → Bool) → obeys self.old test → obeys self.new test × (result ≡ test None member.now) }
         ensures asked { asks self.old None member.now result self.new };
 
-    /// Whether the member is kept, if `prev` is the member that was kept last.
+    /// Whether `member` is kept, if `prev` is the member that was kept last.
     fn keeps(&mut self, prev: &V, member: &V) -> bool
         requires ready { ready self.old }
         ensures again { ready self.new }

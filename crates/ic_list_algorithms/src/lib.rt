@@ -1,8 +1,7 @@
-//! Algorithms over lists: a stable sort and a merge in place, walks, and edits of many members.
+//! This crate has algorithms over lists: a stable sort and a merge in place, walks, and edits of many members.
 //!
-//! Each algorithm is a function over a list of every kind that has the links which the algorithm needs. For example `sort_by` and `merge_by` work on
-//! doubly and singly linked lists. No algorithm takes memory. A sort or a merge acquires and releases no link, because it changes only the neighbors
-//! of members.
+//! Each algorithm is a function over lists of every kind whose links suffice for it. For example `sort_by` and `merge_by` work on doubly and singly linked
+//! lists. No algorithm takes memory. A sort or a merge acquires and releases no link, because it changes only the neighbors of members.
 //!
 //! ```text
 //! let mut by_deadline = By::new(|a: &Task, b: &Task| a.deadline.cmp(&b.deadline));

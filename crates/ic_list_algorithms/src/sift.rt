@@ -1,4 +1,5 @@
-//! Edits that keep some members of a list and unlink the others: `retain`, and `dedup_by` of neighbors that are the same.
+//! These edits keep some members of a list and unlink the others. `retain` keeps the members that pass a test, and `dedup_by` keeps one of neighbors that are
+//! the same.
 //!
 //! ```text
 //! retain(&mut list, &mut links, &tasks, |task: &Task| !task.is_done());
@@ -66,7 +67,7 @@ pub fn dedup_by<K: ForwardLinks<L>, T, V, L: LinkOps, O: Values<V>, F: FnMut(&V,
     sift::<K, T, V, L, O, Differs<F>>(list, links, objects, &mut keep);
 }
 
-// Keeps the members that the given choice keeps, and unlinks the other members.
+// Keeps the members that the choice `keep` keeps, and unlinks the other members.
 fn sift<K: ForwardLinks<L>, T, V, L: LinkOps, O: Values<V>, S: Keeps<V>>(
     list: &mut LinkList<K, T>,
     links: &mut L,
@@ -93,7 +94,7 @@ fn sift<K: ForwardLinks<L>, T, V, L: LinkOps, O: Values<V>, S: Keeps<V>>(
     }
 }
 
-// Keeps the member, or removes and unlinks it, as the choice says. Returns the member that was kept last, and the next member.
+// Keeps `member`, or removes and unlinks it, as the choice `keep` says. Returns the member that was kept last, and the next member.
 fn sift_one<K: ForwardLinks<L>, T, V, L: LinkOps, O: Values<V>, S: Keeps<V>>(
     list: &mut LinkList<K, T>,
     links: &mut L,
@@ -122,7 +123,7 @@ fn sift_one<K: ForwardLinks<L>, T, V, L: LinkOps, O: Values<V>, S: Keeps<V>>(
     (prev, after)
 }
 
-// Whether the choice keeps `member`, if `prev` is the member that was kept last.
+// Whether the choice `keep` keeps `member`, if `prev` is the member that was kept last.
 fn is_kept<V, O: Values<V>, S: Keeps<V>>(
     objects: &O,
     keep: &mut S,

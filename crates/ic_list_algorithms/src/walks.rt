@@ -1,4 +1,4 @@
-//! Walks over a list that return how many members it has, its nth member, the first member for which a test holds, or whether it is in order.
+//! Walks over a list return how many members it has, its nth member, the first member for which a test holds, or whether it is in order.
 //!
 //! ```text
 //! let members = len(&list, &links);
@@ -98,7 +98,7 @@ pub fn find<K: ForwardLinks<L>, T, V, L: LinkOps, O: Values<V>, F: FnMut(&V) -> 
     Some(UnsafeRef::new(place))
 }
 
-// The first member for which the test holds, and the position of this member, or none if there is no such member.
+// The position of the first member for which the test holds, and this member. Returns `None` if the test holds for no member.
 fn find_first<K: ForwardLinks<L>, T, V, L: LinkOps, O: Values<V>, F: FnMut(&V) -> bool>(
     list: &LinkList<K, T>,
     links: &L,

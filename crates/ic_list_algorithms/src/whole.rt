@@ -1,4 +1,4 @@
-//! Calls that append a list to another list, and a call that rotates a list.
+//! These calls append a list to another list, or rotate a list.
 //!
 //! ```text
 //! append(&mut list, &mut links, &mut other);   // `other` is empty then
@@ -6,9 +6,9 @@
 //! ```
 
 ghost use Rattle.std.specs.Prelude.{◌≡◌, ◌++◌, List, [], drop, take};
-ghost use Rattle.ic_link_ops.specs.Prelude.{Place, IsDisjoint, at_back, first, last, ChangesOnlyIn};
-ghost use Rattle.ic_link_ops.specs.Edits.{Splices};
+ghost use Rattle.ic_link_ops.specs.Prelude.{Place, first, last, ChangesOnlyIn};
 ghost use Rattle.ic_link_ops.specs.Chains.{RepresentsChain, RepresentsSomeChain, empty_list};
+ghost use Rattle.ic_list_algorithms.specs.Effects.{Appends};
 ghost use Rattle.ic_list_algorithms.specs.TwoLists.{TwoLists};
 
 use ic_chain::{DoubleEnded, ForwardLinks, LinkList, SingleEnded};
@@ -24,11 +24,7 @@ pub fn append<K: DoubleEnded + ForwardLinks<L>, T, L: LinkOps>(
     other: &mut LinkList<K, T>,
 )
     requires two { TwoLists (RepresentsChain K.Between K.kept) (L.table links.old) list.old other.old }
-    ensures appended { (s u : List Place) → RepresentsChain K.Between K.kept (L.table links.old) list.old s
-        → RepresentsChain K.Between K.kept (L.table links.old) other.old u → IsDisjoint u s
-        → Splices (RepresentsChain K.Between K.kept) (L.table links.old) (L.table links.new) list.new (at_back s) u }
-    ensures empty { other.new ≡ empty_list K.kept }
-    ensures trace_stays { L.Trace links.old links.new [] }
+    ensures { Appends (RepresentsChain K.Between K.kept) L.table L.Trace (empty_list K.kept) links.old links.new list.old other.old list.new other.new }
 {
     let last = list.last();
     let end = other.last();
@@ -46,11 +42,7 @@ pub fn append_walking<K: SingleEnded + ForwardLinks<L>, T, L: LinkOps>(
     other: &mut LinkList<K, T>,
 )
     requires two { TwoLists (RepresentsChain K.Between K.kept) (L.table links.old) list.old other.old }
-    ensures appended { (s u : List Place) → RepresentsChain K.Between K.kept (L.table links.old) list.old s
-        → RepresentsChain K.Between K.kept (L.table links.old) other.old u → IsDisjoint u s
-        → Splices (RepresentsChain K.Between K.kept) (L.table links.old) (L.table links.new) list.new (at_back s) u }
-    ensures empty { other.new ≡ empty_list K.kept }
-    ensures trace_stays { L.Trace links.old links.new [] }
+    ensures { Appends (RepresentsChain K.Between K.kept) L.table L.Trace (empty_list K.kept) links.old links.new list.old other.old list.new other.new }
 {
     let last = last_walking::<K, T, L>(&*list, &*links);
     let given = other.take();

@@ -1,4 +1,4 @@
--- Holders whose accounts are moved to one hand, and then moved back to the holders' own hands.
+-- Lemmas about an audit, which moves the accounts of the given holders to one seat, and then moves them back to the holders' own seats.
 use Rattle.std.proofs.Common.{◌≡◌, ◌≢◌, zero, suc, ℕ, ◌+◌, ◌<◌, ◌≤◌, eqb, false, List, [], ◌∷◌, ◌++◌, map, drop, append-nil, length, get_or, set, All, Contains, refl, sym, ap, ◌∙◌, subst, arith}
 use Rattle.std.specs.List.{IsDistinct}
 use Rattle.std.proofs.lemmas.List.{get_or-set_same, get_or-set_other, drop_more, nil_from_length, map-append, length-map}
@@ -28,7 +28,7 @@ use Rattle.ic_lock_free_stack.proofs.MomentLemmas.{with_is}
 use Rattle.ic_lock_free_stack.proofs.HistoryLemmas.{name_of_account}
 use Rattle.ic_lock_free_stack.proofs.HolderLemmas.{keeps_chains}
 
--- the seat of the holder h has exactly these accounts in hand
+-- the seat of the holder h has exactly the given accounts
 abbrev pub HasAccounts : {A : Type 0} → Stacks A → List Account → Holder → Type 0
 HasAccounts stacks accounts h = IsSeatOf stacks h.seat × (h.seat.me.0 ≡ hand_with stacks accounts)
 
@@ -148,7 +148,8 @@ module _ {A : Type 0} (stacks : Stacks A) where
       let none : one.others ≡ [] = nil_from_length one.others (omega (arith, one.all, all)) in
       subst (IsHistory order) (ap (λ l. parties ++ l) none ∙ append-nil parties) one.one
 
-  -- While the accounts are moved back, the holders with a number below i have their accounts again. The accounts of the other holders are still in one hand
+  -- While the accounts are moved back, the holders with a number below i have their accounts again. The seat `all` still has the accounts of the other
+  -- holders
   pub record Deals (hs now : List Holder) (all : Seat (Unit {0}) HeldAccounts) (i : ℕ) : Type 0 where
     pub order : List Entry
     pub one : AreOneHistory stacks order (map party_of hs)

@@ -21,7 +21,8 @@ times_both : (p : Place) (s t : List Place) → times p (s ++ t) ≡ times p s +
 times_both p [] t = omega arith
 times_both p (q ∷ s) t = let r = times_both p s t in by_test (λ b. cond b 1 0 + times p (s ++ t) ≡ (cond b 1 0 + times p s) + times p t) (same p q) (λ _. omega (arith, r)) (λ _. omega (arith, r))
 
--- ONE STEP KEEPS THE BALANCE: a place is pushed and was in the stack as often as it is taken and is in the stack after the step
+-- ONE STEP KEEPS THE BALANCE of the place p and the stack k. The left sum counts how often the step pushes p, and how often p was in the stack. The right sum
+-- counts how often the step takes p, and how often p is in the stack afterwards
 balances : (m : Moment) (a k : ℕ) (p : Place) (e : Step) → Fits m a e → puts k p e + times p (m.stack k) ≡ takes_out k p e + times p (members_after k (m.stack k) e)
 balances m a k p (Claim q got) fits = refl
 balances m a k p (Release q) fits = refl
@@ -106,7 +107,7 @@ nothing_lost order parties k p was =
     let c = balanced_from at_first order k p was.legal in
     omega (arith, a, b, c)
 
--- CALLS IN TURN: if all holders are together before a step and after it, the history has this one more step and no other
+-- Lemmas for the law `calls_go_in_turn`: if the records of all holders are one history before and after one step, the history gains this step and no other
 sum_same : (f g : ℕ → ℕ) (names : List ℕ) → ((i m : ℕ) → get_elem? names i ≡ some m → f m ≡ g m) → sum_by f names ≡ sum_by g names
 sum_same f g [] each = refl
 sum_same f g (x ∷ xs) each =

@@ -1,4 +1,4 @@
--- Accounts in the hands of seats: one account changes, or accounts move from one hand to another.
+-- Lemmas about the accounts of seats: one account changes, or accounts move from one seat to another.
 use Rattle.std.proofs.Common.{◌≡◌, ℕ, zero, suc, ◌+◌, List, [], ◌∷◌, ◌++◌, length, set, sym, ap, ◌∙◌, subst, arith, append_assoc, append-nil, IsPermutation}
 use Rattle.std.proofs.lemmas.List.{set_comm}
 use Rattle.std.proofs.lemmas.List.Sorted.{IsPermutation-refl, IsPermutation-sym, IsPermutation-trans, IsPermutation-append_left, IsPermutation-append_right, IsPermutation-append_comm}
@@ -24,7 +24,7 @@ module _ {A : Type 0} where
   second_first xs ys zs = subst (λ l. IsPermutation l (ys ++ (xs ++ zs))) (append_assoc xs ys zs)
       (subst (IsPermutation ((xs ++ ys) ++ zs)) (append_assoc ys xs zs) (IsPermutation-append_left zs (xs ++ ys) (ys ++ xs) (IsPermutation-append_comm xs ys)))
 
--- the position that the only account of a hand has in the list of all accounts
+-- the position that the only account r of the seat `id` has in the list of all accounts
 pub record IsAmong (views : List HeldAccounts) (id : ℕ) (r : Account) : Type 0 where
   pub place : ℕ
   pub at : get_elem? (accounts_in views) place ≡ some r
@@ -45,7 +45,7 @@ among (x ∷ xs) (suc id) v r e one =
       changes = λ w new h. ap (λ l. x.accounts ++ l) (s.changes w new h) ∙ sym (set_append x.accounts (accounts_in xs) s.place new);
     }
 
--- all accounts are the accounts of one hand and the others, and the others do not change if the hand changes
+-- all accounts are the accounts v of the seat `id` and the accounts `others`, which stay if the accounts of this seat change
 pub record Apart (views : List HeldAccounts) (id : ℕ) (v : HeldAccounts) : Type 0 where
   pub others : List Account
   pub all : IsPermutation (accounts_in views) (v.accounts ++ others)
@@ -65,25 +65,25 @@ apart (x ∷ xs) (suc id) v e =
       set_all = λ w. IsPermutation-trans _ _ _ (IsPermutation-append_right x.accounts (accounts_in (set xs id w)) (w.accounts ++ a.others) (a.set_all w)) (second_first x.accounts w.accounts a.others);
     }
 
--- if a new seat is added, the accounts of its hand are added to all accounts
+-- if a new seat is added, its accounts are added to all accounts
 pub seat_more : (views : List HeldAccounts) (w : HeldAccounts) → accounts_in (views ++ w ∷ []) ≡ accounts_in views ++ w.accounts
 seat_more views w = flat_map-append (λ (v : HeldAccounts). v.accounts) views (w ∷ []) ∙ ap (λ l. accounts_in views ++ l) (append-nil w.accounts)
 
--- if a hand is divided into two hands, all accounts together stay the same
+-- if the accounts v of the seat `id` are divided between this seat and a new seat, all accounts together stay the same
 pub cut : (views : List HeldAccounts) (id : ℕ) (v left right : HeldAccounts) → get_elem? views id ≡ some v → right.accounts ++ left.accounts ≡ v.accounts
     → IsPermutation (accounts_in views) (accounts_in (set views id left ++ right ∷ []))
 cut views id v left right at is =
     let a = apart views id v at in
     let l : List Account = left.accounts in
     let r : List Account = right.accounts in
-    -- The accounts of all hands are those of the hand `right`, those of the hand `left`, and the others.
+    -- The accounts of all seats are the accounts of `right`, those of `left`, and the others.
     let old : IsPermutation (accounts_in views) (r ++ (l ++ a.others)) = subst (IsPermutation (accounts_in views)) (ap (λ k. k ++ a.others) (sym is) ∙ append_assoc r l a.others) a.all in
     let new : IsPermutation (accounts_in (set views id left) ++ r) ((l ++ a.others) ++ r) = IsPermutation-append_left r (accounts_in (set views id left)) (l ++ a.others) (a.set_all left) in
     let turned : IsPermutation ((l ++ a.others) ++ r) (r ++ (l ++ a.others)) = IsPermutation-append_comm (l ++ a.others) r in
     subst (IsPermutation (accounts_in views)) (sym (seat_more (set views id left) right))
     (IsPermutation-trans _ _ _ old (IsPermutation-sym _ _ (IsPermutation-trans _ _ _ new turned)))
 
--- if the accounts of one hand move to another hand, all accounts together stay the same
+-- if the accounts of one seat move to another seat, all accounts together stay the same
 pub glue : (views : List HeldAccounts) (id other : ℕ) (v w both spent : HeldAccounts) → get_elem? views id ≡ some v → (other ≡ id → ⊥) → get_elem? (set views id both) other ≡ some w
     → both.accounts ≡ v.accounts ++ w.accounts → spent.accounts ≡ []
     → IsPermutation (accounts_in views) (accounts_in (set (set views id both) other spent))
@@ -93,7 +93,7 @@ glue views id other v w both spent at apart_from there joined none =
     let views' : List HeldAccounts = set views other spent in
     let at' : get_elem? views' id ≡ some v = set_else views other id spent (λ e. apart_from (sym e)) ∙ at in
     let b = apart views' id v at' in
-    -- The accounts of all hands without those of the hand w.
+    -- The accounts of all seats without the accounts of w.
     let less : IsPermutation (accounts_in views') a.others = subst (λ k. IsPermutation (accounts_in views') (k ++ a.others)) none (a.set_all spent) in
     let less' : IsPermutation a.others (v.accounts ++ b.others) = IsPermutation-trans _ _ _ (IsPermutation-sym _ _ less) b.all in
     let old : IsPermutation (accounts_in views) (w.accounts ++ (v.accounts ++ b.others)) = IsPermutation-trans _ _ _ a.all (IsPermutation-append_right w.accounts a.others (v.accounts ++ b.others) less') in

@@ -27,7 +27,8 @@ name_of_account a = a.name
 abbrev pub heads_of_account : Account → ℕ
 heads_of_account a = pushes_and_takes a.steps
 
--- WHAT A CHANGE OF WORDS LEAVES: the words of places stay that are neither free nor with the holder of this name. The heads stay if no step on a head was made
+-- WHAT A CHANGE OF WORDS LEAVES: the word of a place stays, if the place is neither free nor with the holder `name`. The heads stay if `heads`, the number of
+-- steps on heads, is 0
 pub record Leaves (size : Size) (words words' : List ℕ) (m : Moment) (name heads : ℕ) : Type 0 where
   pub places : (p : Place) → index_of p < size.places → is_with name (m.place p) ≡ false → word_at words p ≢ 0 → word_at words' p ≡ word_at words p
   pub heads_too : heads ≡ 0 → (k : ℕ) → head_at size words' k ≡ head_at size words k
@@ -116,7 +117,7 @@ module _ (size : Size) (words : List ℕ) (accounts : List Account) (was : IsOne
               omega (arith, s, g, was.counted);
         }
 
-    -- since the holder has seen the history, only other holders have made steps
+    -- after the part of the history that the holder has seen, the history has only steps of other holders
     since : steps_of a.name mine.begun.rest ≡ []
     since = none_added (steps_of a.name a.seen) (steps_of a.name mine.begun.rest) (steps_of a.name was.order) (ap (steps_of a.name) mine.begun.is ∙ steps_of-append a.name a.seen mine.begun.rest) (mine.own ∙ sym mine.own_seen)
 

@@ -1,4 +1,4 @@
--- Holders whose seats have one account in hand, and the chains of these holders.
+-- Lemmas about holders whose seats have one account each, and about the chains of these holders.
 use Rattle.std.proofs.Common.{rules, zero, suc, map, ◌≡◌, ◌≢◌, ℕ, ◌+◌, ◌-◌, ◌%◌, ◌<◌, ◌≤◌, ◌||◌, Bool, true, false, true≢false, Option, Some, None, List, [], ◌∷◌, ◌++◌, drop, get_or, refl, sym, ap, ◌∙◌, subst, arith, length, eq-eqb, eqb-true}
 use Rattle.std.specs.Prelude.{◌==◌}
 use Rattle.std.specs.Bool.{OnTrue, OnFalse}
@@ -45,7 +45,7 @@ pub record Stepped (old new : Holder) (e : Step) (ks : List Known) : Type 0 wher
   pub known : (account_of new).known ≡ ks
 
 module _ {A : Type 0} (stacks : Stacks A) where
-  -- a holder with the account b alone in hand was made with the stacks, and b is its account
+  -- a holder whose seat has only the account b was made with the stacks, and b is its account
   module _ (h : Holder) (b : Account) (table : IsSeatOf stacks h.seat) (e : h.seat.me.0 ≡ only stacks.table.shared.key b) where
     pub account_is : account_of h ≡ b
     account_is = ap (λ (v : HeldAccounts). get_or v.accounts 0 (fresh 0)) e
@@ -73,7 +73,7 @@ module _ {A : Type 0} (stacks : Stacks A) where
     held = λ p member. (kept p (clean p member) (was.held p member)).1;
   }
 
-  -- if the account in a holder's hand has gained a step, the holder has made this step
+  -- if the account of a holder's seat has gained a step, the holder has made this step
   module _ (old new : Holder) (a : Account) (e : Step) (ks : List Known) (table : IsSeatOf stacks new.seat) (makes : Makes stacks.table.shared.key a e ks new.seat.me.0) where
     pub made_is_of : IsOf stacks new
     made_is_of = is_of new (made a e makes.seen ks) table makes.same
@@ -96,7 +96,7 @@ module _ {A : Type 0} (stacks : Stacks A) where
   step_keeps old new e ks is edited longer kept = keeps_chains old new edited (subst (λ l. length (account_of old).known ≤ length l) (sym is.known) longer) (λ p clean held.
       let k = kept p clean held in (ap (λ l. known_of l p) is.known ∙ k.0, ap (holds p) is.step.gained ∙ k.1))
 
-  -- a step that moves places to its holder leaves each place held that the holder held
+  -- a holder still holds each place that it held, after a step that moves places to the holder
   still_held : (es : List Step) (e : Step) (p : Place) → brings e ≡ true → holds p es ≡ true → holds p (es ++ e ∷ []) ≡ true
   still_held es e p b held = holds_more p es e ∙ by_test (λ c. Rattle.std.proofs.Common.cond c (brings e) (holds p es) ≡ true) (moves p e) (λ _. b) (λ _. held)
 
@@ -113,7 +113,7 @@ module _ {A : Type 0} (stacks : Stacks A) where
         → KeepsChains stacks old new (λ q. is_in q s)
     push_keeps ks is longer beside = step_keeps old new (Push k s) ks is (λ q. is_in q s) longer (λ q ne held. (beside q ne, holds_more q (record_of old) (Push k s) ∙ rw ne held))
 
-  -- if each chain without the places of the list with p alone stays, each chain without p stays
+  -- if each chain stays that has no place of the list `p ∷ []`, then each chain stays that does not have the place p
   pub keeps_one : (old new : Holder) (p : Place) → KeepsChains stacks old new (λ q. is_in q (p ∷ [])) → KeepsChains stacks old new (λ q. same q p)
   keeps_one old new p keeps chain s was clean = keeps chain s was (λ q member. rw (clean q member) refl)
 
@@ -191,7 +191,8 @@ module _ {A : Type 0} (stacks : Stacks A) (h : Holder) (chain : Chain) (p : Plac
       let all : HasChain stacks h chain (p ∷ x.rest) = subst (HasChain stacks h chain) x.is was in
       (x.inside, all.held p (rw (same_place p) refl), subst (λ l. is_in p (drop 1 l) ≡ false) (sym x.is) all.once.0)
 
--- A HEAD IS READ to find out whether its stack is empty: the holder makes no step, and has seen the history up to this moment
+-- Lemmas about a call that reads a head to find out whether the stack is empty. The holder makes no step, and has then seen the history up to the moment of
+-- the read
 module _ {A : Type 0} (stacks : Stacks A) (old new : Holder) (k n : ℕ) (table : IsSeatOf stacks new.seat) (answered : Sees stacks.table.shared.key (account_of old) k n new.seat.me.0) where
   sees_is : account_of new ≡ sees answered.order (account_of old)
   sees_is = account_is stacks new (sees answered.order (account_of old)) table answered.same
@@ -245,7 +246,7 @@ one_sequence stacks h chain s t a b = same_from (account_of h).known s t (sym a.
 pub empty_chain : {A : Type 0} (stacks : Stacks A) (h : Holder) (chain : Chain) → IsNoChain chain → HasChain stacks h chain []
 empty_chain stacks h chain e = record { starts = e; once = tt; linked = tt; known = omega arith; inside = λ p f. absurd (true≢false (sym f)); held = λ p f. absurd (true≢false (sym f)) }
 
--- A PLACE IS LINKED at the front of a chain, which then begins with the place p
+-- Lemmas about a call that links the place p at the front of a chain
 module _ {A : Type 0} (stacks : Stacks A) (old new : Holder) (p : Place) (n : ℕ) (table : IsSeatOf stacks new.seat)
     (e : new.seat.me.0 ≡ only stacks.table.shared.key (noted (account_of old) (knows p n ∷ (account_of old).known) (account_of old).stack (account_of old).saw (account_of old).looked)) where
   abbrev linked_account : Account
@@ -283,7 +284,7 @@ module _ {A : Type 0} (stacks : Stacks A) (old new : Holder) (p : Place) (n : �
 pub known_link : (ks : List Known) (places : ℕ) (s : List Place) (p : Place) → Next ks places s p → known_of ks p ≢ 0
 known_link ks places s p x e = let k = x.known in absurd (omega (arith, k, e))
 
--- the first of the new accounts is moved to a new seat, and the others stay in hand
+-- the first of the new accounts is moved to a new seat, and the others stay with the old seat
 module _ (size : Size) (h n m : ℕ) (v : HeldAccounts) (has : v ≡ hand size (map fresh (range_with_len h n))) (is : n ≡ suc m) where
   dealt : v ≡ hand size (fresh h ∷ map fresh (range_with_len (h + 1) m))
   dealt = has ∙ (ap (λ k. hand size (map fresh (range_with_len h k))) is ∙ ap (λ l. hand size (map fresh l)) (range_more h m))

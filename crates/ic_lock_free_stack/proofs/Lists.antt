@@ -34,7 +34,7 @@ module _ {A : Type 0} where
   map_set f (x ∷ xs) zero a b e same = ap (λ y. y ∷ map f xs) (same ∙ ap f (sym (some-injective x a e)))
   map_set f (x ∷ xs) (suc i) a b e same = ap (λ l. f x ∷ l) (map_set f xs i a b e same)
 
--- elements with distinct names: two elements at different indexes have different names
+-- if no two elements of a list have the same name `f a`, then elements at different indexes have different names
 module _ {A : Type 0} where
   named_before : (f : A → ℕ) (l : List A) (i j : ℕ) (a b : A) → IsDistinct eqb (map f l) → get_elem? l i ≡ some a → get_elem? l j ≡ some b → i < j → f a ≢ f b
   named_before f l i j a b once at there before e =

@@ -85,7 +85,7 @@ and_left : (a b : Bool) → (a && b) ≡ true → a ≡ true
 and_left true b e = refl
 and_left false b e = absurd (true≢false (sym e))
 
--- where a place is follows from a test that is true of it
+-- if the test `is_with h` is true of a location, the location is with the holder h. The next lemmas say such facts of the other tests
 pub with_is : (h : ℕ) (w : Location) → is_with h w ≡ true → w ≡ with_holder h
 with_is h nowhere e = absurd (true≢false (sym e))
 with_is h (with_holder a) e = ap with_holder (eqb-true a h e)

@@ -1,4 +1,4 @@
--- Accounts that move from hand to hand, and the accounts that the first hand has at the start.
+-- Lemmas about accounts that move from seat to seat, and about the accounts that the first seat has at the start.
 use Rattle.std.proofs.Common.{◌≡◌, ◌≢◌, ℕ, zero, suc, ◌+◌, ◌<◌, ◌≤◌, eqb, true, false, List, [], ◌∷◌, ◌++◌, map, take, drop, length, get_or, set, sum_by, All, Contains, IsPermutation, ◌⊎◌, inl, inr, ⊎_elim, refl, sym, ap, ◌∙◌, subst, arith, eq-eqb, ne_eqb, append-nil, length-append, take-append-drop}
 use Rattle.std.specs.List.{IsDistinct, range_with_len}
 use Rattle.std.proofs.lemmas.List.{set-get_or}
@@ -47,7 +47,7 @@ permuted size words xs ys p was =
       counted = sum_by-IsPermutation heads_of_account xs ys p ∙ was.counted;
     }
 
--- if the same accounts are in other hands, the rule still holds
+-- if accounts have moved from seat to seat and no word has changed, the rule still holds
 module _ (size : Size) (s t : State (Unit {0}) HeldAccounts) (words : t.words ≡ s.words) (moves : IsPermutation (accounts_in s.views) (accounts_in t.views)) where
   same_accounts : Rule size s → Rule size t
   same_accounts was = record {
@@ -102,7 +102,7 @@ length_seen : (o : List Entry) (xs : List Account) → length (map (sees o) xs) 
 length_seen o [] = refl
 length_seen o (x ∷ xs) = ap suc (length_seen o xs)
 
--- after a load it is known that the accounts in hand and the accounts in all other hands have one history, which the accounts in hand have seen
+-- after a load it is known that the accounts of all seats have one history, which the holders of this seat's accounts have seen
 pub compares : (size : Size) (slots id : ℕ) (me : Mine) → me.0.size ≡ size → Allows (Rule size) slots id me 0 (λ n. n) (compared (step slots 0 0 0 none) me)
 unfolding permuted
 compares size slots id me sized s was homes at small =

@@ -1,4 +1,4 @@
--- A holder that tries to push a chain with a given last place: what stays from try to try, and why there are not too many tries.
+-- Lemmas about a holder that tries to push a chain: what stays the same from try to try, and why the tries come to an end.
 use Rattle.std.proofs.Common.{length, ◌≡◌, ◌≢◌, ℕ, ◌+◌, ◌<◌, ◌≤◌, ◌||◌, false, true, true≢false, Some, List, [], ◌∷◌, drop, refl, sym, ap, ◌∙◌, subst, arith}
 use Rattle.std.proofs.lemmas.Option.{same_Some}
 use Rattle.ic_unsafe_ref.specs.declared.place.Place.{Place}
@@ -45,7 +45,8 @@ apart_from : (q p : Place) (s : List Place) → is_in q s ≡ false → is_in p 
 apart_from q p s out member = by_test (λ b. same q p ≡ b → b ≡ false) (same q p)
     (λ _ e. absurd (true≢false (sym member ∙ (ap (λ r. is_in r s) (sym (one_place q p e)) ∙ out)))) (λ _ _. refl) refl
 
--- after the word `head` was written to the last place of a chain, the known words of the chain name the next places, and the last is `head`
+-- after the word `head` was written to the last place of a chain, the known word of each place names the next place, and the known word of the last place is
+-- `head`
 known_to : (ks known : List Known) (s : List Place) (p : Place) (head : ℕ) → ((q : Place) → same q p ≡ false → known_of known q ≡ known_of ks q)
     → IsOnce s → AreKnownBut ks s → last s ≡ Some p → AreKnownTo (knows p head ∷ known) s head
 known_to ks known [] p head beside once but ends = tt

@@ -52,7 +52,7 @@ push_holds es w k s is held = record {
   others = λ p none. holds_beside es w (Push k s) is p none;
 }
 
--- giving up all places of a list with one place is giving up this place
+-- if a holder has given up all places of the list `p ∷ []`, it has given up the place p
 pub gives_one : (es w : List Step) (p : Place) → GivesUpAll es w (p ∷ []) → GivesUp es w p
 gives_one es w p all = record {
   was = all.was p (in_here p []);

@@ -307,7 +307,7 @@ record Tries (size : Size) (a : Account) (k new : ℕ) (s : State (Unit {0}) Hel
   hits : n ≡ a.saw → (t : List Place) → new ≡ link_to (first t) → IsOnce t → AreKnownTo a.known t a.saw → Makes size a (Push k t) (forgets t a.known) after
   misses : n ≢ a.saw → Misses size a k n after
 
--- EACH STEP KEEPS THE RULE, and its holder then knows what the definition for the step says, if the number of the step's word is given
+-- EACH KIND OF STEP KEEPS THE RULE, if it is made on the word of p or on the head of k. Its holder then knows what the definition for the kind says
 module _ (size : Size) (slots id : ℕ) (a : Account) (me : Mine) (is : me.0 ≡ only size a) where
   module _ (p : Place) (inside : index_of p < size.places) where
     claims_at : Allows (Rule size) slots id me (index_of p) (λ n. either (eqb n 0) 1 n) (claimed (step slots (index_of p) 0 1 none) me)

@@ -58,7 +58,7 @@ module _ (size : Size) (words : List ℕ) (m : Moment) (p : Place) (n : ℕ) (f 
     inside = was.inside;
   }
 
--- A HEAD CHANGES: the word of the head of the stack k is now n
+-- Lemmas about a change of the head of the stack k to the word n
 module _ (size : Size) (words : List ℕ) (m : Moment) (was : Spells size words m) (k n : ℕ) (small : k < size.stacks) (room : size.places + k < length words) where
   abbrev words' : List ℕ
   words' = set words (size.places + k) n
@@ -75,7 +75,7 @@ module _ (size : Size) (words : List ℕ) (m : Moment) (was : Spells size words 
   links_same : (j : ℕ) → AreLinked words' (m.stack j)
   links_same j = linked_beside words (size.places + k) n (m.stack j) (λ q member e. absurd (omega (arith, was.inside j q member, e))) (was.links j)
 
-  -- the head now names the first place of a chain whose holder has linked the last place to the member that the head named before
+  -- the new head names p, the first place of a chain. The last place of this chain is linked to the member that the old head named
   module _ (a : ℕ) (p : Place) (r : List Place) (low : (q : Place) → is_in q (p ∷ r) ≡ true → index_of q < size.places) (mine : (q : Place) → is_in q (p ∷ r) ≡ true → m.place q ≡ with_holder a)
       (ready : AreLinkedTo words (p ∷ r) (head_at size words k)) (is : n ≡ link_to (Some p)) where
     abbrev s : List Place
@@ -103,7 +103,7 @@ module _ (size : Size) (words : List ℕ) (m : Moment) (was : Spells size words 
     pub spells_push : Spells size words' (after m a (Push k s))
     spells_push = record { free = push_free; heads = push_heads; links = push_links; inside = push_inside }
 
-  -- the head now is the word of an empty stack, because all members were taken
+  -- the new head is the word of an empty stack, because all members were taken
   module _ (a : ℕ) (sound : IsSound m) (is : n ≡ link_to None) where
     take_free : (q : Place) → index_of q < size.places → eqb (word_at words' q) 0 ≡ is_nowhere (cond (is_in q (m.stack k)) (with_holder a) (m.place q))
     take_free q low = ap (λ w. eqb w 0) (place_same q low) ∙ (was.free q low ∙ by_test (λ b. is_in q (m.stack k) ≡ b → is_nowhere (m.place q) ≡ is_nowhere (cond b (with_holder a) (m.place q))) (is_in q (m.stack k))
@@ -153,7 +153,7 @@ pub forgets_long : (s : List Place) (ks : List Known) → length (forgets s ks) 
 forgets_long [] ks = omega arith
 forgets_long (q ∷ s) ks = let r = forgets_long s ks in omega (arith, r)
 
--- the word of each member of a chain is known, because a link is never 0
+-- if n is not 0, `link_or s n` is not 0, because a link to a place is never 0
 link_or_some : (s : List Place) (n : ℕ) → n ≢ 0 → link_or s n ≢ 0
 link_or_some [] n some e = some e
 link_or_some (p ∷ s) n some e = let f : link_to (Some p) ≡ 0 = e in absurd (omega (arith, f))

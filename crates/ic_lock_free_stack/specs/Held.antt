@@ -1,4 +1,5 @@
--- The accounts that seats have in hand. An account is what one holder has done and knows, and a seat is what one thread uses to make steps on the words.
+-- The accounts of seats. An account says what one holder has done and knows. A thread makes steps on the words by a seat, and each seat has the accounts of
+-- some holders.
 use Rattle.std.specs.Prelude.{ℕ, List, [], ◌∷◌, take, drop, ◌++◌, flat_map, map}
 use Rattle.std.specs.List.{range_with_len}
 use Rattle.ic_lock_free_stack.specs.declared.step.Step.{Step}
@@ -8,15 +9,15 @@ use Rattle.ic_lock_free_stack.specs.declared.held.Known.{Known}
 use Rattle.ic_lock_free_stack.specs.declared.held.Account.{Account}
 use Rattle.ic_lock_free_stack.specs.declared.held.HeldAccounts.{HeldAccounts}
 
--- a hand with these accounts, for stacks of the size `size`
+-- the given accounts, as those of one seat, for stacks of the size `size`
 abbrev pub hand : Size → List Account → HeldAccounts
 hand size accounts = record { size = size; accounts = accounts }
 
--- the accounts in all hands, in one list
+-- the accounts of all seats, in one list
 abbrev pub accounts_in : List HeldAccounts → List Account
 accounts_in holders = flat_map (λ (v : HeldAccounts). v.accounts) holders
 
--- the account of the holder with the name h before its first step, when the stack 0 is empty
+-- the account of the holder with the name h before its first step. The account notes that the stack 0 is empty
 abbrev pub fresh : ℕ → Account
 fresh h = record { name = h; steps = []; seen = []; known = []; stack = 0; saw = 1; looked = 0 }
 
@@ -24,7 +25,8 @@ fresh h = record { name = h; steps = []; seen = []; known = []; stack = 0; saw =
 abbrev pub made : Account → Step → List Entry → List Known → Account
 made a e seen ks = record { name = a.name; steps = a.steps ++ e ∷ []; seen = seen; known = ks; stack = a.stack; saw = a.saw; looked = a.looked }
 
--- The account a after a head was read: `ks` are the known words, and n is the head of the stack k. The number of steps on heads so far is c
+-- The account a after its holder has read the head n of the stack k. `ks` are the known words, and c counts all pushes and calls that take all members until
+-- then
 abbrev pub noted : Account → List Known → ℕ → ℕ → ℕ → Account
 noted a ks k n c = record { name = a.name; steps = a.steps; seen = a.seen; known = ks; stack = k; saw = n; looked = c }
 
@@ -32,22 +34,22 @@ noted a ks k n c = record { name = a.name; steps = a.steps; seen = a.seen; known
 abbrev pub sees : List Entry → Account → Account
 sees seen a = record { name = a.name; steps = a.steps; seen = seen; known = a.known; stack = a.stack; saw = a.saw; looked = a.looked }
 
--- a hand without its first account
+-- the accounts of a seat without the first one
 abbrev pub without_first : HeldAccounts → HeldAccounts
 without_first v = hand v.size (drop 1 v.accounts)
 
--- a hand with its first account alone
+-- the first account of a seat, without the others
 abbrev pub only_first : HeldAccounts → HeldAccounts
 only_first v = hand v.size (take 1 v.accounts)
 
--- the hand v with its own accounts, followed by the accounts of the hand w
+-- the accounts of the seat v, followed by the accounts of the seat w
 abbrev pub both_hands : HeldAccounts → HeldAccounts → HeldAccounts
 both_hands v w = hand v.size (v.accounts ++ w.accounts)
 
--- the hand of a seat that has given its accounts away
+-- what a seat has after it has given all its accounts away: no accounts
 abbrev pub nothing_left : HeldAccounts
 nothing_left = hand record { places = 0; stacks = 0; holders = 0 } []
 
--- at first one hand has the accounts of all holders, and no holder has made a step
+-- at first one seat has the accounts of all holders, and no holder has made a step
 abbrev pub all_fresh : Size → HeldAccounts
 all_fresh size = hand size (map fresh (range_with_len 0 size.holders))

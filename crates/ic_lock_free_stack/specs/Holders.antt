@@ -35,11 +35,11 @@ holders_of stacks = stacks.table.shared.key.holders
 abbrev pub IsSeatOf : {A : Type 0} → Stacks A → Seat (Unit {0}) HeldAccounts → Type 0
 IsSeatOf stacks seat = seat.table_id ≡ stacks.table.shared.table_id
 
--- a hand with these accounts, for the size of the stacks
+-- the given accounts, as those of one seat, for the size of the stacks
 abbrev pub hand_with : {A : Type 0} → Stacks A → List Account → HeldAccounts
 hand_with stacks accounts = hand stacks.table.shared.key accounts
 
--- the account of a holder, which is the first account in the hand of its seat
+-- the account of a holder, which is the first account of its seat
 abbrev pub account_of : Holder → Account
 account_of holder = slice_index_or holder.seat.me.0.accounts 0 (fresh 0)
 
@@ -75,13 +75,13 @@ pub record Stays (old new : Holder) : Type 0 where
   pub record_is : record_of new ≡ record_of old
   pub seen : seen_of new ≡ seen_of old
 
--- A CALL LOOKED: the call made no step, and the holder has seen the history up to the moment at which the call looked
+-- A CALL READ A HEAD: the call made no step, and the holder has seen the history up to the moment at which the call read the head
 pub record Looks (old new : Holder) : Type 0 where
   pub name : name_of new ≡ name_of old
   pub record_is : record_of new ≡ record_of old
   pub goes : LooksOn (name_of old) (seen_of old) (seen_of new)
 
--- the holder was made with these stacks, and the only account in its hand is its own
+-- the holder was made with these stacks, and its seat has only the holder's own account
 pub record IsOf {A : Type 0} (stacks : Stacks A) (holder : Holder) : Type 0 where
   pub table : IsSeatOf stacks holder.seat
   pub hand : holder.seat.me.0 ≡ hand_with stacks (account_of holder ∷ [])
@@ -124,7 +124,7 @@ first_of chain = chain.first
 abbrev pub IsNoChain : Chain → Type 0
 IsNoChain chain = chain.first ≡ None
 
--- how many places a chain has from the given place on, but at most n. The count is the measure that shows that a loop ends
+-- how many places a chain has from the given place on, but at most n. A loop over a chain ends because each turn makes this count smaller
 abbrev pub left_from : ℕ → List Known → Option Place → ℕ
 left_from zero ks o = 0
 left_from (suc n) ks None = 0
@@ -133,7 +133,7 @@ left_from (suc n) ks (Some p) = suc (left_from n ks (place_at (known_of ks p - 1
 unfoldable pub left_of : Holder → Chain → ℕ
 left_of holder chain = left_from (length (account_of holder).known) (account_of holder).known chain.first
 
--- each chain without a place for which `edited` is true stays a chain of the holder with the same places
+-- a chain of the holder `old` is also a chain of the holder `new`, with the same places, if `edited` is false for each of these places
 abbrev pub KeepsChains : {A : Type 0} → Stacks A → Holder → Holder → (Place → Bool) → Type 0
 KeepsChains stacks old new edited = (chain : Chain) (s : List Place) → HasChain stacks old chain s
     → ((p : Place) → is_in p s ≡ true → edited p ≡ false) → HasChain stacks new chain s

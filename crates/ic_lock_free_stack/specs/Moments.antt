@@ -57,7 +57,7 @@ moves p (Release q) = same p q
 moves p (Push k s) = is_in p s
 moves p (TakeAll k s) = is_in p s
 
--- where the places that a step of the holder a moves are after this step
+-- where a place is after a step of the holder a that moves the place
 abbrev pub goes : ℕ → Step → Location
 goes a (Claim q got) = with_holder a
 goes a (Release q) = nowhere

@@ -18,7 +18,7 @@ got k (Release q) = []
 got k (Push j s) = []
 got k (TakeAll j s) = if j == k then reverse s else []
 
--- the places that f gives for all steps of a record, and for all steps of a history, one step after the other
+-- the lists `f e` for all steps e of a record, or of a history, joined in the order of the steps
 abbrev pub of_record : (Step → List Place) → List Step → List Place
 of_record f es = flat_map f es
 

@@ -18,15 +18,15 @@ use Rattle.ic_lock_free_stack.specs.Held.{hand, made, noted, sees}
 use Rattle.ic_lock_free_stack.specs.OneHistory.{GoesOn, LooksOn, IsOneHistory}
 use Rattle.ic_lock_free_stack.specs.Rule.{Mine}
 
--- a hand that contains the account a alone
+-- the account a as the only account of a seat
 abbrev pub only : Size → Account → HeldAccounts
 only size a = hand size (a ∷ [])
 
--- the statement `answered` is true for the account in hand and for the place whose word the step is on, if the hand has one account
+-- if the seat has only the account a, and the step is on the word of the place p, then `answered size a p` holds
 abbrev pub OfPlace : TableStep (Unit {0}) → Mine → (Size → Account → Place → Type 0) → Type 0
 OfPlace t me answered = (size : Size) (a : Account) (p : Place) → me.0 ≡ only size a → index_of p ≡ t.word → answered size a p
 
--- the statement `answered` is true for the account in hand and for the stack whose head the step is on, if the hand has one account
+-- if the seat has only the account a, and the step is on the head of the stack k, then `answered size a k` holds
 abbrev pub OfHead : TableStep (Unit {0}) → Mine → (Size → Account → ℕ → Type 0) → Type 0
 OfHead t me answered = (size : Size) (a : Account) (k : ℕ) → me.0 ≡ only size a → size.places + k ≡ t.word → answered size a k
 
@@ -93,15 +93,16 @@ pub record Sees (size : Size) (a : Account) (k n : ℕ) (new : HeldAccounts) : T
 abbrev pub peeked : TableStep (Unit {0}) → Mine → ℕ → Mine → Type 0
 peeked t me n me' = OfHead t me (λ size a k. Sees size a k n me'.0)
 
--- A load of a place's word whose content the holder knows finds this content. The load changes nothing that the seat knows
+-- If the holder knows the word of a place, a load of this word finds the known word. The load changes nothing that the seat knows
 abbrev pub followed : TableStep (Unit {0}) → Mine → ℕ → Mine → Type 0
 followed t me n me' = OfPlace t me (λ size a p. known_of a.known p ≢ 0 → (me' ≡ me) × (n ≡ known_of a.known p))
 
--- a new seat has no account in hand
+-- a new seat has no account
 abbrev pub seated : TableStep (Unit {0}) → Mine → ℕ → Mine → Type 0
 seated t me n me' = me'.0 ≡ hand me.0.size []
 
--- At one moment, the accounts in hand and the accounts in all other hands have one history. The holders of the accounts in hand have seen this history
+-- At one moment, the accounts v of a seat and the accounts of all other seats have one history. w are the accounts v after their holders have seen this
+-- history
 pub record Compares (size : Size) (v w : HeldAccounts) : Type 0 where
   pub others : List Account
   pub all : length v.accounts + length others ≡ size.holders
@@ -109,6 +110,6 @@ pub record Compares (size : Size) (v w : HeldAccounts) : Type 0 where
   pub one : IsOneHistory size words (v.accounts ++ others)
   pub same : w ≡ hand size (map (sees one.order) v.accounts)
 
--- After a load it is known that, at one moment, the accounts in hand and those in all other hands have one history. The accounts in hand have seen this history
+-- After a load it is known that, at one moment, the accounts of all seats have one history. The holders of this seat's accounts have then seen this history
 abbrev pub compared : TableStep (Unit {0}) → Mine → ℕ → Mine → Type 0
 compared t me n me' = (size : Size) → me.0.size ≡ size → Compares size me.0 me'.0

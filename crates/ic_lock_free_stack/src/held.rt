@@ -1,4 +1,4 @@
-//! The accounts of holders that a seat of the words has in hand.
+//! The accounts of holders that a seat has. A thread makes steps on the words by a seat.
 
 use crate::step::{History, Record};
 use ic_unsafe_ref::Place;
@@ -30,7 +30,7 @@ pub(crate) struct Account {
     pub(crate) looked: usize,
 }
 
-// The accounts that a seat has in hand: one for a holder's seat, and none for a seat that has given its accounts away. No value of this type is made.
+// The accounts that a seat has. A holder's seat has one account, and a seat that has given its accounts away has none. No value of this type is made.
 pub(crate) struct HeldAccounts {
     pub(crate) size: Size,
     pub(crate) accounts: LinkedList<Account>,

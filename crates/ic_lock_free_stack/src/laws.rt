@@ -12,7 +12,7 @@ ghost use Rattle.ic_lock_free_stack.specs.Moments.{entry, at_first, is_in, is_st
 
 /// The law of the records of all holders: no place is lost, and no place is taken twice for one push.
 ///
-/// Each place was pushed to each stack as often as it was taken from it, and once more if it is in the stack.
+/// A place was pushed to a stack as often as the place was taken from this stack, and once more if the place is in the stack.
 pub fn nothing_is_lost()
     ensures { (order : List Entry) (parties : List Party) → IsHistory order parties → (k : ℕ) (p : Place)
         → in_all (puts k p) parties ≡ in_all (takes_out k p) parties + times p (stack_after order k) }
@@ -26,7 +26,7 @@ pub fn places_come_in_order()
         → of_history (sent k) order ≡ of_history (got k) order ++ reverse (stack_after order k) }
 {}
 
-/// The law of calls in turn: if all holders are together before a call and after it, the history gains the step of this call and no other step.
+/// The law of calls in turn: if a call makes one step and no other holder makes one, the history gains exactly this step.
 ///
 /// For one thread that has all holders, the stacks are therefore plain lists: the laws of a history state how each call changes them.
 pub fn calls_go_in_turn()

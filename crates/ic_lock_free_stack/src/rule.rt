@@ -3,7 +3,7 @@
 use crate::held::{HeldAccounts, Size};
 use atomic_table::{Join, Play, Split, TableRule};
 
-// The rule that holds between any two steps: the words and the accounts in all hands agree with one history.
+// The rule that holds between any two steps: the words and the accounts of all seats agree with one history.
 pub(crate) struct OneHistory;
 
 impl TableRule<(), HeldAccounts, Size> for OneHistory {
@@ -78,7 +78,7 @@ impl Play<(), HeldAccounts> for Peeked {
     ghost then = { peeked };
 }
 
-// A load of a place's word whose content the holder knows.
+// A load of the word of a place, if the holder knows this word.
 pub(crate) struct Followed;
 
 impl Play<(), HeldAccounts> for Followed {
@@ -87,7 +87,7 @@ impl Play<(), HeldAccounts> for Followed {
     ghost then = { followed };
 }
 
-// The load by which a new seat is made. The new seat has no account in hand.
+// The load by which a new seat is made. The new seat has no account.
 pub(crate) struct Seated;
 
 impl Play<(), HeldAccounts> for Seated {
@@ -96,7 +96,7 @@ impl Play<(), HeldAccounts> for Seated {
     ghost then = { seated };
 }
 
-// The load after which the holder knows that the accounts in hand and the accounts in all other hands have one history.
+// The load after which it is known that the accounts of all seats have one history.
 pub(crate) struct Compared;
 
 impl Play<(), HeldAccounts> for Compared {

@@ -32,7 +32,7 @@ pub struct Stacks<A: Allocator = Global> {
     ghost fits: { places + stacks ≤ 8589934592 },
 }
 
-/// A token of no bytes, with which a party claims, pushes and takes places. The holder has the record of its own steps, which only contracts see.
+/// A token of no bytes, by which a caller claims, pushes and takes places. The holder has the record of its own steps, which only contracts see.
 ///
 /// If a holder is dropped, the places that it holds stay held.
 #[derive(Drop)]
@@ -93,8 +93,7 @@ impl<A: Allocator + Copy> Stacks<A> {
     ghost use Rattle.ic_lock_free_stack.specs.Held.{fresh};
     ghost use Rattle.ic_lock_free_stack.specs.Holders.{places_of, stacks_of, holders_of, IsSeatOf, hand_with, name_of, IsOf, IsNew};
 
-    /// Makes the given number of empty stacks over the places with an index below `places`, all of them free. The call also makes `holders` holders, whose
-    /// records are empty.
+    /// Makes `stacks` empty stacks over the free places whose index is below `places`. The call also makes `holders` holders, whose records are empty.
     ///
     /// The call is refused if `places` is above 4,294,967,296, or if there is no memory, and then nothing is made. The call requires at least one stack and at
     /// most 65,535 holders. The call makes at most four requests for memory, for one word for each place and each stack, and for the holders. No other call
@@ -133,7 +132,7 @@ impl<A: Allocator + Copy> Stacks<A> {
         Ok((made, all))
     }
 
-    // Makes stacks, and a seat that has every account in hand.
+    // Makes stacks, and a seat that has the accounts of all holders.
     fn free(
         alloc: A,
         places: usize,
@@ -183,7 +182,7 @@ impl<A: Allocator> Stacks<A> {
     ghost use Rattle.ic_lock_free_stack.specs.Records.{holds, HoldsAlso, HoldsAll, GivesUp, GivesUpAll, HoldsTheSame, most_steps};
     ghost use Rattle.ic_lock_free_stack.specs.Holders.{places_of, stacks_of, record_of, spent_by, seen_of, Steps, Stays, Looks, IsOf, IsReady, HasChain, KeepsChains};
 
-    // Moves the first account that a seat has in hand to a seat of its own.
+    // Moves the first account of `seat` to a new seat, and returns the new seat.
     fn first_of(&self, seat: &mut Seat<(), HeldAccounts>) -> Seat<(), HeldAccounts>
         requires seat { IsSeatOf self.now seat.old }
         ensures seat { IsSeatOf self.now seat.new }
@@ -222,9 +221,9 @@ impl<A: Allocator> Stacks<A> {
 
     /// Proves to its caller that the records of the given holders are parts of one history, which each of these holders has seen afterwards.
     ///
-    /// The history has the steps of all holders, and continues what each given holder had seen. No place is held by two of the given holders. The call changes
-    /// no word and no record, and chains stay as they are. The call is never refused. Four loads for each holder and two more, O(holders). The call waits for
-    /// no other thread.
+    /// The history has the steps of all holders, and continues what each given holder had seen. No place is held by two of the given holders. The call
+    /// changes no word and no record, and chains stay as they are. The call is never refused, and waits for no other thread. The call makes four loads for
+    /// each holder and two more: O(holders).
     pub fn audit<B: Allocator>(&self, holders: &mut Vec<Holder, B>)
         requires made { All (λ h. IsOf self.now h) holders.old.items }
         ensures made { All (λ h. IsOf self.now h) holders.new.items }
@@ -251,7 +250,7 @@ impl<A: Allocator> Stacks<A> {
         }
     }
 
-    /// Claims `place` and returns true, or returns false if the place is not free. One compare-exchange, O(1), which waits for no other thread.
+    /// Claims `place` and returns true, or returns false if the place is not free. The call makes one compare-exchange, and waits for no other thread: O(1).
     #[inline]
     pub fn claim(&self, holder: &mut Holder, place: Place) -> bool
         requires place { index_of place < places_of self.now }
@@ -267,7 +266,7 @@ impl<A: Allocator> Stacks<A> {
         found == 0
     }
 
-    /// Releases `place`, so that any holder may claim the place afterwards. One store, O(1), which waits for no other thread.
+    /// Releases `place`, so that any holder may claim the place afterwards. The call makes one store, and waits for no other thread: O(1).
     #[inline]
     pub fn release(&self, holder: &mut Holder, place: Place)
         requires place { index_of place < places_of self.now }
@@ -282,8 +281,8 @@ impl<A: Allocator> Stacks<A> {
         words.store::<Released>(&mut holder.seat, place.index(), 0);
     }
 
-    /// Returns whether the stack with the given number is empty, at a moment no earlier than the last moment that the holder had seen. One load, O(1), which
-    /// waits for no other thread.
+    /// Returns whether the stack with the given number is empty, at a moment no earlier than the last moment that the holder had seen. The call makes one
+    /// load, and waits for no other thread: O(1).
     ///
     /// After the call the holder has seen the history up to the moment to which the result belongs. The moment of the result is during the call, but the
     /// contract states less: if the holder has seen nothing yet, any moment since the stacks were made is possible. After a [`Stacks::audit`] of all holders,
@@ -305,8 +304,8 @@ impl<A: Allocator> Stacks<A> {
     /// Pushes `place` to the front of the stack with the given number. Afterwards the holder no longer holds the place.
     ///
     /// The call requires that the holder holds the place, and that the holder has made fewer than 281,474,976,710,656 pushes and calls that take all members.
-    /// The call is never refused, takes no lock and waits for no other thread. The call makes one load, and then a store and a compare-exchange for each try. A
-    /// try fails only if another holder has changed a head in between, so there is at most one try more than such changes. O(1) a try.
+    /// The call is never refused, takes no lock and waits for no other thread. The call makes one load, and then a store and a compare-exchange for each try.
+    /// A try fails only if another holder has changed a head in between, so there is at most one try more than there are changes. O(1) a try.
     #[inline]
     pub fn push(&self, holder: &mut Holder, stack: usize, place: Place)
         requires stack { stack < stacks_of self.now }
@@ -342,7 +341,7 @@ impl<A: Allocator> Stacks<A> {
         self.push_linked(holder, stack, first, last);
     }
 
-    // Pushes the places from `front` to `back`, of which each except the last is linked to the next place.
+    // Pushes the places of a list that begins with `front` and ends with `back`. Each of these places except `back` is linked to the next one.
     #[inline]
     fn push_linked(&self, holder: &mut Holder, stack: usize, front: Place, back: Place)
         requires stack { stack < stacks_of self.now }
@@ -376,8 +375,8 @@ impl<A: Allocator> Stacks<A> {
     /// Takes all members of the stack with the given number, the last pushed first, and leaves the stack empty. Afterwards the holder holds each of these
     /// members.
     ///
-    /// The call requires that the holder has made fewer than 281,474,976,710,656 pushes and calls that take all members. One swap, O(1), which waits for no
-    /// other thread. [`Stacks::next`] returns the members of the chain one by one.
+    /// The call requires that the holder has made fewer than 281,474,976,710,656 pushes and calls that take all members. The call makes one swap, and waits
+    /// for no other thread: O(1). [`Stacks::next`] returns the members of the chain one by one.
     #[inline]
     pub fn take_all(&self, holder: &mut Holder, stack: usize) -> Chain
         requires stack { stack < stacks_of self.now }
@@ -397,7 +396,7 @@ impl<A: Allocator> Stacks<A> {
         }
     }
 
-    /// Adds `place` at the front of a chain. One store, O(1).
+    /// Adds `place` at the front of a chain. The call makes one store: O(1).
     ///
     /// The call requires that the holder holds the place, and that the place is not in the chain. The call makes no step of the history, because no other
     /// holder sees a chain.
@@ -418,8 +417,7 @@ impl<A: Allocator> Stacks<A> {
         chain.first = Some(place);
     }
 
-    /// Removes the first place from a chain and returns it, or `None` if the chain is empty. The holder still holds the place. One
-    /// load, O(1).
+    /// Removes the first place from a chain and returns it, or `None` if the chain is empty. The holder still holds the place. The call makes one load: O(1).
     ///
     /// The call requires that the chain is intact, which means that the holder has released or pushed no place of the chain.
     #[inline]
@@ -439,8 +437,8 @@ impl<A: Allocator> Stacks<A> {
         Some(place)
     }
 
-    /// Reverses the chain: if the chain was taken from a stack, the place that was pushed first comes first afterwards. One load and one store for each place,
-    /// O(n).
+    /// Reverses the chain: if the chain was taken from a stack, the place that was pushed first comes first afterwards. The call makes one load and one store
+    /// for each place: O(n).
     ///
     /// The holder rewrites the words of its own places, and makes no step of the history.
     pub fn reversed(&self, holder: &mut Holder, chain: Chain) -> Chain

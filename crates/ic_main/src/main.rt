@@ -11,7 +11,7 @@ use std::str;
 use std::sync::Wait;
 use std::thread::Threads;
 
-// The number of bytes that the program reads at once.
+// The program reads at most this many bytes at once.
 const CAPACITY: usize = 65536;
 
 // The program knows no argument that is longer than this many bytes.

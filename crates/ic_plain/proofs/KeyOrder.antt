@@ -1,4 +1,4 @@
--- Lemmas for callers about trees in the order of their keys: what a search finds, and that the order stays after an insert and a removal.
+-- A caller needs these lemmas about trees in the order of their keys. They say what a search finds, and that the order stays after an insert and a removal.
 use Rattle.std.proofs.Common.{◌≡◌, ◌≢◌, Bool, true, false, cond, Option, Some, None, IsSome, not, List, [], ◌∷◌, ◌++◌, map, drop, refl, sym, ap, ◌∙◌, subst, true≢false}
 use Rattle.std.proofs.lemmas.List.Elements.{filter_map-append}
 use Rattle.std.specs.Cmp.{IsTotalOrder, upto}
@@ -43,7 +43,7 @@ first_passing test (x ∷ s) p is = by (test x) is (λ rest. first_passing test 
 pub passing_member : {shows : List Place → Type 0} (s : List Place) → shows s → (test : Place → Bool) {p : Place} → Some p ≡ first (filter test s) → HasMember shows p
 passing_member {shows} s shown test {p} is = let r = first_passing test s p is in record { front = r.0; back = r.1; shown = subst shows r.2 shown }
 
--- A SORTED SEQUENCE stays sorted if one member is left out
+-- a sorted sequence stays sorted if one member is left out
 module _ {T K : Type 0} {cmp : K → K → Ordering} (total : IsTotalOrder cmp) (key : T → K) where
   level : (r : Ordering) → r ≢ Greater → is_gt r ≡ false
   level Less h = refl
@@ -78,8 +78,7 @@ module _ {T K : Type 0} {cmp : K → K → Ordering} (total : IsTotalOrder cmp) 
     sorted_in s shown k =
         sorted_for total key objects k s (placed_in s shown) (subst (λ (u : List Place). IsSorted cmp (map key (values_at objects u))) (one o.placed.members s o.placed.shown shown) o.sorted)
 
-    -- WHAT A SEARCH FINDS is the first member with the key. `bounded` says that a search by a lower bound finds the first member with the key or a
-    -- greater key
+    -- a search finds the first member with the key (`found`). A search by a lower bound finds the first member with the key or a greater key (`bounded`)
     pub found : (k : K) (s : List Place) → old s → {position : Option Place} → Finds (compared (order_of cmp key k) objects) s position
         → position ≡ first (filter (equal_at (compared (order_of cmp key k) objects)) s)
     found k s shown finds = found_is (sorted_in s shown k) finds
@@ -88,7 +87,7 @@ module _ {T K : Type 0} {cmp : K → K → Ordering} (total : IsTotalOrder cmp) 
         → position ≡ first (filter (at_most_at (compared (order_of cmp key k) objects)) s)
     bounded k s shown border = lower_is (cuts_at_most (sorted_in s shown k)) border
 
-    -- AN INSERT IN ORDER places the object after the members whose keys are not greater, and the tree stays in the order of the keys
+    -- an insert in order places the object after the members whose keys are not greater, and the tree stays in the order of the keys
     module _ {E H : Type 0} {Represents : Table E → H → List Place → Type 0} {t u : Table E} {head : H} {p : Place} (there : IsSome (object_at objects p)) where
       pub inserted : (s : List Place) → old s → InsertsInOrder Represents (compared (own_order cmp key objects p) objects) t u head s p
           → Represents u head (filter (λ q. not (less_at (compared (own_order cmp key objects p) objects) q)) s ++ p ∷ filter (less_at (compared (own_order cmp key objects p) objects)) s)
@@ -133,7 +132,7 @@ module _ {T K : Type 0} {cmp : K → K → Ordering} (total : IsTotalOrder cmp) 
             (rises_without total key (values_at objects m.front) v.0 (values_at objects m.back) (subst (λ (l : List T). IsSorted cmp (map key l)) are sorted));
       }
 
--- THE TREE IS IN ORDER in each of the following lemmas: its members are in the order of their keys
+-- in each of the following lemmas the tree is in order: its members are in the order of their keys
 module _ {D T K E : Type 0} (cmp : K → K → Ordering) (key_of : D → T → K) (node : E → Node) (t : Table E) (tree : RBTree D (Option Place)) (objects : Objects T) (o : IsInOrder cmp key_of node t tree objects) where
   -- if a tree is in order, the table represents its members, and an object is at each member
   pub in_order_placed : RepresentsPlaced (Represents node t (root_of tree)) objects

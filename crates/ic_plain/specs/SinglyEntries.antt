@@ -1,4 +1,4 @@
--- The links of the plain table of singly linked lists.
+-- These definitions are about the links of the plain table of singly linked lists.
 use Rattle.std.specs.Prelude.{List, Bool, ⊤}
 use Rattle.ic_link_ops.specs.Prelude.{Place, Table}
 use Rattle.ic_link_ops.specs.declared.link.Link.{Link}
@@ -22,15 +22,15 @@ SinglyLinkOps A = PlainTable (OneWord Singly) A ⊤
 abbrev pub is_linked : SinglyLink → Bool
 is_linked = linked_by has_word
 
--- THE PLAIN TABLE of the links of singly linked lists, as the contracts of its callers describe it
+-- the plain table of the links of singly linked lists, as the contracts of its callers describe it
 abbrev pub plain_table : {A : Type 0} → SinglyLinkOps A → Table SinglyLink
 plain_table links = table wide no_word links
 
--- a table of links of singly linked lists represents the sequence s for the list with the given first member
+-- `RepresentsList t list s`: the table t of links of singly linked lists represents the sequence s for `list`
 abbrev pub RepresentsList : Table SinglyLink → Front → List Place → Type 0
 RepresentsList = Represents (successor_of next_word_of has_word)
 
--- a table of links of singly linked lists represents some sequence for the list
+-- `RepresentsSomeList t list`: the table t of links of singly linked lists represents some sequence for `list`
 abbrev pub RepresentsSomeList : Table SinglyLink → Front → Type 0
 RepresentsSomeList = RepresentsSome (successor_of next_word_of has_word)
 

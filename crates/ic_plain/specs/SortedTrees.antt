@@ -1,4 +1,4 @@
--- Trees whose members are in the order of their keys.
+-- These definitions are about trees whose members are in the order of their keys.
 use Rattle.std.specs.Prelude.{⊤, Option, Bool, not, List, ◌∷◌, ◌++◌, map}
 use Rattle.std.specs.List.{filter}
 use Rattle.std.specs.declared.cmp.Ordering.{Ordering}
@@ -31,11 +31,11 @@ module _ {T K : Type 0} (cmp : K → K → Ordering) (key : T → K) where
 module _ {D T K : Type 0} (cmp : K → K → Ordering) (key_of : D → T → K) where
   -- `node`: the node of a tree that an entry stores
   module _ {E : Type 0} (node : E → Node) where
-    -- THE TREE IS IN ORDER: the members that the table represents for the tree are in the order of their keys
+    -- the members that the table represents for the tree are in the order of their keys
     unfoldable pub IsInOrder : Table E → RBTree D (Option Place) → Objects T → Type 0
     IsInOrder t tree objects = RepresentsInOrder cmp (key_of (adapter_of tree)) (Represents node t (root_of tree)) objects
 
-    -- THE ORDER STAYS: if the old tree is in order, the new tree is in order, whatever objects are at the places
+    -- if the old tree is in order, the new tree is in order, whatever objects are at the places
     abbrev pub StaysInOrder : Table E → RBTree D (Option Place) → Table E → RBTree D (Option Place) → Type 0
     StaysInOrder t old u new = (objects : Objects T) → IsInOrder t old objects → IsInOrder u new objects
 

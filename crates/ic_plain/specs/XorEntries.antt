@@ -1,4 +1,4 @@
--- The links of the plain table of XOR lists.
+-- These definitions are about the links of the plain table of XOR lists.
 use Rattle.std.specs.Prelude.{List, Bool, ⊤}
 use Rattle.ic_link_ops.specs.Prelude.{Place, Table}
 use Rattle.ic_link_ops.specs.declared.link.Link.{Link}
@@ -23,15 +23,15 @@ XorLinkOps A = PlainTable (OneWord Xor) A ⊤
 abbrev pub is_linked : XorLink → Bool
 is_linked = linked_by has_word
 
--- THE PLAIN TABLE of the links of XOR lists, as the contracts of its callers describe it
+-- the plain table of the links of XOR lists, as the contracts of its callers describe it
 abbrev pub plain_table : {A : Type 0} → XorLinkOps A → Table XorLink
 plain_table links = table wide no_word links
 
--- a table of XOR links represents the sequence s for the list with the given first and last members
+-- `RepresentsList t list s`: the table t of XOR links represents the sequence s for `list`
 abbrev pub RepresentsList : Table XorLink → Ends → List Place → Type 0
 RepresentsList = Represents is_linked (HasXorNeighbors next_word_of)
 
--- a table of XOR links represents some sequence for the list
+-- `RepresentsSomeList t list`: the table t of XOR links represents some sequence for `list`
 abbrev pub RepresentsSomeList : Table XorLink → Ends → Type 0
 RepresentsSomeList = RepresentsSome is_linked (HasXorNeighbors next_word_of)
 

@@ -1,4 +1,4 @@
-//! Examples of callers, with their contracts. No example needs a proof file.
+//! These examples of callers have contracts, and no example needs a proof file.
 //!
 //! ```text
 //! example::add(&mut recent, &mut links, object);

@@ -1,4 +1,4 @@
-//! Calls on lists and on the tree over plain tables. A table never refuses an object of such a call.
+//! This crate has calls on lists and on trees over plain tables. The table never refuses the object of such a call.
 //!
 //! A collection works over any table, so the contracts of its own calls have to treat a link that the table refuses. The calls of this crate require
 //! a table that accepts each place that is not linked ([`AcceptsUnlinked`](ic_link_ops::AcceptsUnlinked)), and an object that is not linked yet.

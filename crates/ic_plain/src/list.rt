@@ -1,8 +1,8 @@
-//! Calls on lists of every kind, over a table that accepts each place that is not linked. Plain tables accept such places, with words of 8 bytes or
+//! These calls are on lists of every kind, over a table that accepts each place that is not linked. Plain tables accept such places, with words of 8 bytes or
 //! of 4.
 //!
-//! A call has the type bounds of the collection's own call. The bounds determine which kinds of lists have the call. Instead of `list` you can also
-//! write the name of a kind.
+//! A call has the type bounds of the collection's own call. The bounds determine which kinds of lists have the call. Instead of `list` you can also write the
+//! name of a kind, such as `linked_list`.
 //!
 //! ```text
 //! let mut list: LinkedList<Job> = linked_list::new();

@@ -1,4 +1,4 @@
-//! Calls on trees whose members are in the order of their keys, over a plain table of their links with words of 8 bytes or of 4.
+//! These calls are on trees whose members are in the order of their keys, over a plain table of their links with words of 8 bytes or of 4.
 //!
 //! ```text
 //! let mut tree = rbtree::new(ByDeadline);
@@ -22,8 +22,8 @@ use ic_rbtree::{Bound, KeyAdapter, RBTree};
 use ic_unsafe_ref::{Objects, Place, UnsafeRef};
 use std::alloc::Allocator;
 
-/// A new tree with no members. Every table represents the empty sequence for it. Later members are in the order of the keys that the adapter finds.
-/// The call takes no memory. O(1).
+/// A new tree with no members. Every table represents the empty sequence for it. Members that are inserted later are in the order of the keys that the adapter
+/// finds. The call takes no memory. O(1).
 #[inline]
 pub fn new<K: KeyAdapter>(adapter: K) -> RBTree<K>
     ensures empty { root_of result ≡ None }

@@ -1,5 +1,5 @@
--- The facts in this file help callers: objects stay pooled with the table of their links after each kind of step. If there is a
--- pair of tables, each table stays pooled by itself.
+-- The facts in this file help callers to prove that objects stay pooled with the table of their links (`IsPooled`). If a pool has
+-- several tables, use these facts for each table.
 use Rattle.std.specs.Prelude.{⊤}
 use Rattle.std.proofs.Common.{◌≡◌, ◌↔◌, ℕ, ◌^◌, ◌≤◌, leb, Bool, true, false, Result, Err, Option, None, Some, is_some, inl, inr, refl, sym, ap, ◌∙◌, arith}
 use Rattle.std.proofs.lemmas.Bool.{le-leb, false_from_ne_true}
@@ -17,7 +17,7 @@ use Rattle.ic_pool.specs.declared.place_error.PlaceError.TheVariants.{NoPlaceLef
 use Rattle.ic_pool.specs.Pooled.{Grows, IsPooled}
 use Rattle.ic_pool.specs.Refusals.{lacks_place, value_of}
 
--- AT FIRST the objects are pooled with a plain table, because there is no object and the table covers no place.
+-- If there is no object, and a plain table covers no place, the objects are pooled with the table.
 pub pooled_first : {W A T : Type 0} (w : Width) (is_linked : W → Bool) (unlinked : W) → is_linked unlinked ≡ false → (links : PlainTable W A ⊤) {objects : Objects T}
     → (table w unlinked links).extent.places ≡ 0 → ((p : Place) → object_at objects p ≡ None) → IsPooled (linked_by is_linked) objects (table w unlinked links)
 pooled_first w is_linked unlinked starts links {objects} none vacant = record {
@@ -32,11 +32,11 @@ none_placed None h = refl
 none_placed (Some v) h = let never : true ≡ false = h in absurd (cc)
 
 module _ {E T : Type 0} {linked : E → Bool} {old : Objects T} {a : Table E} (pooled : IsPooled linked old a) where
-  -- AFTER `place`, whatever it returned, the old objects are pooled with the table, which may have grown.
+  -- After `place`, accepted or refused, the old objects are pooled with the table, which may have grown.
   pub pooled_grown : {b : Table E} → Grows a b → IsPooled linked old b
   pooled_grown grows = record { covered = λ p is. grows.covered p (pooled.covered p is); vacant = λ p none. rw (grows.entries p) (pooled.vacant p none) }
 
-  -- AFTER `place` of a value the objects, including the new one, are pooled with the table.
+  -- After `place` has accepted a value, the objects, including the new one, are pooled with the table.
   pub pooled_placed : {b : Table E} {new : Objects T} {p : Place} {v : T} → Grows a b → Places old new p v → IsCovered b p → IsPooled linked new b
   pooled_placed {b} {new} {p} grows places room = record {
     covered = λ q is. elim (same_or_not q p) [
@@ -49,11 +49,11 @@ module _ {E T : Type 0} {linked : E → Bool} {old : Objects T} {a : Table E} (p
     ];
   }
 
-  -- A newly placed object is linked nowhere, so no push of it is refused.
+  -- A newly placed object is unlinked, so a plain table does not refuse to link it.
   pub new_is_free : {b : Table E} {new : Objects T} {p : Place} {v : T} → Grows a b → Places old new p v → IsUnlinked linked b p
   new_is_free {p = p} grows places = rw (grows.entries p) (pooled.vacant p places.vacant)
 
-  -- AFTER AN OBJECT WAS LINKED that is at its place, the objects are still pooled with the table.
+  -- After an object was linked, the objects are still pooled with the table. The place that was linked has to have an object.
   pub pooled_linked : {b : Table E} {p : Place} → is_placed old p ≡ true → LinksAlso linked a b p → b.extent ≡ a.extent → IsPooled linked old b
   pooled_linked {b} {p} is also extent = record {
     covered = λ q placed. let room = pooled.covered q placed in rw extent room;
@@ -63,7 +63,7 @@ module _ {E T : Type 0} {linked : E → Bool} {old : Objects T} {a : Table E} (p
     ];
   }
 
-  -- AFTER AN OBJECT WAS UNLINKED the objects are still pooled with the table.
+  -- After an object was unlinked, the objects are still pooled with the table.
   pub pooled_unlinked : {b : Table E} {p : Place} → Unlinks linked a b p → b.extent ≡ a.extent → IsPooled linked old b
   pooled_unlinked {b} {p} off extent = record {
     covered = λ q placed. let room = pooled.covered q placed in rw extent room;
@@ -73,7 +73,7 @@ module _ {E T : Type 0} {linked : E → Bool} {old : Objects T} {a : Table E} (p
     ];
   }
 
-  -- AFTER AN OBJECT WAS CHANGED, for example through `get_mut`, the objects are still pooled with the table, because the same
+  -- After an object was changed, for example through `get_mut`, the objects are still pooled with the table, because the same
   -- places have objects.
   pub pooled_changed : {new : Objects T} → ((p : Place) → is_placed new p ≡ is_placed old p) → IsPooled linked new a
   pooled_changed {new} same = record {
@@ -81,7 +81,7 @@ module _ {E T : Type 0} {linked : E → Bool} {old : Objects T} {a : Table E} (p
     vacant = λ p none. pooled.vacant p (none_placed (object_at old p) (sym (same p) ∙ ap is_some none));
   }
 
-  -- AFTER `remove` of an object that is linked nowhere, the remaining objects are pooled with the table.
+  -- After `remove` of an object that is unlinked, the remaining objects are pooled with the table.
   pub pooled_freed : {new : Objects T} {p : Place} → IsUnlinked linked a p → Frees old new p → IsPooled linked new a
   pooled_freed {new} {p} free frees = record {
     covered = λ q is. elim (same_or_not q p) [
@@ -94,8 +94,8 @@ module _ {E T : Type 0} {linked : E → Bool} {old : Objects T} {a : Table E} (p
     ];
   }
 
--- WHY A VALUE WAS NOT PLACED: the error says that no place was left exactly if no place was left. `full` and `value` are clauses
--- of the contract of `place`.
+-- The error says that no place was left exactly if no place was left. The argument `full` is the clause `full` of the contract of
+-- `place`, and `same` is the first part of the clause `refused`.
 pub lacks_exactly : {T X : Type 0} (refused : PlaceError T) {value : T} (next : ℕ) → ((let r : Result X (PlaceError T) = Err refused in r ≡ Err (NoPlaceLeft value)) ↔ (2 ^ 32 ≤ next)) → value_of refused ≡ value
     → lacks_place refused ≡ leb (2 ^ 32) next
 lacks_exactly {T} {X} (NoPlaceLeft v) {value} next full same =

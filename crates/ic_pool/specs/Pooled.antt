@@ -2,18 +2,18 @@
 use Rattle.std.specs.Prelude.{◌≡◌, Bool, true, None, refl}
 use Rattle.ic_link_ops.specs.Prelude.{Place, Objects, object_at, is_placed, Table, IsCovered, IsUnlinked}
 
--- THE TABLE MAY HAVE GROWN: each entry stays as it was, and each place that was covered is still covered.
+-- The table `new` is the table `old`, or `old` after it has grown: each entry stays, and each covered place is still covered.
 pub record Grows {E : Type 0} (old new : Table E) : Type 0 where
   pub entries : (p : Place) → new.entry p ≡ old.entry p
   pub covered : (p : Place) → IsCovered old p → IsCovered new p
 
--- THE OBJECTS ARE POOLED WITH THE TABLE: the table covers the place of each object, and it links only places that have an object.
+-- The objects are pooled with the table t: the table covers the place of each object, and each linked place has an object.
 pub record IsPooled {E T : Type 0} (linked : E → Bool) (objects : Objects T) (t : Table E) : Type 0 where
   pub covered : (p : Place) → is_placed objects p ≡ true → IsCovered t p
   pub vacant : (p : Place) → object_at objects p ≡ None → IsUnlinked linked t p
 
--- A table that grows still covers each place that it covered, and unlinked places stay unlinked. A table that does not change
--- counts as grown.
+-- If a table grows, covered places stay covered, and unlinked places stay unlinked. `Grows` also holds if the table does not
+-- change.
 module _ {E : Type 0} where
   pub grows_room : {old new : Table E} → Grows old new → (p : Place) → IsCovered old p → IsCovered new p
   grows_room grows = grows.covered

@@ -48,15 +48,15 @@ impl<T, L: Tables, A: Allocator> Pool<T, L, A> {
         }
     }
 
-    /// Puts `value` at a place, after the call has made room for the links of the object. O(1), and the call takes memory only if
-    /// a table or the objects grow.
+    /// Puts `value` at a place, and first makes room for the links of the new object. O(1), and the call takes memory only if a
+    /// table or the objects grow.
     ///
-    /// If the call is refused, the error returns the value, and no object and no link has changed. The error is `NoPlaceLeft`
+    /// If the call is refused, the error contains the value, and all objects and links are as before. The error is `NoPlaceLeft`
     /// exactly if all 4,294,967,296 places are in use. In every other case the error is `OutOfMemory`, for example if a table
     /// with words of 4 bytes can name no further place.
     ///
-    /// If the table is a plain table, the clause `keeps` is the predicate `Grows`. The field `entries` of `Grows` states that
-    /// each link is as it was, and lemmas on lists need this fact.
+    /// If the table is a plain table, the clause `keeps` is the predicate `Grows`. The field `entries` of `Grows` says that each
+    /// link is as before, a fact that lemmas on lists require.
     pub fn place(&mut self, value: T) -> Result<UnsafeRef<T>, PlaceError<T>>
         ensures placed { IfOk result (λ object. Places self.old.objects self.new.objects object value) }
         ensures covered { IfOk result (λ object. L.Covers self.new.links object) }

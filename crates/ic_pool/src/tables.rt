@@ -1,4 +1,4 @@
-//! Tables that cover the same places grow together: there is one table, or a pair of tables.
+//! This file defines the trait of tables that grow together, so that they cover the same places.
 //!
 //! ```text
 //! let mut links = (linked_list::LinkOps::new(rt.alloc()), rbtree::LinkOps::new(rt.alloc()));
@@ -17,13 +17,13 @@ pub trait Tables {
     // The greatest number of places that all the tables can cover.
     ghost most: { ℕ };
 
-    // THE PLACE HAS ROOM for its link in each of the tables.
+    // The place has room for its link: each of the tables covers the place.
     ghost Covers: { Self → Place → Type 0 };
 
-    // THE PLACE IS FREE: no table links it.
+    // The place is free: it is linked in none of the tables.
     ghost IsFree: { Self → Place → Type 0 };
 
-    // EACH ENTRY STAYS as it was, and each place that was covered is still covered. The tables may have grown.
+    // From the first state to the second, each entry stays, and each covered place is still covered. The tables may have grown.
     ghost Keeps: { Self → Self → Type 0 };
 
     /// The greatest number of places that can be covered: 4,294,967,296, or 536,870,911 if one of the tables has words
@@ -41,8 +41,8 @@ pub trait Tables {
         ensures covers { OnOk result ((place : Place) → index_of place < count → Covers self.new place) }
         ensures keeps { Keeps self.old self.new };
 
-    // The laws: If the tables are kept, each place that had room still has room, and each free place stays free. Tables that do
-    // not change are kept.
+    // The laws: Let `Keeps old new` hold. Each place that has room in `old` also has room in `new`, and each place that is free
+    // in `old` is free in `new`. Tables that do not change satisfy `Keeps`.
     ghost keeps_room: { (old new : Self) (place : Place) → Keeps old new → Covers old place → Covers new place };
 
     ghost keeps_free: { (old new : Self) (place : Place) → Keeps old new → IsFree old place → IsFree new place };
@@ -81,7 +81,7 @@ impl<W: Words, A: Allocator, V: LinkValue> Tables for PlainTable<W, A, V> {
     ghost keeps_itself = { λ tables. grows_itself (table_beside W.width W.unlinked V.initial V.printed tables) };
 }
 
-/// A pair of tables, or of pairs of tables. An object has a link in each table.
+/// A pair of tables. Each part of the pair can be a pair of tables itself. An object has a link in each table.
 impl<L: Tables, M: Tables> Tables for (L, M) {
     ghost most = { min L.most M.most };
 

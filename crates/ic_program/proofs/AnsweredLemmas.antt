@@ -63,7 +63,7 @@ pub fast_answered : (text rest : List ℕ) (old new : Family OwnKey ℕ) (comman
     → (command : Command ℕ ℕ) × (command_in (words_in text) ≡ Some command) × IsLawful nat_cmp own_key old command replied new × (rest ≡ after_line text)
 fast_answered text rest old new command reply replied said sound step same = (command, said.0, step_lawful old new command command reply replied refl sound step same, said.1)
 
--- if no line was answered, if one line was answered, and if more lines were answered after others, `Answered` holds of these lines
+-- `Answered` holds of an empty list of lines, of one line that was answered, and of lines that were answered after other lines
 pub none_answered : (w : Family OwnKey ℕ) (output : Option (List ℕ)) → Answered [] w w output output
 none_answered w output = record { commands = []; said = refl; replies = []; lawful = refl; printed = Appends-nil output }
 
@@ -189,7 +189,7 @@ short_then (Some ls) more Next old mid output then_output now a s goes_on =
       left = (rest.0, a.left.1 ∙ ap (λ (l : List (List ℕ)). a.answered ++ l) rest.1 ∙ sym (append_assoc a.answered s.answered rest.0));
     }
 
--- a beginning of the bytes stays a beginning, if both come after the same known bytes
+-- if `now` is a beginning of `whole`, then the bytes of `known` and `now` are a beginning of the bytes of `known` and `whole`
 cut_after_known : (known : Option (List ℕ)) (whole now : List ℕ) → CutTo (Some whole) (Some now) → CutTo (append_known known whole) (append_known known now)
 cut_after_known None whole now cut = tt
 cut_after_known (Some xs) whole now cut = (cut.0, ap (λ (l : List ℕ). xs ++ l) cut.1 ∙ sym (append_assoc xs now cut.0))
@@ -218,7 +218,7 @@ passed_far (Err passed) stop before after IsLeft all old new output now is q =
     subst (λ (s : Stop). UnlessLoss s (AnsweredShort all old output now) (AnsweredFirst all (λ count others. StopLeft s after (before + count) others) old new output now)) (sym is.1) q
 passed_far (Ok x) stop before after IsLeft all old new output now is q = absurd is.1
 
--- a stop by which answers may be lost states `Loss`
+-- if answers may be lost by the stop, `UnlessLoss` follows from `Loss`
 pub lost : (Loss P : Type 0) (stop : Stop) → IsLost stop → Loss → UnlessLoss stop Loss P
 lost Loss P NoCommand is loss = absurd is
 lost Loss P (AFault fault) is loss = subst (λ b. cond b Loss P) (sym is) loss
@@ -337,7 +337,7 @@ then_room text mid rest before at after old then_old new output known then_known
     short_first (Some (lines text)) (λ count others. (after ≡ before + count) × (others ≡ lines rest)) old new output (append_known known then_waits) (append_known then_known now)
     (then_first text mid rest before at after after old then_old new new output known known waits then_waits then_waits a b (Keeps-refl (append_known known then_waits)) refl refl) cut
 
--- MORE LINES FOLLOW: what was answered of the first lines was answered of all lines, and the lines that follow remain, too
+-- IF MORE LINES FOLLOW, the answered lines are also the first of all lines, and the lines that follow remain, too
 stop_more : (stop : Stop) (read count : ℕ) (others more : List (List ℕ)) → StopLeft stop read count others → StopLeft stop read count (others ++ more)
 stop_more NoCommand read count [] more left = absurd left
 stop_more NoCommand read count (line ∷ others) more left = left
@@ -413,7 +413,7 @@ pub step_and_short : (all : Option (List (List ℕ))) (mid : List (List ℕ)) (b
 step_and_short all mid before at old then_old output then_output now a s =
     short_then all (Some mid) (λ count others. (at ≡ before + count) × (others ≡ mid)) old then_old output then_output now a s (λ count others next. ap (λ (l : List (List ℕ)). Some l) (sym next.1))
 
--- the bytes of an incomplete line are kept for the next read, unless there is not enough memory. Then answers may be lost
+-- the bytes of an incomplete line are kept for the next read. If there is not enough memory for these bytes, answers may be lost
 pub kept_far : {T : Type 0} (r : Result T Stop) (before after : ℕ) (IsLeft : List (List ℕ) → Type 0) (all : Option (List (List ℕ))) (old new : Family OwnKey ℕ) (output now : Option (List ℕ))
     → IfErr r IsLost → AnsweredShort all old output now → (IsOk r → AnsweredFirst all (λ count others. (after ≡ before + count) × IsLeft others) old new output now)
     → HowFar r before after (λ _ others. IsLeft others) all old new output now

@@ -80,7 +80,7 @@ pub neither_fast_call : {A : Type 0} (r : Option A) (slot at : ℕ) → slot ≡
 neither_fast_call r slot at is name second read read_second text entries none none_second =
     if_fast (begins_with 32 text ≡ false) (IsTrue (is_fast slot)) (IsNoCallAt slot (words_in text)) r (neither_call r slot at is name second read read_second text entries none none_second)
 
--- no call has a slot that is not in the list of slots
+-- if a slot is not in the list of slots, no call has this slot
 none_with : {A : Type 0} (slot : ℕ) (ss : List ℕ) (entries : List A) → AllByRecursion (λ s. slot ≢ s) ss → with_slot slot ss entries ≡ []
 none_with slot [] entries others = refl
 none_with slot (s ∷ ss) [] others = refl

@@ -68,7 +68,7 @@ pub appended_after : (known : Option (List ℕ)) (bytes : List ℕ) → Appends 
 appended_after None bytes = tt
 appended_after (Some xs) bytes = refl
 
--- a true statement P holds of an error, too
+-- a statement P that is true also holds if the result is an error
 pub on_err : {T E P : Type 0} (r : Result T E) → P → OnErr r P
 on_err (Ok x) p = tt
 on_err (Err e) p = p

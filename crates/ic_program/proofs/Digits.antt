@@ -62,7 +62,7 @@ module _ (text : List ℕ) where
     abbrev Stops : ℕ → Type 0
     Stops i = is_ascii_digit (get_or text i 0) ≡ false
 
-    -- a text that begins with exactly two, three or four digits has the number that these digits give
+    -- if a text begins with exactly two, three or four digits, its leading digits have the value that is computed from these digits
     to_one : (a : ℕ) → Digit 0 a → ReadTo a 1
     to_one a d =
         let start : ReadTo 0 0 = (refl, omega arith) in

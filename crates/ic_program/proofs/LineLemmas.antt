@@ -1,4 +1,4 @@
--- What a line stands for, found from its words.
+-- What a line means, found from its words.
 use Rattle.std.proofs.Common.{◌≡◌, ◌≢◌, ℕ, ◌<◌, List, [], ◌∷◌, Option, Some, None, refl, sym, ap, ◌∙◌}
 use Rattle.ic_world.specs.declared.call.Command.{Command}
 use Rattle.ic_program.specs.declared.line.Line.TheVariants.{Empty, Call, NoCommand}

@@ -34,7 +34,7 @@ pieces_more : (x : ℕ) (xs : List ℕ) → (x == 10) ≡ false → pieces (x �
 unfolding pieces
 pieces_more x xs not = slice_split-cons_no (λ b. b == 10) x xs not
 
--- a list of pieces of a text has a first piece
+-- the pieces of a text are the parts between its line feeds. There is always a first piece
 data First (ps : List (List ℕ)) : Type 0 where
   first : (p : List ℕ) (others : List (List ℕ)) → ps ≡ p ∷ others → First ps
 
@@ -180,7 +180,8 @@ after_shorter (x ∷ xs) rest some is =
     cond_both (x == 10) xs (after_line xs) (λ t. length t < length (x ∷ xs)) (λ _. omega arith) (λ _. omega (arith, after_within xs)) in
     subst (λ (r : List ℕ). length r < length (x ∷ xs)) (sym is) shorter
 
--- the text after the first line is found by its length: the bytes before it are skipped
+-- the text after the first line is what remains of the text if all bytes before it are dropped. The number of these bytes is the difference of the
+-- lengths of both texts
 pub after_taken : (text : List ℕ) → drop (length text - length (after_line text)) text ≡ after_line text
 after_taken [] = refl
 after_taken (x ∷ xs) =

@@ -1,4 +1,4 @@
--- Which lines remain for a reader, after it was read.
+-- Which lines remain after bytes were read from a reader.
 use Rattle.std.proofs.Common.{◌≡◌, ℕ, ◌+◌, true, List, [], ◌++◌, length, drop, Option, Some, None, IfSome, sym, ap, ◌∙◌, subst, arith, append-nil, take-append-drop}
 use Rattle.std.specs.Str.Lines.{lines}
 use Rattle.std.specs.Io.{StartsWith}
@@ -14,7 +14,7 @@ module _ (old new : Family OwnKey ℕ) (output now : Option (List ℕ)) where
   abbrev unknown : {all : Option (List (List ℕ))} {P Q : ℕ → List (List ℕ) → Type 0} → AnsweredFirst all P old new output now → AnsweredFirst None Q old new output now
   unknown a = record { answered = a.answered; is = a.is; left = tt }
 
-  -- nothing more is to be read, so that the bytes of the incomplete line are all lines that remain
+  -- if nothing more is to be read, the lines that remain are those of the incomplete line's bytes
   pub read_end : (left : Option (List ℕ)) (cut : List ℕ) (P : ℕ → List (List ℕ) → Type 0) → IfSome left (λ xs. xs ≡ []) → AnsweredFirst (Some (lines cut)) P old new output now
       → AnsweredFirst (lines_of_both cut left) P old new output now
   read_end None cut P none a = record { answered = a.answered; is = a.is; left = tt }

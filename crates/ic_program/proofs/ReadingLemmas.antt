@@ -15,7 +15,7 @@ use Rattle.ic_program.specs.Grammar.{number_in}
 use Rattle.ic_program.specs.Text.{words_in, after_line, ends_word, word_in, before_words, ReadsWord, first_says, Reads, BeginsWithNumber, is_name, without_last, ReadsName, IsNoName}
 use Rattle.ic_program.proofs.TextLemmas.{after_word, after_end, after_more, after_stops, word_end, word_more, words_are, words_end, word_or_end, after_line_word, word_then_after}
 
--- `says` reads x from the first word of a list, which is then not empty
+-- if `says` reads x from the first word of a list of words, the list has a first word
 pub first_parts : {A : Type 0} (says : List ℕ → Option A) (words : List (List ℕ)) (x : A) (others : List (List ℕ)) → first_says says words ≡ Some (x, others)
     → (word : List ℕ) × (words ≡ word ∷ others) × (says word ≡ Some x)
 first_parts says [] x others is = absurd (cc (is))
@@ -44,7 +44,8 @@ no_first {A} says word others is = at (says word) refl is
     at None none _ = none
     at (Some y) _ is = absurd (cc (is))
 
--- a word was read, and `says` reads x from it, or cannot read it
+-- `word` was read from a text. If `says` reads x from `word`, it reads x from the first word of the text. If it cannot read `word`, it cannot read
+-- the first word of the text
 pub word_says : {A : Type 0} (says : List ℕ → Option A) (text word rest : List ℕ) (x : A) → ReadsWord text word rest → says [] ≡ None → says word ≡ Some x → Reads says text x rest
 word_says says text [] rest x reads none is = absurd (cc (none, is))
 word_says says text (c ∷ cs) rest x reads none is = record { first = ap (first_says says) reads.words ∙ first_is says (c ∷ cs) (words_in rest) x is; after = reads.after }
@@ -53,7 +54,8 @@ pub word_says_not : {A : Type 0} (says : List ℕ → Option A) (text word rest 
 word_says_not says text [] rest reads is = ap (first_says says) (reads.none refl)
 word_says_not says text (c ∷ cs) rest reads is = ap (first_says says) reads.words ∙ first_none says (c ∷ cs) (words_in rest) is
 
--- a number was read from a word, whether or not the text after the word is returned with it
+-- the number that was read from `word` is the number of the first word of the text. `number_begins` is about a call that returns only the number, and
+-- `number_after` is about a call that returns the text after the word, too
 pub number_begins : (text word rest : List ℕ) (result : Option ℕ) → ReadsWord text word rest → result ≡ number_in word → BeginsWithNumber text result
 number_begins text word rest None reads is = word_says_not number_in text word rest reads (sym is)
 number_begins text word rest (Some n) reads is = (words_in rest, (word_says number_in text word rest n reads refl (sym is)).first)
@@ -131,7 +133,7 @@ small_reads text rest number digits is some few rest_is stops =
     first_of [] rest number all some few is = absurd (omega (arith, some))
     first_of (d ∷ ds) rest number all some few is = first_is number_in (d ∷ ds) (words_in rest) number (small_is (d ∷ ds) all some few ∙ ap (λ (n : ℕ). Some n) (sym is))
 
--- A TEXT BEGINS WITH A NAME and a space, and the name is its first word
+-- IF A TEXT BEGINS WITH A NAME and a space, the name is its first word
 named_word : (name text : List ℕ) → is_name name ≡ true → take (length name) text ≡ name → (word_in text ≡ without_last name) × (after_word text ≡ 32 ∷ drop (length name) text)
 named_word [] text is same = absurd (cc (is))
 named_word (x ∷ []) [] is same = absurd (cc (same))
@@ -156,7 +158,7 @@ name_read (x ∷ y ∷ ys) text rest is long same after =
       after = ap after_line after ∙ ap after_line (sym w.1) ∙ after_line_word text;
     }
 
--- if the first word of a line is the name, the line has no other word, unless a space follows the name
+-- if the first word of a line is the name, and no space follows the name, the line has no other word
 name_is : (name : List ℕ) → is_name name ≡ true → name ≡ without_last name ++ 32 ∷ []
 name_is [] is = absurd (cc (is))
 name_is (x ∷ []) is = ap (λ y. y ∷ []) (eqb-true x 32 is)

@@ -22,7 +22,7 @@ use Rattle.ic_program.proofs.CutLemmas.{cut_nothing, cut_more, cut_kept, appende
 abbrev pub lines_in : Option (List ℕ) → Option (List (List ℕ))
 lines_in input = lines_of_both [] input
 
--- if no bytes wait, the known bytes with the waiting bytes are the known bytes
+-- if no bytes wait, the known bytes stay the same when the waiting bytes are appended to them
 none_waits : (known : Option (List ℕ)) (waits : List ℕ) → waits ≡ [] → Keeps known (append_known known waits)
 none_waits None waits is = tt
 none_waits (Some xs) waits is = ap (λ (l : List ℕ). xs ++ l) is ∙ append-nil xs

@@ -1,5 +1,4 @@
--- What was written about workers: the numbers of workers and places that the arguments give, and that the result stays true if nothing more is
--- written.
+-- Lemmas about workers. The arguments determine the numbers of workers and places, and `HaveShared` stays true if nothing more is written.
 use Rattle.std.proofs.Common.{◌≡◌, Option, List, ℕ, [], ◌∷◌, String, inl, inr, sym, subst, ◌∙◌}
 use Rattle.std.specs.Io.KnownBytes.{Appends, Keeps}
 use Rattle.std.proofs.KnownBytes.{Keeps-trans}

@@ -121,7 +121,7 @@ no_space (x ∷ xs) = cond_both (x == 32) (after_spaces xs) (x ∷ xs) (λ t. be
 pub words_end : (text : List ℕ) → ends_line text ≡ true → words_in text ≡ []
 words_end text is = ap words_of (line_end text is)
 
--- a text that does not begin with a space begins with a word, or its line has none
+-- if a text begins neither with a space nor with a word, it begins with the end of a line
 pub word_or_end : (text : List ℕ) → begins_with 32 text ≡ false → word_in text ≡ [] → ends_line text ≡ true
 word_or_end [] not none = refl
 word_or_end (x ∷ xs) not none = at (ends_line (x ∷ xs)) refl

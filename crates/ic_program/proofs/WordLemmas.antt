@@ -1,4 +1,4 @@
--- What single words of a line stand for.
+-- What single words of a line mean.
 use Rattle.std.proofs.Common.{◌≡◌, ℕ, ◌+◌, ◌*◌, ◌^◌, ◌<◌, ◌≤◌, true, List, [], ◌∷◌, length, Option, Some, None, MatchOption, refl, sym, ap, ◌∙◌}
 use Rattle.std.specs.Str.{all_ascii_digits}
 use Rattle.std.specs.Str.Parse.{AllDigits, digits_value}
@@ -10,7 +10,7 @@ use Rattle.ic_program.specs.Grammar.{number_in, nth_place}
 use Rattle.ic_program.specs.Number.{IsNumber}
 use Rattle.ic_program.proofs.Digits.{is_small, is_digit}
 
--- a number below 2 ^ 32 stands for the place with this index, and any other number for no place
+-- a number below 2 ^ 32 means the place with this index, and any other number means no place
 pub place_is : (r : Option Place) (n : ℕ) → MatchOption r (2 ^ 32 ≤ n) (λ p. (index_of p ≡ n) × n < 2 ^ 32) → r ≡ nth_place n
 place_is None n large = sym (cond-false _ _ _ (le-ltb n 4294967296 large))
 place_is (Some p) n is =
@@ -25,7 +25,7 @@ all_digits : (word : List ℕ) → all_ascii_digits word ≡ true → AllDigits 
 all_digits [] all = tt
 all_digits (c ∷ cs) all = (is_small c (and_parts _ _ all).0, all_digits cs (and_parts _ _ all).1)
 
--- a word stands for a number exactly if it has 1 to 20 digits and its value is below 2^64
+-- a word means a number exactly if it has 1 to 20 digits and its value is below 2^64
 pub number_is : (word : List ℕ) → IsNumber word → number_in word ≡ Some (digits_value 10 word)
 number_is word is =
     cond-true _ _ _ (and_from _ _ (and_from _ _ (and_from _ _ (all_ascii word is.0.1) (lt-ltb 0 (length word) is.0.0)) (le-leb (length word) 20 is.1)) (lt-ltb (digits_value 10 word) (2 ^ 64) is.2))

@@ -1,4 +1,4 @@
--- THE GRAMMAR: which command a line stands for.
+-- THE GRAMMAR: which command a line means.
 use Rattle.std.specs.Prelude.{ℕ, ◌*◌, ◌+◌, ◌^◌, ◌&&◌, List, [], ◌∷◌, length, drop, filter, codes, Option, Some, None, option_map, option_and_then, nat_eq, nat_lt, nat_le, ◌==◌, if◌then◌else◌, bytes_eq}
 use Rattle.std.specs.List.{slice_split, starts_with}
 use Rattle.std.specs.Str.{all_ascii_digits}
@@ -130,7 +130,7 @@ calls =
     ∷ (codes "force_unlink", two number_in place_in call.ForceUnlink)
     ∷ []
 
--- THE COMMAND THAT WORDS STAND FOR: the first word is the name of a call, and the words after it are its arguments
+-- THE COMMAND THAT WORDS MEAN: the first word is the name of a call, and the words after it are its arguments
 abbrev pub command_among : List (List ℕ × (List (List ℕ) → Option (Command ℕ ℕ))) → List (List ℕ) → Option (Command ℕ ℕ)
 command_among entries [] = None
 command_among entries (name ∷ words) = option_and_then (λ read. read words) (named entries name)

@@ -35,8 +35,8 @@ pub record Answered (answered : List (List ℕ)) (old new : Family OwnKey ℕ) (
   pub lawful : AreLawful nat_cmp own_key old commands replies new
   pub printed : Appends output now (lines_of replies)
 
--- THE FIRST LINES OF `all` WERE ANSWERED, and `IsLeft` holds of the number of answered lines and of the lines that remain. If the lines are not
--- known, nothing is stated of the remaining lines
+-- THE FIRST LINES OF `all` WERE ANSWERED, and `IsLeft` holds of the number of answered lines and of the lines that remain. If `all` is not known,
+-- nothing is stated of the remaining lines
 pub record AnsweredFirst (all : Option (List (List ℕ))) (IsLeft : ℕ → List (List ℕ) → Type 0)
     (old new : Family OwnKey ℕ) (output now : Option (List ℕ)) : Type 0 where
   pub answered : List (List ℕ)
@@ -64,8 +64,8 @@ is_loss (Reading lines) = false
 is_loss Writing = true
 is_loss Memory = true
 
--- where a fault stopped the run: at a line that is not UTF-8, or after the lines that were read if reading failed. Of a failed write and of too
--- little memory nothing is stated
+-- where a fault stopped the run: at a line that is not UTF-8, or after the lines that were read if reading failed. If a write failed or memory ran
+-- out, nothing is stated
 abbrev pub FaultLeft : Fault → ℕ → List (List ℕ) → Type 0
 FaultLeft (NotText line) count others = NotTextLeft line count others
 FaultLeft (Reading read) count others = read ≡ count
@@ -77,11 +77,13 @@ abbrev pub StopLeft : Stop → ℕ → ℕ → List (List ℕ) → Type 0
 StopLeft NoCommand read count others = NoCommandLeft read count others
 StopLeft (AFault fault) read count others = FaultLeft fault count others
 
--- the lines of a text: it begins with the bytes `cut` of an incomplete line, and goes on with the bytes `more` if these are known
+-- the lines of the text that begins with the bytes `cut` of an incomplete line, and goes on with the bytes `more`. The result is none if `more` is
+-- not known
 abbrev pub lines_of_both : List ℕ → Option (List ℕ) → Option (List (List ℕ))
 lines_of_both cut more = option_map (λ bytes. lines (cut ++ bytes)) more
 
--- the lines that remain after a read: those of the bytes `cut` and `more` together if more was read, and none if there was nothing more to read
+-- `others` are the lines that remain after a read. If the read found bytes (`true`), they are the lines of `cut` and `more` together. If it was at
+-- the end of the input (`false`), no line remains
 abbrev pub IsLeftToRead : List ℕ → Option (List ℕ) → Bool → List (List ℕ) → Type 0
 IsLeftToRead cut more true others = lines_of_both cut more ≡ Some others
 IsLeftToRead cut more false others = others ≡ []
@@ -96,8 +98,8 @@ abbrev pub UnlessLoss : Stop → Type 0 → Type 0 → Type 0
 UnlessLoss NoCommand Loss P = P
 UnlessLoss (AFault fault) Loss P = cond (is_loss fault) Loss P
 
--- HOW MANY LINES WERE ANSWERED, given the numbers `before` and `after` of lines that were read before and after the function. The remaining lines are
--- as the result says. If answers may be lost, only a beginning of them was written
+-- HOW FAR A FUNCTION ANSWERED LINES: it answered the first lines of `all`. Before the function `before` lines were read, and after it `after` lines.
+-- The result says which lines remain. If answers may be lost, perhaps only a beginning of the answers was written
 abbrev pub HowFar : {T : Type 0} → Result T Stop → ℕ → ℕ → (T → List (List ℕ) → Type 0) → Option (List (List ℕ))
     → Family OwnKey ℕ → Family OwnKey ℕ → Option (List ℕ) → Option (List ℕ) → Type 0
 HowFar (Ok x) before after IsLeft all old new output now =

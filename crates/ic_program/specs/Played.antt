@@ -1,5 +1,5 @@
 -- WHAT A RUN DID: which lines it read, which calls they are, and what it printed. `input` has the bytes that the reader can give. `output` has the
--- bytes of the writer before the run, and `now` has its bytes after the run. Each is `None` if no contract can name the bytes.
+-- bytes of the writer before the run, and `now` has its bytes after the run. Each is `None` if its bytes are not known to the contract.
 use Rattle.std.specs.Prelude.{◌≡◌, ◌⊎◌, ℕ, ◌+◌, ◌++◌, List, [], ◌∷◌, length, Option, Some, None, IfSome, ⊤}
 use Rattle.std.specs.FinMap as map
 use Rattle.std.specs.Ordering.{nat_cmp}

@@ -11,7 +11,7 @@ reply_in_words Done = done
 reply_in_words Nothing = nothing
 reply_in_words (Refused refusal) = refused refusal
 
--- THE REPLY that a short answer stands for
+-- THE REPLY by which contracts describe a short answer
 abbrev pub reply_of_short : ShortAnswer → Reply
 reply_of_short (Worded words) = reply_in_words words
 reply_of_short (Object place) = object place

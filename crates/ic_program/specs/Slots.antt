@@ -1,5 +1,5 @@
--- WHICH CALLS HAVE WHICH SLOT. The parser computes the number of a slot from the first letters of a line, and first looks among the calls with this
--- slot.
+-- WHICH CALLS HAVE WHICH SLOT. The parser computes the number of a slot from the first letters of a line, and first compares the line with the calls
+-- of this slot.
 use Rattle.std.specs.Prelude.{◌≡◌, ℕ, List, [], ◌∷◌, None, Bool, nat_eq, if◌then◌else◌}
 use Rattle.std.specs.List.{list_any}
 use Rattle.ic_program.specs.Grammar.{calls, command_among}

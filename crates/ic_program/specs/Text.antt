@@ -73,12 +73,13 @@ pub record Reads {A : Type 0} (says : List ℕ → Option A) (text : List ℕ) (
 abbrev pub ReadsFirst : {A : Type 0} → (List ℕ → Option A) → List ℕ → Option (A × Bor (List ℕ)) → Type 0
 ReadsFirst says text result = MatchOption result (first_says says (words_in text) ≡ None) (λ read. Reads says text read.0 read.1.now)
 
--- the result is the number that the first word of the text is, or none if the first word is not a number
+-- the result is the number that the first word of the text means, or none if the first word is not a number
 abbrev pub BeginsWithNumber : List ℕ → Option ℕ → Type 0
 BeginsWithNumber text result =
     MatchOption result (first_says number_in (words_in text) ≡ None) (λ number. (words : List (List ℕ)) × (first_says number_in (words_in text) ≡ Some (number, words)))
 
--- whether bytes can be the name of a call and a space: at least one byte above 32, and then the space, which is the byte 32
+-- whether the bytes end with a space, which is the byte 32, and all bytes before it are above 32. `IsName n` says that the bytes can be the name of a
+-- call and a space, and that n is from 4 to 24
 abbrev pub is_name : List ℕ → Bool
 is_name [] = false
 is_name (x ∷ []) = x == 32
@@ -93,7 +94,7 @@ without_last (x ∷ []) = []
 without_last (x ∷ y ∷ ys) = x ∷ without_last (y ∷ ys)
 
 -- `ReadsName`: the first word of the text is the name, and `rest` is the text after it. `IsNoName`: if the text does not begin with a space, its
--- first word is not the name, or it is the only word
+-- first word is not the name, or the name is the only word of its first line
 pub record ReadsName (name text rest : List ℕ) : Type 0 where
   pub words : words_in text ≡ without_last name ∷ words_in rest
   pub after : after_line rest ≡ after_line text

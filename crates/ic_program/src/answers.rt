@@ -16,9 +16,10 @@ use ic_world::Answer;
 use itoa::Buffer;
 use std::alloc::{AllocError, Allocator};
 
-/// Appends the line of an answer: its text, and a line feed. No other function prints an answer.
+/// Appends the line of an answer: its text, and a line feed. `ShortAnswer::push` does this for the answers of the most frequent calls.
 ///
-/// It uses no formatter, which would take as long as the call itself. If there is not enough memory, the lines stay as they were. O(bytes).
+/// It uses no formatter, because a formatter would take as long as the call itself. If there is not enough memory, the lines stay as they were.
+/// O(bytes).
 #[inline]
 pub fn push_answer<M: Allocator, N: Allocator>(
     lines: &mut Vec<u8, M>,
@@ -85,7 +86,7 @@ pub(crate) fn push_place<M: Allocator>(
     push_numbered(lines, b"object ", object.index() as u64, b"\n")
 }
 
-/// Appends some words, a number in decimal digits, and some bytes after the number.
+/// Appends the bytes `words`, the number in decimal digits, and the bytes `after`.
 pub(crate) fn push_numbered<M: Allocator>(
     lines: &mut Vec<u8, M>,
     words: &[u8],
@@ -100,7 +101,7 @@ pub(crate) fn push_numbered<M: Allocator>(
     lines.extend_from_slice(after)
 }
 
-// Appends a line of some words, the number of an object, and the number of compared keys.
+// Appends a line with the bytes `words`, the number of the object, and `looks`, the number of compared keys.
 fn push_object<M: Allocator>(
     lines: &mut Vec<u8, M>,
     words: &[u8],
@@ -115,7 +116,7 @@ fn push_object<M: Allocator>(
     push_numbered(lines, b"", looks, b"\n")
 }
 
-/// Appends the word `items`, the numbers of some objects, and some bytes after these numbers.
+/// Appends the word `items`, the number of the object at each place of `places`, and the bytes `after`.
 pub(crate) fn push_items<M: Allocator>(
     lines: &mut Vec<u8, M>,
     places: &[Place],
@@ -131,7 +132,7 @@ pub(crate) fn push_items<M: Allocator>(
     lines.extend_from_slice(after)
 }
 
-// Appends the line of a range, with the numbers of keys that its two searches compared.
+// Appends the line of a range. It has the numbers of keys that the two searches compared, `first` and `second`.
 fn push_range<M: Allocator>(
     lines: &mut Vec<u8, M>,
     places: &[Place],
@@ -147,8 +148,8 @@ fn push_range<M: Allocator>(
     push_numbered(lines, b"", second, b"\n")
 }
 
-// Appends the line of an object whose number has at most three digits, as most objects have. It copies a fixed number of bytes, and then cuts off
-// those that do not belong to the line.
+// Appends the line of the object with this number, which has at most three digits. It copies a fixed number of bytes, and then cuts off those that do
+// not belong to the line.
 #[inline(always)]
 fn push_short<M: Allocator>(lines: &mut Vec<u8, M>, number: u64) -> Result<(), AllocError>
     requires { number < 1000 }
@@ -176,7 +177,7 @@ pub(crate) fn push_start<const N: usize, M: Allocator>(
     Ok(())
 }
 
-// Returns the line of the object with this number, followed by other bytes, and the length of the line.
+// Returns an array that begins with the line of the object with this number, and the length of this line.
 #[inline(always)]
 #[tactic(auto, using(crate::proofs::Decimals::one_digit, crate::proofs::Decimals::two_digits, crate::proofs::Decimals::three_digits))]
 fn short_line(number: u64) -> ([u8; 11], usize)

@@ -17,13 +17,13 @@ use ic_any_collection::Kind;
 use ic_rbtree::Bound;
 use ic_unsafe_ref::Place;
 
-/// A type of arguments of calls, which a word can stand for.
+/// A type of arguments of calls. Each argument is read from one word of a line.
 pub(crate) trait Argument: Copy {
-    // The argument that a word stands for, or `None` if the word is not an argument of this type.
+    // `says` is the argument that a word means, or `None` if the word is not an argument of this type.
     ghost says: { List ℕ → Option Self };
 
-    /// Returns the argument that the first word of the line stands for, and the text after the word. The result is `None` if the word is not an
-    /// argument of this type, or the line has no word.
+    /// Returns the argument that the first word of the text means, and the text after the word. The result is `None` if the word is not an argument
+    /// of this type, or if the first line of the text has no word.
     fn read<'l>(text: &'l [u8]) -> Option<(Self, &'l [u8])>
         ensures { ReadsFirst says text.now result };
 }
@@ -42,8 +42,8 @@ impl Argument for u64 {
     }
 }
 
-// Returns the number that the first word of the line stands for, with any count of digits. It does not return the text after the word as well,
-// because a result of both would be passed through memory.
+// Returns the number that the first word of the text means, with any count of digits. It does not also return the text after the word, because a
+// result with a number and a text would be passed through memory.
 #[cold]
 #[inline(never)]
 fn any_number(text: &[u8]) -> Option<u64>

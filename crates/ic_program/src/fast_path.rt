@@ -1,4 +1,4 @@
-//! The most frequent calls. The parser makes a frequent call as soon as it has found the name of the call.
+//! The most frequent calls. A frequent call is made as soon as its name and its arguments are read.
 //!
 //! ```text
 //! answer_fast(&mut world, b"push_back 0 3\n..") // the answer, and the text after the line
@@ -21,8 +21,8 @@ use crate::short_answer::{ShortAnswer, done, found, replaced};
 use ic_world::{Call, Command, Gap, Neighbor, Seek, World};
 use std::alloc::Allocator;
 
-// A row of the table of calls, for a text that begins with the name in the row. With `read` it returns the command and the text after the line. With
-// `make` it makes the call, and returns the answer and the text after the line.
+// A row of the table of calls, which is tried if the text may begin with the name in the row. With `read`, the row returns the command and the text
+// after the line. With `make`, it makes the call, and returns the answer and the text after the line.
 macro_rules! row {
     ((read $text:ident) $method:ident($first:ident) = $name:literal, $answer:ident, $command:expr) => {{
         let ($first, rest) = one($text, $name)?;
@@ -55,7 +55,7 @@ macro_rules! row {
     };
 }
 
-// The slot of a row. A row has one slot for reading a call, and another for making it.
+// The slot of a row. A row has one slot for reading the call (`read`), and another slot for making the call (`make`).
 macro_rules! slot {
     ((read $text:ident) $slot:pat, $fast:pat) => {
         $slot
@@ -109,9 +109,9 @@ fn fast_slot_of(text: &[u8]) -> u64 {
     u64::from_le_bytes(*bytes).wrapping_mul(0x4696_eecd_d99b_1280) >> 60
 }
 
-/// Makes the call in the first line of a text, if it is in the table, and returns its answer with the text after the line. If it returns `None`, it
-/// has made no call, and the line may still be any call. It chooses a row by the first letters of the line, and compares the line with the names of
-/// this row only. O(1), plus the cost of the call.
+/// Makes the call in the first line of a text, if the call is in the table. It returns the answer and the text after the line. If it returns `None`,
+/// it has made no call, and the line may still be any call. It chooses a row by the first letters of the line, and compares the line with the names
+/// of this row only. O(1), plus the cost of the call.
 #[inline(always)]
 pub(crate) fn answer_fast<'l, M: Allocator + Copy>(
     world: &mut World<OwnKey, M>,

@@ -1,4 +1,4 @@
-//! The program over a world: each line is a command, and each command is answered by one line.
+//! The program over a world: each line of its input is a command, and it answers each command by one line.
 //!
 //! ```text
 //! let mut world = World::new(alloc, OwnKey);

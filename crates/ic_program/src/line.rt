@@ -1,4 +1,4 @@
-//! What a line stands for: a call of a world, by its name and its arguments in order.
+//! What a line means: a call of a world, if it has the name of the call and the call's arguments in order.
 //!
 //! ```text
 //! Line::of(b"push_back 0 3") // Line::Call(Command::On(0, Call::Put(Gap::Back, place 3)))
@@ -17,7 +17,7 @@ use crate::names::after_name;
 use crate::text::{after_line, after_space, without_spaces};
 use ic_world::{BulkEdit, Call, Command, Insertion, Neighbor, Search, Seek};
 
-/// What a line stands for.
+/// What a line means.
 #[derive(Clone, Copy)]
 pub enum Line {
     /// The line has no words.
@@ -29,10 +29,11 @@ pub enum Line {
 }
 
 impl Line {
-    /// Parses these bytes as one line. Its words are separated by spaces: the name of the call, and its arguments in order.
+    /// Parses these bytes as one line. The words of the line, which are separated by spaces, are the name of a call and the call's arguments in
+    /// order.
     ///
     /// It requires nothing, and takes no memory. A number is 1 to 20 decimal digits with a value below 2^64, and an object's number is below 2^32. A
-    /// kind is `singly`, `doubly`, `xor` or `tree`; a bound is `included:K`, `excluded:K` or `unbounded`; a neighbor is an object's number, or
+    /// kind is `singly`, `doubly`, `xor` or `tree`. A bound is `included:K`, `excluded:K` or `unbounded`. A neighbor is an object's number, or
     /// `none`. A `\n` or `\r\n` at the end is ignored. O(bytes).
     pub fn of(line: &[u8]) -> Line
         ensures { IsOneLine line.now → result ≡ said_in (line_in line.now) }
@@ -44,8 +45,8 @@ impl Line {
         }
     }
 
-    /// Parses the first line of a text, and returns what it stands for and the text after it. If the line is not a call, the returned text is the
-    /// whole text.
+    /// Parses the first line of a text, and returns what the line means, and the text after the line. If the line is not a call, the returned text is
+    /// the whole text.
     ///
     /// The program first tries [`answer_fast`](crate::fast_path::answer_fast), which finds nearly all calls.
     #[cold]
@@ -81,14 +82,14 @@ pub(crate) fn slot_of(text: &[u8]) -> u64 {
         return SLOTS;
     };
     let bytes = u64::from_le_bytes(*bytes);
-    // `ends` has the top bit of each byte that is not a letter. The lowest set bit is right, but bits above it may be set wrongly.
+    // The lowest set bit of `ends` is the top bit of the first byte that is not a letter. Higher bits may be set even if their byte is a letter.
     let ends = bytes.wrapping_sub(0x2121_2121_2121_2121) & !bytes & 0x8080_8080_8080_8080;
     let letters = bytes & ends.wrapping_sub(1);
     letters.wrapping_mul(0x39e9_f5d9_8f2d_bcef) >> 58
 }
 
-// A row of the table of calls. If the text begins with the name in the row, it returns the command with its arguments and the text after the line.
-// After `on` follows a call of the collection that the first argument names.
+// A row of the table of calls. If the text begins with the name in the row, the row returns the command with its arguments, and the text after the
+// line. In a row with `on`, the command is a call of the collection that the first argument names.
 macro_rules! call {
     ($text:ident, $name:literal($first:ident) => $($command:tt)*) => {{
         let ($first, rest) = one($text, $name)?;

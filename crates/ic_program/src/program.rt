@@ -74,7 +74,7 @@ pub fn run_program<
     status_of(rt, ended(ending, flushed))
 }
 
-/// Runs the calls that it reads from `reader`, one for each line, on a new world, and writes the answer to each call on a line of its own.
+/// Runs calls on a new world, one for each line that it reads from `reader`. It writes the answer to each call on a line of its own.
 ///
 /// The run ends:
 ///

@@ -134,7 +134,8 @@ impl<M: Allocator + Copy> Session<M> {
 
     // Answers the first line of a text, and returns how many bytes are before the next line.
     //
-    // No function that it calls on the fast path returns a result through memory. Because of this it need not clear memory for each line.
+    // No function that `answer_first` calls on the fast path returns a result through memory. Because of this, no memory need be cleared for each
+    // line.
     #[inline(always)]
     fn answer_first(&mut self, text: &[u8]) -> Result<usize, Stop>
         requires { 0 < length text.now }
@@ -198,7 +199,8 @@ impl<M: Allocator + Copy> Session<M> {
         )
     }
 
-    // Answers the incomplete line that `cut` has, if the line ends in `bytes`, and returns the bytes after the line.
+    // Answers the incomplete line in `cut`, if the line ends in `bytes`, and returns the bytes after the line. If `cut` is empty or the line does not
+    // end, it returns all bytes.
     fn answer_cut<'b, W: Write>(
         &mut self,
         cut: &mut Vec<u8, M>,
@@ -242,7 +244,7 @@ impl<M: Allocator + Copy> Session<M> {
     }
 }
 
-// Returns how many bytes at the beginning are complete lines.
+// Returns how many bytes the complete lines at the beginning of `bytes` have in all.
 fn ended_bytes(bytes: &[u8]) -> usize
     ensures ended { HaveEnded (take result bytes.now) }
     ensures in_bounds { result ≤ length bytes.now }
@@ -292,8 +294,8 @@ fn push_short<M: Allocator>(answers: &mut Vec<u8, M>, answer: ShortAnswer) -> Re
     }
 }
 
-// Returns why the first line of a text, which has this number, is not a command. A command has only ASCII characters. Because of this, only a line
-// that is not a command can be other than UTF-8.
+// Returns why the session stops at the first line of the text, which is not a command: the line is UTF-8 or not. `number` is the number of the line.
+// Only a line that is not a command needs this test, because a command has only ASCII characters.
 fn stop_at(text: &[u8], number: u64) -> Stop
     ensures { ((result ≡ Stop.NoCommand) × IsUtf8 (line_in text.now))
         ⊎ ((result ≡ Stop.Fault (Fault.NotText number)) × ¬ (IsUtf8 (line_in text.now))) }

@@ -67,7 +67,7 @@ impl ShortAnswer {
     }
 }
 
-/// Returns the answer of a call that returns nothing.
+/// Returns the short answer for the result of a call that returns nothing.
 #[inline(always)]
 pub(crate) fn done(answer: Result<(), Refusal>) -> ShortAnswer
     ensures { reply_of_short result ≡ reply_of (λ _. reply.done) answer }
@@ -78,7 +78,7 @@ pub(crate) fn done(answer: Result<(), Refusal>) -> ShortAnswer
     }
 }
 
-/// Returns the answer of a call that returns an object, or none.
+/// Returns the short answer for the result of a call that returns an object, or none.
 #[inline(always)]
 pub(crate) fn found(answer: Result<Option<Place>, Refusal>) -> ShortAnswer
     ensures { reply_of_short result ≡ reply_of reply.object_or_nothing answer }
@@ -90,7 +90,7 @@ pub(crate) fn found(answer: Result<Option<Place>, Refusal>) -> ShortAnswer
     }
 }
 
-/// Returns the answer of a call that returns an object.
+/// Returns the short answer for the result of a call that returns an object.
 #[inline(always)]
 pub(crate) fn replaced(answer: Result<Place, Refusal>) -> ShortAnswer
     ensures { reply_of_short result ≡ reply_of (λ object. reply.object object) answer }
@@ -101,7 +101,7 @@ pub(crate) fn replaced(answer: Result<Place, Refusal>) -> ShortAnswer
     }
 }
 
-// Returns the line of fixed words followed by other bytes, and the length of the line.
+// Returns an array that begins with the line of these words, and the length of this line.
 #[inline(always)]
 fn line_in_words(words: InWords) -> (&'static [u8; 32], usize)
     ensures line { take result.1 result.0.now ≡ line_of (reply_in_words words) }
@@ -114,7 +114,7 @@ fn line_in_words(words: InWords) -> (&'static [u8; 32], usize)
     }
 }
 
-/// Returns the line of a refusal followed by other bytes, and the length of the line.
+/// Returns an array that begins with the line of the refusal, and the length of this line.
 #[inline(always)]
 pub(crate) fn refused(refusal: Refusal) -> (&'static [u8; 32], usize)
     ensures line { take result.1 result.0.now ≡ line_of (reply.refused refusal) }

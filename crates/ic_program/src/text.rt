@@ -20,7 +20,7 @@ pub(crate) fn without_spaces<'l>(text: &'l [u8]) -> &'l [u8]
     }
 }
 
-// Returns a text that begins with a space without the spaces at its beginning.
+// Returns the text without the spaces at its beginning. `without_spaces` calls this function only if the text begins with a space.
 #[cold]
 #[inline(never)]
 fn without_more_spaces<'l>(text: &'l [u8]) -> &'l [u8]
@@ -45,8 +45,8 @@ pub(crate) fn after_space<'l>(text: &'l [u8]) -> &'l [u8]
     }
 }
 
-// Returns a text that does not begin with a space as it is. It is a function of its own, so that the processor predicts that a text begins with a
-// space, and does not wait for the test.
+// Returns the text as it is. `after_space` calls this function only if the text does not begin with a space. Because this is a function of its own,
+// the processor predicts that a text begins with a space, and does not wait for the test.
 #[cold]
 #[inline(never)]
 fn without_space<'l>(text: &'l [u8]) -> &'l [u8]

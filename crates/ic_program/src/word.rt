@@ -1,4 +1,4 @@
-//! What a single word of a line stands for: a number, the place of an object, a kind, a bound of keys, or a neighbor.
+//! What a single word of a line means: a number, the place of an object, a kind, a bound of keys, or a neighbor.
 //!
 //! ```text
 //! number(b"0042")      // Some(42)
@@ -36,8 +36,8 @@ pub(crate) fn kind(word: &[u8]) -> Option<Kind>
     }
 }
 
-/// Returns the bound of keys that a word stands for: `included:K` or `excluded:K` with a number K, or `unbounded`. For any other word it returns
-/// `None`. O(bytes).
+/// Returns the bound of keys that a word means: `included:K` or `excluded:K` with a number K, or `unbounded`. For any other word it returns `None`.
+/// O(bytes).
 pub(crate) fn bound(word: &[u8]) -> Option<Bound<u64>>
     ensures { result ≡ bound_in word.now }
 {
@@ -53,8 +53,8 @@ pub(crate) fn bound(word: &[u8]) -> Option<Bound<u64>>
     }
 }
 
-/// Returns the neighbor that a word stands for: the number of an object, or `none` if the list has no member on that side. For any other word the
-/// outer result is `None`. O(bytes).
+/// Returns the neighbor that a word means: the number of an object, or `none` if the list has no member on that side. For any other word the outer
+/// result is `None`. O(bytes).
 pub(crate) fn neighbor(word: &[u8]) -> Option<Option<Place>>
     ensures { result ≡ neighbor_in word.now }
 {
@@ -64,7 +64,8 @@ pub(crate) fn neighbor(word: &[u8]) -> Option<Option<Place>>
     }
 }
 
-// Returns the place of an object, which need not exist, for a number below 4,294,967,296. For any other word it returns `None`.
+// Returns the place with the number that the word means, if the number is below 4,294,967,296. There need not be an object at this place. For any
+// other word it returns `None`.
 fn place(word: &[u8]) -> Option<Place>
     ensures { result ≡ place_in word.now }
 {
@@ -79,7 +80,8 @@ pub(crate) fn place_of(number: usize) -> Option<Place>
     Place::new(number)
 }
 
-/// Returns the value of 1 to 20 decimal digits, if it is below 2^64. For any other word, also one with a sign, it returns `None`. O(digits).
+/// Returns the value of a word that consists of 1 to 20 decimal digits, if the value is below 2^64. For any other word, also one with a sign, it
+/// returns `None`. O(digits).
 pub(crate) fn number(word: &[u8]) -> Option<u64>
     ensures { result ≡ number_in word.now }
 {
@@ -113,7 +115,8 @@ pub(crate) fn leading_number(text: &[u8]) -> Option<(u64, usize)>
     Some((number, digits))
 }
 
-// Returns the number with one more decimal digit at its end, if the result is below 2^64.
+// Returns the number with one more decimal digit at its end. It returns `None` if the byte `digit` is not a digit, or if the new number is not below
+// 2^64.
 #[inline]
 fn with_digit(number: u64, digit: u8) -> Option<u64>
     ensures { MoreDigits number digit result }
@@ -124,8 +127,8 @@ fn with_digit(number: u64, digit: u8) -> Option<u64>
     number.checked_mul(10)?.checked_add((digit - b'0') as u64)
 }
 
-/// Returns the number in the first word of a line, and the text after the word. The word has to have 1 to 4 digits, and not to be at the end of the
-/// text. If it returns `None`, the word may still be a number.
+/// Returns the number in the first word of a line, and the text after the word. It finds a number only if the word has 1 to 4 digits and is not at
+/// the end of the text. If it returns `None`, the word may still be a number.
 #[inline(always)]
 pub(crate) fn small_number<'l>(text: &'l [u8]) -> Option<(u64, &'l [u8])>
     ensures { IfSome result (λ read. Reads number_in text.now read.0 read.1.now) }

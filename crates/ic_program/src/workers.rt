@@ -69,8 +69,8 @@ impl Gate for Open {
     }
 }
 
-/// Lets the workers share out the places, each in a thread of its own. It writes which places each worker got, and how many places are in more than
-/// one list. By the contract of `fan_out` this number is 0. If memory runs out, it writes nothing.
+/// Lets the workers share out the places, each in a thread of its own. It writes which places each worker got, and how many places more than one
+/// worker got. By the contract of `fan_out` this number is 0. If memory runs out, it writes nothing.
 pub(crate) fn run_workers<S: Threads + Wait + Sync, M: Allocator + Copy + Send + Sync, W: Write>(
     rt: &S,
     alloc: M,
@@ -89,7 +89,8 @@ pub(crate) fn run_workers<S: Threads + Wait + Sync, M: Allocator + Copy + Send +
     write_whole(writer, &text)
 }
 
-// Returns the text of the result: a line for each list of places, and then how many of the first places are in more than one list.
+// Returns the text of the result: a line for each list of `lists`, and then a line that says how many of the first `places` places are in more than
+// one list.
 fn workers_text_of<M: Allocator + Copy>(
     alloc: M,
     places: usize,

@@ -27,7 +27,8 @@ outermost_is Before cut e = λ k. record { before = last_of_front cut.front cut.
 abbrev pub after : Place → (front back : List Place) → Cut
 after p front back = record { front = front ++ p ∷ []; back = back }
 
--- if members are added after a sequence that is not empty, its first member stays. If a member is inserted before its last one, the last member stays
+-- if members are added after a sequence that is not empty, its first member stays. If a member is inserted before the last member of a sequence, the
+-- last member stays
 pub first_kept : (s t : List Place) {q : Place} → Some q ≡ last s → first (s ++ t) ≡ first s
 first_kept [] t {q} e = absurd (none_not q (sym e))
 first_kept (x ∷ s) t e = refl
@@ -36,13 +37,13 @@ pub last_kept : (front : List Place) (p : Place) (back : List Place) {q : Place}
 last_kept front p [] {q} e = absurd (none_not q (sym e))
 last_kept front p (x ∷ s) e = last_or-append None front (p ∷ x ∷ s) ∙ sym (last_or-append None front (x ∷ s))
 
--- a cut that is before no member is at the end of the sequence
+-- if the cut is before none, it is at the end of the sequence
 pub at_end : (cut : Cut) → IsBeside Before cut None → cut ≡ record { front = cut.front; back = [] }
 at_end cut e = let empty : cut.back ≡ [] = nothing_first cut.back e in λ k. record { front = cut.front; back = empty k }
 
--- `words` says how the words of a place are read, which have 8 bytes or 4 bytes each
+-- `words` says how the two words of a place are read. Both have 8 bytes, or both have 4 bytes
 module _ {W : Type 0} (words : LinkWords W) where
-  -- a place that is between two others in a list is linked
+  -- an entry that names the neighbors of a member is the entry of a linked place
   pub law : (e : W) (b a : Option Place) → IsBetween (neighbors words) e b a → words.is_linked e ≡ true
   law = between_linked {n = neighbors words} {linked = words.is_linked} (λ e. refl)
 
@@ -102,8 +103,8 @@ module _ {W : Type 0} (words : LinkWords W) where
   pub represented_after : {t : Table W} {list : Ends} (front : List Place) (p : Place) (back : List Place) → Represents words t list (front ++ p ∷ back) → Represents words t list (join (after p front back))
   represented_after front p back shown = rw append_assoc shown
 
-  -- `at` is between the two sides of a cut, and the links of both sides lead to `at`. It is a member between its neighbors, or none between the last
-  -- and the first member
+  -- `at` is between the two sides of a cut, and the links of both sides lead to `at`. `at` is a member between its neighbors, or none, between the
+  -- last and the first member
   pub record IsAround (t : Table W) (list : Ends) (at : Option Place) (cut : Cut) : Type 0 where
     pub stands : IsNoneOrLinked words.is_linked t at
     pub prev : prev_from words t list at ≡ last cut.front

@@ -1,4 +1,4 @@
--- These lemmas follow a walk along a doubly linked list, which begins at the first member. Each place on the walk names the place before it.
+-- These lemmas follow a walk along a doubly linked list. The walk begins at the first member, and each place on it names the place before it.
 use Rattle.std.proofs.Common.{◌≡◌, ◌≤◌, Option, Some, None, List, [], ◌∷◌, ◌++◌, length, true, false, refl, sym, ap, ◌∙◌, arith}
 use Rattle.ic_link_ops.specs.Prelude.{Place, index_of, first_or, first, last, IsAbsent, IsDistinct, Table, IsCovered}
 use Rattle.ic_link_ops.specs.Chains.{Ends, IsChain}
@@ -18,14 +18,14 @@ pub nothing_first : (s : List Place) → first s ≡ None → s ≡ []
 nothing_first [] e = refl
 nothing_first (x ∷ s) e = absurd (none_not x (sym e))
 
--- `words` says how the words of a place are read, which have 8 bytes or 4 bytes each
+-- `words` says how the two words of a place are read. Both have 8 bytes, or both have 4 bytes
 module _ {W : Type 0} (words : LinkWords W) where
   -- a linked place belongs to the table
   pub covered : words.is_linked words.unlinked ≡ false → (t : RawTable W) (q : Place) → words.is_linked ((lent_table words t).entry q) ≡ true → IsCovered (lent_table words t) q
   covered starts t q on = linked_in_range words.is_linked words.unlinked starts (nameable words.width (raw_entries t)) (index_of q) on
 
-  -- A CHAIN THAT ENDS COMES TO NO PLACE TWICE. If it came to a place twice, it would go on in the same way after both visits, and would end after
-  -- equally many places
+  -- A CHAIN THAT ENDS COMES TO NO PLACE TWICE. If it came to a place twice, it would go on in the same way after both visits, so that equally many
+  -- places would follow each visit. But fewer places follow the second visit than the first
   module _ (t : Place → W) where
     not_ahead : (b b' : Option Place) (x : Place) (w rest : List Place) → IsChain (IsBetween (neighbors words)) t b (x ∷ w) None → IsChain (IsBetween (neighbors words)) t b' rest None
         → length rest ≤ length w → IsAbsent x rest

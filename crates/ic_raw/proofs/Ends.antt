@@ -33,7 +33,7 @@ module _ {W : Type 0} (words : LinkWords W) (t : Table W) (given : Ends) where
   no_head : TellsGap words Before t given None → given.tail ≡ None → given.head ≡ None
   no_head links_back none = subst (λ at. next_from words t given at ≡ None) none links_back.1
 
--- ALL MEMBERS OF A LIST MOVE INTO A GAP. Its ends are `head` and `tail`, which are both none or both places
+-- ALL MEMBERS OF A LIST MOVE INTO A GAP. This list has the ends `head` and `tail`, which are both none or both places
 module _ {gap : Gap} {old new : Ends} where
   ends_put_in : (head tail : Option Place) → (head ≡ None → tail ≡ None) → (tail ≡ None → head ≡ None) → TakenOut gap old old → (head ≡ None → new ≡ old)
       → ((first : Place) → head ≡ Some first → TurnsEnds (λ last. last) old new gap.before gap.after (Some first) tail)
@@ -54,7 +54,7 @@ all_put_in words side t {list} {given} at same is links_back front back kept tur
 pub cut_at : {gap : Gap} {old new rest : Ends} → SplitsEnds (λ last. last) old new rest gap.before gap.after → IsCutAt gap old new rest
 cut_at split = record { front_head = split.head; front_tail = split.tail; back_head = split.rest_head; back_tail = split.rest_tail _ refl }
 
--- if a list is cut at a gap, the same holds with equal names for the gap and the ends
+-- `IsCutBeside` stays true if the gap and the ends are replaced by equal ones
 pub cut_same : (side : GapSide) {gap gap' : Gap} {old old' kept kept' handed handed' : Ends} → gap' ≡ gap → old' ≡ old → kept' ≡ kept → handed' ≡ handed
     → IsCutBeside side gap old kept handed → IsCutBeside side gap' old' kept' handed'
 cut_same side a b c d cut = rw (a, b, c, d) cut

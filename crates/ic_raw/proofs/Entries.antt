@@ -34,7 +34,7 @@ place_kept p =
     let same : number_in (word_of p) ≡ word_of p = omega (arith, fits.0, fits.1) in
     ap place_at same ∙ place_at_word p
 
--- the number in any word of 4 bytes is 0 or the number of a place. If a place has a small enough number, the word that a call writes for the place
+-- the number in any word of 4 bytes is 0 or the number of a place. If words of 4 bytes can name a place, the word that a call writes for the place
 -- names it
 pub narrow_number_fits : (v : ℕ) → IsWord (narrow_number_in v)
 narrow_number_fits v = (omega arith, omega arith)
@@ -73,7 +73,7 @@ narrow_named_marked v next small e =
     let marked : v % 2 ≡ 1 = omega (arith, e, fits.0, fits.1) in
     (eq-eqb (v % 2) 1 marked, ap place_at number ∙ place_at_word next)
 
--- ONE COMPARISON SHOWS that a word has the mark of a linked place, and which place it names: n is the number in the word
+-- ONE COMPARISON is enough to know that the word v has the mark of a linked place, and which place v names. The number in v is n
 pub is_led : (v n : ℕ) (next : Option Place) → IsWord n → n + v % 2 ≡ word_of next + 1 → (nat_eq (v % 2) 1 ≡ true) × (place_at n ≡ next)
 is_led v n next even same =
     let fits = word_fits next in
@@ -95,7 +95,8 @@ pub same_word : (a b : Option Place) {v w : ℕ} → v ≡ word_of a → w ≡ w
 same_word a b {v} {w} e f k = one_word a b e f (eqb-true v w k)
 
 module _ {E : Type 0} (is_linked : E → Bool) (d : E) (starts : is_linked d ≡ false) where
-  -- A WRITE AT A LINKED PLACE changes what the place's entry says in the way in which the new words differ from the words that were read
+  -- A WRITE AT A LINKED PLACE: the words `old` were read at the place, and `new` is written. If `change` turns what `old` says into what `new` says,
+  -- it does the same for the place's entry
   pub says_written : {R : Type 0} (says : E → R) (change : R → R) (es : List E) (p : Place) (old new beyond : E) (i : ℕ) → i ≡ index_of p
       → is_linked (entry_at d es p) ≡ true → old ≡ slice_index_or es i beyond → says new ≡ change (says old)
       → says (entry_at d (slice_set es i new) p) ≡ change (says (entry_at d es p))
@@ -123,7 +124,8 @@ module _ {E : Type 0} (w : Width) (d : E) where
         → is_linked old ≡ true
     seen_linked es p old beyond i at_p linked read = ap is_linked (sym (entry_seen w d es p old beyond i at_p (seen_covered es p linked) read)) ∙ linked
 
-    -- a write at a linked place changes what the place's entry says in the way in which the new words differ from the words that were read
+    -- the words `old` were read at a linked place, and `new` is written. If `change` turns what `old` says into what `new` says, it does the same for
+    -- the place's entry
     pub seen_written : {R : Type 0} (says : E → R) (change : R → R) (es : List E) (p : Place) (old new beyond : E) (i : ℕ) → i ≡ index_of p
         → is_linked (entry_at d (nameable w es) p) ≡ true → old ≡ slice_index_or es i beyond → says new ≡ change (says old)
         → says (entry_at d (nameable w (slice_set es i new)) p) ≡ change (says (entry_at d (nameable w es) p))

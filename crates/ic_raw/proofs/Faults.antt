@@ -15,7 +15,7 @@ pub by_first : {n m : ℕ} (faults : List ℕ) → n ≡ m → n ≢ 0 → n ≡
 by_first {n = zero} faults e fault = absurd (fault refl)
 by_first {n = suc n} {m} faults e fault = ap (λ k. refusal (k ∷ faults)) e
 
--- if the first fault in the list is `OK`, a refused call returns the status that the rest of the list gives
+-- if the first fault in the list is `OK`, a refused call returns the same status as for the rest of the list
 pub by_others : {n m : ℕ} (faults : List ℕ) → n ≡ m → n ≡ 0 → refusal faults ≡ refusal (m ∷ faults)
 by_others {n} {m} faults e none = ap (λ k. refusal (k ∷ faults)) (sym none ∙ e)
 

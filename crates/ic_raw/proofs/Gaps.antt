@@ -28,8 +28,8 @@ pub is_not : (b : Bool) → (b ≡ true → ⊥) → not b ≡ true
 is_not true off = absurd (off refl)
 is_not false off = refl
 
--- A TEST DECIDES A CALL: it succeeds exactly if `Seen` holds of a view, which is equivalent to `Found` for the words. The call is accepted if the
--- test succeeds, and refused if it fails
+-- A TEST DECIDES WHETHER A CALL IS ACCEPTED. The test succeeds exactly if the statement `Seen` holds of a view. For the words, the statement `Found`
+-- is equivalent to `Seen`. The call is accepted exactly if `Found` holds
 module _ {made : Bool} {Seen Found : Type 0} (links_back : (made ≡ true) ↔ Seen) (same : Seen ↔ Found) {status : ℕ} where
   pub accepts : made ≡ true → status ≡ OK → (status ≡ OK) ↔ Found
   accepts on ok = ((λ e. same.0 (links_back.0 on)), (λ found. ok))

@@ -75,7 +75,7 @@ module _ (words : List RawOne) (hashes : List ℕ) (buckets : List RawFront) whe
     pub each : (j : ℕ) → j < i → IsOwnChain words hashes buckets j (chain_in j)
     pub counted : count ≡ length (members_of chain_in i)
 
--- two lists of places share no member if all places of one have the number i, and no place of the second has it
+-- two lists of places share no member if all places of one list have the number i, and no place of the second list has this number
 apart_by : (number : Place → ℕ) (i : ℕ) (s r : List Place) → AllByRecursion (λ p. number p ≡ i) s → AllByRecursion (λ p. number p ≢ i) r → IsDisjoint s r
 apart_by number i [] r here there = tt
 apart_by number i (x ∷ s) r here there = (absent r there, apart_by number i s r here.1 there) where

@@ -12,7 +12,7 @@ use Rattle.ic_raw.specs.Hash.{slot_of, bucket_at, chain_of, HoldsChains, Changes
 use Rattle.ic_raw.specs.Singly.{RepresentsList, FreeIn, table_of, word_of_front}
 use Rattle.ic_raw.proofs.Singly.{law}
 
--- ONE BUCKET IS READ AND WRITTEN, to which the hash leads
+-- ONE BUCKET IS READ OR WRITTEN: the bucket with the number i, to which the hash leads
 module _ (buckets : List RawFront) (hash i : ℕ) (at : i ≡ slot_of buckets hash) where
   pub chain_read : (w : RawFront) → i < length buckets → chain_of buckets hash ≡ slice_index_or buckets i w
   chain_read w fits = ap (bucket_at buckets) (sym at) ∙ get_or_default buckets i (word_of_front None) w fits

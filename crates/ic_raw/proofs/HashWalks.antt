@@ -23,7 +23,8 @@ use Rattle.ic_raw.specs.Tables.{raw_entries}
 use Rattle.ic_raw.specs.Words.{is_linked_one, no_word, HasNumber}
 use Rattle.ic_raw.proofs.Singly.{after_any, ended_distinct, leads_on, ends_there}
 
--- THE WALK HAS COME to `current`, past members of s that fail the test `is`, of which `before` is the last. At most `left` members of s remain
+-- THE WALK HAS COME to `current`, past members of s that fail the test `is`. The last of these members is `before`. At most `left` members of s
+-- remain
 pub record Comes (is : Place → Bool) (t : Table RawOne) (s : List Place) (before current : Option Place) (left : ℕ) : Type 0 where
   pub passed : HasPassed (IsFollowed successor) is t s before current
   pub few : length passed.walk.rest ≤ left
@@ -89,11 +90,11 @@ module _ {t : Table RawOne} (member : Place) where
       (subst IsDistinct (sym one) d) (one ∙ whole ∙ sym other) (last_of_push ahead member ∙ sym (last_of_push done member))).0 in
       k.passed.keeps ∙ ap last (sym (but_last_of_push done member) ∙ ap but_last (sym fronts) ∙ but_last_of_push ahead member)
 
-  -- a walk to a member of the list does not come to the end of the list
+  -- a walk that searches `member`, which is a member of the list, does not come to the end of the list
   pub not_missed : (ahead back : List Place) {before current : Option Place} {left : ℕ} → Comes (is_place member) t (ahead ++ member ∷ back) before current left → current ≡ None → ⊥
   not_missed ahead back k over = split_member ahead member back (place_absent member (ahead ++ member ∷ back) (comes_to_none k over))
 
--- THE MEMBERS AFTER A MEMBER are a list of their own, because no entry names the place before its place
+-- THE MEMBERS AFTER A MEMBER are a list of their own, because the entries of a singly linked list do not name previous places
 pub represented_after : {t : Table RawOne} {list : Front} (front : List Place) (p : Place) (back : List Place) → Represents t list (front ++ p ∷ back)
     → Represents t (list_from (successor_at successor t p).next) back
 represented_after {t} front p back shown =

@@ -40,7 +40,7 @@ use Rattle.ic_raw.proofs.Trees.{beside_stands, child_in, insert_pos_told, seen_r
 pub keyed : (t : Table RawThree) (keys : List ℕ) → t.extent.places ≤ length keys → (p : Place) → has_place t p ≡ true → is_placed (at_indexes keys) p ≡ true
 keyed t keys enough p has = let covered = ltb-true (index_of p) t.extent.places has in placed_in_range keys p (omega (arith, covered, enough))
 
--- ON THE WAY: the search has come to `here`, past `looks` members. A descent of `ic_rbtree` with the parent, side and neighbors of this way has come
+-- THE SEARCH HAS COME to `here`, past `looks` members. A descent of `ic_rbtree` that has the same parent, side and neighbors as `way` has also come
 -- to `here`
 pub record Comes (t : Table RawThree) (root : Option Place) (at : Place → Ordering) (equals : Side) (tree : Tree) (here : Option Place) (way : InsertPos) (looks : ℕ) : Type 0 where
   pub descent : Descent
@@ -62,7 +62,7 @@ module _ (t : Table RawThree) {root : Option Place} {at : Place → Ordering} {e
   }
 
   module _ {tree : Tree} {way : InsertPos} {p : Place} {looks : ℕ} (x : Comes t root at equals tree (Some p) way looks) where
-    -- the search goes on past one more member, to the child on the side that the comparison gives
+    -- the search goes on past one more member, to the child on the side that the comparison chooses
     pub comes_on : {next : Option Place} {way' : InsertPos} {more : ℕ} {order : Ordering} (left : Bool) → way' ≡ past way p left → order ≡ at p → left ≡ goes_left equals order
         → next ≡ child_on (side_of left) (seen_node ((seen t).entry p)) → more ≡ looks + 1 → Comes t root at equals tree next way' more
     comes_on {next} {way'} {more} {order} left is there goes below counted = by left is (sent_on seen_node x.sent refl left refl there goes refl below counted) where
@@ -70,7 +70,7 @@ module _ (t : Table RawThree) {root : Option Place} {at : Place → Ordering} {e
       by true e sent = record { descent = passed x.descent p true (is_eq order); sent = sent; parent = ap (λ (w : InsertPos). w.parent) e; side = ap (λ (w : InsertPos). w.side) e; front = ap (λ (w : InsertPos). w.front) e ∙ x.front; back = ap (λ (w : InsertPos). w.back) e }
       by false e sent = record { descent = passed x.descent p false (is_eq order); sent = sent; parent = ap (λ (w : InsertPos). w.parent) e; side = ap (λ (w : InsertPos). w.side) e; front = ap (λ (w : InsertPos). w.front) e; back = ap (λ (w : InsertPos). w.back) e ∙ x.back }
 
-  -- if the search comes to no place, its way ends in the gap that the comparisons give
+  -- if the search comes to no place, its way ends in the gap to which the comparisons lead
   pub comes_to_end : {tree : Tree} {here : Option Place} {way : InsertPos} {looks : ℕ} → Comes t root at equals tree here way looks → here ≡ None → EndsIn t (gap_in (λ p. goes_left equals (at p)) tree) way
   comes_to_end {tree} x none =
       let ends = sent_ends seen_node x.sent none in
@@ -80,7 +80,7 @@ module _ (t : Table RawThree) {root : Option Place} {at : Place → Ordering} {e
         back_is = x.back ∙ ends.back_is;
       }
 
--- the way that a search returns ends in the gap that the comparisons give, where `side` is the side to which it goes at equal keys
+-- the way that a search returns ends in the gap to which the comparisons lead, where `side` is the side to which the search goes at equal keys
 pub ends_at : {t : Table RawThree} (tree : Tree) (at : Place → Ordering) {equals side : Side} {way : InsertPos} {result : Option InsertPos}
     → (w : InsertPos) × (result ≡ Some w) × EndsIn t (gap_in (λ p. goes_left equals (at p)) tree) w → result ≡ Some way → equals ≡ side
     → EndsIn t (gap_in (λ p. goes_left side (at p)) tree) way
@@ -107,7 +107,7 @@ pub past_within : (S : Place → Bool) (way : InsertPos) (p : Place) (left : Boo
 past_within S way p true here ends = (here, (ends.1.0, (here, tt)))
 past_within S way p false here ends = (here, (here, (ends.1.1.0, tt)))
 
--- A WAY GOES ON DOWN past one more place p, to the child of p on the side that `left` gives
+-- A WAY GOES ON DOWN past one more place p, to the child of p on the side that `left` chooses
 pub down_on : (t : Table Seen) (left : Place → Bool) (from : Option Place) (w : List Place) (p : Place) (next : Option Place) → LeadsDown t left from w (Some p)
     → child_on (side_of (left p)) (seen_node (t.entry p)) ≡ next → LeadsDown t left from (w ++ p ∷ []) next
 down_on t left from [] p next way is = (way, is)
@@ -122,7 +122,7 @@ down_past t at equals {root} {p} {next = next} way goes is below = (
   down_on t (λ q. goes_left equals (at q)) root way.0 p next way.1 (ap (λ b. child_on (side_of b) (seen_node (t.entry p))) (sym (goes ∙ ap (goes_left equals) is)) ∙ sym below),
 )
 
--- A WAY FROM THE ROOT agrees with the comparisons at its start, and after each member that it passes on the side that the comparison gives
+-- `HasTurned` holds of the way at the root. If it holds of a way, it also holds after the way has passed p on the side that the comparison chooses
 pub turned_nowhere : (left : Place → Bool) {way : InsertPos} → way ≡ at_root → HasTurned left way
 turned_nowhere left is = record {
   front = λ q e. absurd (none_not q (sym (ap (λ (w : InsertPos). w.front) is) ∙ e));
@@ -141,7 +141,7 @@ pub record IsAt (t : Table RawThree) (root : Option Place) (at : Place → Order
   pub here : has_place t p ≡ true
   pub inside : (S : Place → Bool) → IsClosed seen_node (seen t) root S → (S p ≡ true) × AreIn S (way.parent ∷ way.front ∷ way.back ∷ [])
 
--- THE WAY IS AT ITS END: the record has all facts that a search shows of its way
+-- THE WAY IS AT ITS END: the record has all facts that a search proves about its way
 pub record IsDown (t : Table RawThree) (root : Option Place) (at : Place → Ordering) (equals : Side) (way : InsertPos) : Type 0 where
   pub ends : (s : List Place) (h : trees.Represents seen_node (seen t) root s) → EndsIn t (gap_in (λ q. goes_left equals (at q)) h.tree) way
   pub down : EndsBelow (seen t) (λ q. goes_left equals (at q)) root
@@ -150,14 +150,14 @@ pub record IsDown (t : Table RawThree) (root : Option Place) (at : Place → Ord
 
 module _ {t : Table RawThree} {root : Option Place} {at : Place → Ordering} {equals : Side} {way way' : InsertPos} {p : Place} {looks : ℕ} (x : IsAt t root at equals way p looks)
     (is : way' ≡ past way p (goes_left equals (at p))) where
-  -- what holds of the way of a search also holds after the way has passed one more place
+  -- the way has passed the place p. `HasTurned` still holds of the way
   turns : HasTurned (λ q. goes_left equals (at q)) way'
   turns = rw is (turned_on (λ q. goes_left equals (at q)) way p (goes_left equals (at p)) refl x.turned)
 
   keeps : (S : Place → Bool) → IsClosed seen_node (seen t) root S → AreIn S (way'.parent ∷ way'.front ∷ way'.back ∷ [])
   keeps S h = let was = x.inside S h in rw is (past_within S way p (goes_left equals (at p)) was.0 was.1)
 
-  -- the search compares the key of the place, and goes on to the child on the side that the comparison gives
+  -- the search compares the key of the place, and goes on to the child on the side that the comparison chooses
   pub at_next : {next : Place} → child_on (side_of (goes_left equals (at p))) (seen_node ((seen t).entry p)) ≡ Some next → IsAt t root at equals way' next (looks + 1)
   at_next {next} below = record {
     each = λ s h. comes_on t (x.each s h) (goes_left equals (at p)) is refl refl (sym below) refl;
@@ -167,7 +167,7 @@ module _ {t : Table RawThree} {root : Option Place} {at : Place → Ordering} {e
     inside = λ S h. (in_there S (sets.child_in seen_node h (side_of (goes_left equals (at p))) p (x.inside S h).0 (none_not p)) below, keeps S h);
   }
 
-  -- the search comes to its end, if the place has no child on the side that the comparison gives
+  -- the search comes to its end, if the place has no child on the side that the comparison chooses
   pub at_end : child_on (side_of (goes_left equals (at p))) (seen_node ((seen t).entry p)) ≡ None → IsDown t root at equals way'
   at_end below = record {
     ends = λ s h. comes_to_end t (comes_on t (x.each s h) (goes_left equals (at p)) is refl refl (sym below) refl) refl;
@@ -195,14 +195,15 @@ ends_back t target keys key {root} e ends =
     let back : SearchEnds target keys key (table_of (raw_entries t)) root = ends in
     subst (λ es. SearchEnds target keys key (table_of es) root) e back
 
--- if there are fewer keys than places, the fault of the keys is 1. If there are enough keys, their fault is 0
+-- if there are fewer keys than places, the fault of the keys is 1, the number of `OUT_OF_RANGE`. If there are enough keys, their fault is 0, the
+-- number of `OK`
 pub lacking : (keys : List ℕ) (places : ℕ) → length keys < places → 1 ≡ keys_fault keys places
 lacking keys places few = ap (λ b. cond b 1 0) (sym (lt-ltb (length keys) places few))
 
 pub enough : (keys : List ℕ) (places : ℕ) → places ≤ length keys → 0 ≡ keys_fault keys places
 enough keys places all = ap (λ b. cond b 1 0) (sym (le-ltb (length keys) places all))
 
--- if a place passes the test of an option, it is the place in the option
+-- if `if_passes test o` is the place q, then o is also q
 passes : (test : Place → Bool) (o : Option Place) (q : Place) → if_passes test o ≡ Some q → o ≡ Some q
 passes test None q e = e
 passes test (Some p) q e = pick (test p) e where

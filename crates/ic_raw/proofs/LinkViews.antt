@@ -1,4 +1,5 @@
--- If a statement holds of a view of doubly linked places, it holds of the words that the caller lent, which have 8 bytes or 4 bytes each.
+-- If a statement holds of a view of doubly linked places, it holds of the words that the caller lent. Each place has two words of 8 bytes or of 4
+-- bytes.
 use Rattle.std.proofs.Common.{◌≡◌, false, List, [], Option, ap}
 use Rattle.ic_link_ops.specs.Prelude.{Place, Cut, Table, index_of, IsLinked, IsNameable, ChangesOnlyIn, IsUnlinked, LinkStep}
 use Rattle.ic_link_ops.specs.declared.link.Words as of_words

@@ -20,7 +20,7 @@ module _ {E W : Type 0} {between : E → Option Place → Option Place → Type 
   pub kept : (t u : Table E) (list : ListHead W) (s : List Place) → RepresentsChain between keep t list s → ((q : Place) → u.entry q ≡ t.entry q) → RepresentsChain between keep u list s
   kept t u list s shown same = represents_kept shown (λ q member. same q)
 
-  -- If `Names` holds, the entry of a place also names the place before it. REMOVE: a member p is removed if its two neighbors are linked to each
+  -- `Names` says that the entry of a place also names the place before it. REMOVE: a member p is removed if its two neighbors are linked to each
   -- other and p is then unlinked
   pub removed : {Names : Type 0} {old mid new : Table E} {list list' : ListHead W} (front : List Place) (p : Place) (back : List Place) {before following : Option Place}
       → before ≡ last front → following ≡ first back → RepresentsChain between keep old list (front ++ p ∷ back)
@@ -37,7 +37,7 @@ module _ {E W : Type 0} {between : E → Option Place → Option Place → Type 
     };
   }
 
-  -- MOVE: a member p is moved if its two neighbors are linked to each other, and p is then put at the position at which the other members are cut
+  -- MOVE: a member p is moved if its two neighbors are linked to each other, and p is then linked into the gap `cut` of the other members
   pub moved : {Names : Type 0} {old mid new : Table E} {list off_list list' : ListHead W} (front : List Place) (p : Place) (back : List Place) (cut : Cut) {b a before following : Option Place}
       → b ≡ last front → a ≡ first back → IsAfter cut before → IsBefore cut following → join cut ≡ front ++ back → RepresentsChain between keep old list (front ++ p ∷ back)
       → ((front back : List Place) → RepresentsChain between keep old list (front ++ p ∷ back) → b ≡ last front → a ≡ first back → RepresentsChain between keep mid off_list (front ++ back))
@@ -57,7 +57,7 @@ module _ {E W : Type 0} {between : E → Option Place → Option Place → Type 
     };
   }
 
-  -- `law` says that a place between two others in a list is linked
+  -- `law` says that an entry that names the neighbors of a member is the entry of a linked place
   module _ {linked : E → Bool} (law : (e : E) (b a : Option Place) → between e b a → linked e ≡ true) where
     module _ {t : Table E} {list : ListHead W} (front back : List Place) (shown : RepresentsChain between keep t list (front ++ back)) where
       -- a place beside a gap is none or linked

@@ -1,4 +1,5 @@
--- These lemmas say into which gap a moved member goes. A gap of the other members is also a gap of all members.
+-- These lemmas say into which gap a moved member goes. A gap of the members without the moved one is a gap of all members, or the position of the
+-- moved member.
 use Rattle.std.proofs.Common.{◌≡◌, ◌≢◌, ◌⊎◌, inl, inr, Option, Some, None, List, [], ◌∷◌, ◌++◌, drop, refl, sym, ap, subst, ◌∙◌, append_assoc, append-nil}
 use Rattle.ic_link_ops.specs.Prelude.{Place, Cut, join, insert, first, last, IsAbsent, IsDistinct, Table}
 use Rattle.ic_link_ops.specs.Chains.{Ends}
@@ -17,7 +18,7 @@ use Rattle.ic_raw.proofs.Doubly.{first_kept, last_kept}
 abbrev pub ends : List Place → Ends
 ends s = record { head = first s; tail = last s }
 
--- TWO CUTS OF ONE SEQUENCE: the front part of one cut begins with the front part of the second cut, or the other way round
+-- if a ++ b and c ++ d are the same sequence, then a begins with c, or c begins with a. In both cases m is the part between the two cuts
 pub two_cuts : (a b c d : List Place) → a ++ b ≡ c ++ d → ((m : List Place) × (a ≡ c ++ m) × (d ≡ m ++ b)) ⊎ ((m : List Place) × (c ≡ a ++ m) × (b ≡ m ++ d))
 two_cuts a b [] d e = inl (a, refl, sym e)
 two_cuts [] b (y ∷ c) d e = inr (y ∷ c, refl, e)
@@ -29,12 +30,12 @@ two_cuts (x ∷ a) b (y ∷ c) d e =
       | inr r ↦ inr (r.0, (λ k. other k ∷ r.1 k), r.2)
     ]
 
--- a gap with a place on both sides has a place on the side that is nearer to each end
+-- if a place is before a gap and a place is after it, then `toward` of the gap is a place for each side
 pub toward_either : (side : GapSide) (gap : Gap) → (q : Place) × (gap.before ≡ Some q) → (q : Place) × (gap.after ≡ Some q) → (q : Place) × (toward side gap ≡ Some q)
 toward_either After gap before after = before
 toward_either Before gap before after = after
 
--- if a member has a neighbor toward an end of the list, this end stays when the member is removed
+-- if the member p has a neighbor toward an end of the list, the outermost gap at this end stays the same when p is removed
 pub end_left : (side : GapSide) (front : List Place) (p : Place) (back : List Place) {q : Place} → Some q ≡ toward side (gap_of (record { front = front; back = back }))
     → gap_of (outermost side (front ++ p ∷ back)) ≡ gap_of (outermost side (front ++ back))
 end_left After front p back e =
@@ -44,7 +45,8 @@ end_left Before front p back f =
     let ends : last (front ++ p ∷ back) ≡ last (front ++ back) = last_kept front p back f in
     (λ k. record { before = ends k; after = None })
 
--- if a call names no member, its gap is the outermost one. If the member at an end is removed, its gap is outermost as well
+-- if a call names no member, its gap is the outermost one. If a member at an end of the list is removed, the gap at its position is also an outermost
+-- one
 pub outermost_beside : (side : GapSide) (s : List Place) {at : Option Place} → at ≡ None → IsBeside side (outermost side s) at
 outermost_beside After s e = e
 outermost_beside Before s e = e
@@ -57,7 +59,7 @@ pub end_beside : (side : GapSide) (front back : List Place) {at : Option Place} 
 end_beside After front back end e = e ∙ ap last (sym end)
 end_beside Before front back end e = e ∙ ap first (sym end)
 
--- a member is beside the outermost gap at an end exactly if it is the member at this end
+-- if the end of a list is the member p, no other member is nearer to this end. If p is then removed and inserted at this end, the list is as before
 pub stands_at_end : (side : GapSide) (front : List Place) (p : Place) (back : List Place) → IsDistinct (front ++ p ∷ back) → end_on side (ends (front ++ p ∷ back)) ≡ Some p
     → IsEnd side front back
 stands_at_end After [] p back d e = refl
@@ -77,12 +79,12 @@ pub not_inner : (side : GapSide) (front back : List Place) {q : Place} → IsEnd
 not_inner After front back {q} end e = none_not q (sym (e ∙ ap last end))
 not_inner Before front back {q} end e = none_not q (sym (e ∙ ap first end))
 
--- the cut `whole` is a gap of all members and is beside `at`, where p is one of the members
+-- the cut `whole` is a gap of the list that consists of `front`, p and `back`, and this gap is beside `at`
 pub record IsWhole (side : GapSide) (at : Option Place) (p : Place) (front back : List Place) (whole : Cut) : Type 0 where
   pub same : join whole ≡ front ++ p ∷ back
   pub beside : IsBeside side whole at
 
--- if the position of p is beside `at`, or `at` is p itself, then p is on one side of the gap beside `at`
+-- if p is already on this side of `at`, or if `at` is p itself, then p is on one side of the gap beside `at`
 pub own_gap : (side : GapSide) {at : Option Place} (p : Place) (front back : List Place) → IsBeside side (record { front = front; back = back }) at
     → (whole : Cut) × IsWhole side at p front back whole × (IsApart (gap_of whole) p → ⊥)
 own_gap After p front back e = (record { front = front; back = p ∷ back }, record { same = refl; beside = e }, λ apart. apart.1 refl)
@@ -97,7 +99,7 @@ gap_beside_itself After p front back = (
 )
 gap_beside_itself Before p front back = (record { front = front; back = p ∷ back }, record { same = refl; beside = refl }, λ apart. apart.1 refl)
 
--- A GAP OF THE OTHER MEMBERS, without p, is the position of p itself, or it is a gap of all members with the same two sides
+-- A MEMBER p GOES TO A GAP of the other members. This gap is the position of p itself, or it is a gap of all members with the same two sides
 abbrev pub Goes : GapSide → Option Place → Place → (front back : List Place) → Cut → Type 0
 Goes side at p front back cut = (whole : Cut) × IsWhole side at p front back whole
     × (((IsApart (gap_of whole) p → ⊥) × (insert cut p ≡ front ++ p ∷ back)) ⊎ (IsApart (gap_of whole) p × (gap_of whole ≡ gap_of cut)))
@@ -151,7 +153,7 @@ module _ (side : GapSide) {at : Option Place} (p : Place) (front back : List Pla
     ahead [] e f = goes_there (sym (e ∙ append-nil cut.front)) f
     ahead (x ∷ m) e f = goes_ahead x m e f
 
--- if a place is on neither side of a gap, this also holds with equal names for the gap and the place
+-- if a place is on neither side of a gap, each equal place is on neither side of each equal gap
 pub apart_same : {gap found : Gap} {p q : Place} → gap ≡ found → p ≡ q → IsApart gap p → IsApart found q
 apart_same same one apart = rw (← same, ← one) apart
 
@@ -159,7 +161,7 @@ pub moved_same : {from from' to to' : Gap} {p p' : Option Place} {old old' new n
     → IsMoved from p to old new → IsMoved from' p' to' old' new'
 moved_same a b c d e moved = rw (a, b, c, d, e) moved
 
--- `words` says how the words of a place are read, which have 8 bytes or 4 bytes each
+-- `words` says how the two words of a place are read. Both have 8 bytes, or both have 4 bytes
 module _ {W : Type 0} (words : LinkWords W) where
   -- if a place is none or linked in a view, it is none or linked in the words that the caller lent
   pub stands_back : (t : RawTable W) {es : List W} {at named : Option Place} → raw_entries t ≡ es → at ≡ named → IsNoneOrLinked words.is_linked (lent_table words t) at

@@ -16,11 +16,11 @@ use Rattle.ic_raw.specs.Tables.{raw_entries}
 pub sides_are : {a b c d : Option Place} → a ≡ c → b ≡ d → gap_between a b ≡ gap_between c d
 sides_are e f = λ k. record { before = e k; after = f k }
 
--- if a member is on this side of a gap, the end of the list on this side stays
+-- if `at` is a member beside a gap, an edit at the gap keeps the end of the list on the side of `at`
 pub end_stays : {at end : Option Place} (fresh : Option Place) {q : Place} → at ≡ Some q → end_of at fresh end ≡ end
 end_stays {end} fresh is = ap (λ a. end_of a fresh end) is
 
--- these lemmas are about a list that has both ends, and about a gap that is equal to the gap that the call found
+-- these lemmas are about the two ends of a list before and after an edit. The gap `gap` is equal to the gap `found` that the call found
 module _ {old new : Ends} {found gap : Gap} (same : found ≡ gap) where
   pub put_in : {place : Option Place} {p : Place} → place ≡ Some p → TurnsEnds (λ last. last) old new found.before found.after (Some p) (Some p) → PutIn gap place old new
   put_in is turns = rw (← same, is) (record { head = turns.head; tail = turns.tail _ refl })
@@ -47,7 +47,8 @@ module _ {front current : Option Place} {place member : Place} (is : current ≡
   is_first None past same = ((λ none. sym (past.first refl) ∙ is ∙ ap (λ p. Some p) same), (λ e. refl))
   is_first (Some r) past same = ((λ some. absurd (none_not r (sym some))), (λ e. absurd (past.apart r refl e)))
 
--- the first place of the list after a member left it is known from the place before the member
+-- the member has left its list, and b is the place before it. If b is none, the list begins with the place that was after the member. Otherwise its
+-- first place stays
 pub loses_front : {t : Table RawOne} {member : Place} {old new : Front} (b : Option Place) → (b ≡ None) ↔ (old.head ≡ Some member)
     → new.head ≡ end_of b (next_from t old (Some member)) old.head → LosesFront t (Some member) old new
 loses_front None first is = record { first = λ e. is; other = λ away. absurd (away (first.0 refl)) }

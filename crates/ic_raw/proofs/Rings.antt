@@ -30,12 +30,12 @@ some_there {A} none there = let no : IsSome {T = A} None = rw none at there in c
 pub not_last : (q one : Place) (r : List Place) → last r ≡ Some one → IsAbsent q r → q ≢ one
 not_last q one r is out e = last_not None r q (none_not q) out (is ∙ ap Some (sym e))
 
--- `others_of` is the circle in which `at` is the last place if the side is `After`, or the first place if the side is `Before`
+-- `others_of` is the circle of `at` and r in which `at` is the last place for `After`, and the first place for `Before`
 abbrev pub others_of : GapSide → (at : Place) → List Place → List Place
 others_of After at r = r ++ at ∷ []
 others_of Before at r = at ∷ r
 
--- a place that is different from two neighbors is not the neighbor on a side
+-- a place that differs from both places of a pair of neighbors is not the place of the pair that `neighbor_on` chooses
 pub neighbor_not : (side : GapSide) {q : Place} (x : Place × Place) → (q ≢ x.0) × (q ≢ x.1) → neighbor_on side x ≢ q
 neighbor_not After x apart e = apart.1 (sym e)
 neighbor_not Before x apart e = apart.0 (sym e)
@@ -57,8 +57,8 @@ pub absent_all : (side : GapSide) (at : Place) (r s : List Place) (q : Place) �
 absent_all After at r s q out off = (out.0, absent_both q s r off out.1)
 absent_all Before at r s q out off = (out.0, absent_both q r s out.1 off)
 
--- `other` is the place after `own` once `own` replaces `at`: it is the old next place of `at`, or `own` if `at` was alone. A place that is neither is
--- not `other`
+-- `other` is the place after `own` when `own` has replaced `at`: the place `next`, which was after `at`, or `own` if `at` was alone. A place that is
+-- neither `own` nor `next` is not `other`
 pub apart_without : {next at own other q : Place} → (next ≡ at → other ≡ own) → (next ≢ at → other ≡ next) → q ≢ own → q ≢ next → q ≢ other
 apart_without {next} {at} alone stays off away e = elim (same_or_not next at) [
   | inl same ↦ off (e ∙ alone same)
@@ -98,7 +98,8 @@ module _ {W : Type 0} (words : LinkWords W) where
     (λ e. out.0 (e ∙ own)),
   )
 
-  -- A PLACE p IS INSERTED on this side of `at`. The premise `puts` says that p is inserted before the second place of a pair of neighbors
+  -- A PLACE p IS INSERTED on this side of `at`. The premise `puts` says that p can be inserted into a circle before the second place of the pair x of
+  -- neighbors
   pub put_beside : (side : GapSide) (t u : Table W) {p at : Place} (s : List Place) (x : Place × Place) → own_on side x ≡ at → (neighbors words (t.entry x.0)).next ≡ Some x.1
       → IsCircle words t (at ∷ s) → IsAbsent p (at ∷ s) → ((r : List Place) → IsCircle words t (x.1 ∷ r) → IsAbsent p (x.1 ∷ r) → IsCircle words u (p ∷ x.1 ∷ r)) → IsCircle words u (put_in side at p s)
   put_beside After t u {p} s x own next c out puts = circle_after_free {n = neighbors words} s c (ap (λ z. (neighbors words (t.entry z)).next) (sym own) ∙ next) out puts
@@ -140,8 +141,8 @@ module _ {W : Type 0} (words : LinkWords W) where
       | inr other ↦ ap (λ e. (neighbors words e).prev) (only.others q other)
     ]
 
-  -- a circle can be read from another of its places. If only entries of the places `touched` change, only entries of the places `named` change, which
-  -- include them
+  -- `Makes` stays true if the circle `made` is read from another of its places, and if the places `touched` are replaced by the places `named`, which
+  -- include all of `touched`
   pub makes_turned : {old new : Table W} {touched named made read : List Place} → ((q : Place) → IsAbsent q named → IsAbsent q touched)
       → (IsCircle words new made → IsCircle words new read) → Makes words old new touched made → Makes words old new named read
   makes_turned among turned m = record { circle = turned m.circle; frame = record { extent = m.frame.extent; others = λ q out. m.frame.others q (among q out) } }
@@ -154,7 +155,7 @@ module _ {W : Type 0} (words : LinkWords W) where
     | inr other ↦ ap words.is_linked (only.others q other) ∙ on
   ]
 
-  -- WHAT HOLDS OF A VIEW holds of the words that the caller lent
+  -- WHAT HOLDS OF THE WORDS that the caller lent holds of a view of them, and the other way round
   pub circle_viewed : (t : RawTable W) {es : List W} {r : List Place} → raw_entries t ≡ es → IsCircle words (table_of words es) r → IsCircle words (lent_table words t) r
   circle_viewed t {r = r} e c = let same : IsCircle words (table_of words (raw_entries t)) r = rw e c in same
 
@@ -196,8 +197,8 @@ module _ {W : Type 0} (words : LinkWords W) where
   pub first_tells : {t : Table W} {x y : Place} (r : List Place) → IsCircle words t (x ∷ y ∷ r) → AreLinked words t x y
   first_tells r c = record { linked = c.chain.0.linked; next = c.chain.0.next; stands = c.chain.1.0.linked; prev = c.chain.1.0.prev }
 
-  -- AFTER A PLACE p IS INSERTED beside `at`, the two places name each other. Lemmas below say how the circle reads from p and from `at`, and that p
-  -- differs from `at`
+  -- AFTER A PLACE p IS INSERTED beside `at`, the two places name each other. The next lemmas say how the circle reads from p and from `at`, and that
+  -- p differs from `at`
   pub put_tells : (side : GapSide) (t : Table W) (at p : Place) (r : List Place) → IsCircle words t (put_in side at p r)
       → (x : Place × Place) × AreLinked words t x.0 x.1 × (own_on side x ≡ at) × (neighbor_on side x ≡ p)
   put_tells After t at p r c = ((at, p), first_tells r c, refl, refl)
@@ -222,7 +223,7 @@ module _ {W : Type 0} (words : LinkWords W) where
   alone_tells After {t} {p} c = ((p, p), last_tells t p [] c refl, refl, refl)
   alone_tells Before {t} {p} c = ((p, p), last_tells t p [] c refl, refl, refl)
 
-  -- THE PLACE AFTER p, which replaces `at`, is the next place of `at`, or p itself if `at` was alone
+  -- p REPLACES `at`. The place `next` after p is the place n that was after `at`, or p itself if `at` was alone
   pub next_first : {t : Table W} {at n p next : Place} (r : List Place) → IsCircle words t (at ∷ r) → AreLinked words t at n → (n ≡ at → next ≡ p) → (n ≢ at → next ≡ n)
       → Some next ≡ first (r ++ p ∷ [])
   next_first [] c links_back alone other = ap Some (alone (some_same (sym links_back.next ∙ c.chain.0.next)))
@@ -244,7 +245,8 @@ module _ {W : Type 0} (words : LinkWords W) where
       let prev = ap (λ z. (neighbors words (t.entry z)).prev) (sym own) ∙ links_back.prev ∙ ap Some beside in
       absurd (last_not (Some y) r p (λ e. out.0 (sym (some_same e))) out.1 (sym (last_or-append None (at ∷ s) (p ∷ y ∷ r)) ∙ sym turned.chain.0.prev ∙ prev))
 
-  -- TWO NEIGHBORS STAY NEIGHBORS if another place p leaves its ring, because they are not the two neighbors of p that are linked to each other
+  -- a place p leaves its ring, in which it is between the places of the pair `from`. If p is not in the pair `to` of neighbors, the first places of
+  -- the two pairs differ, and so do the second places. THE TWO NEIGHBORS `to` THEREFORE STAY NEIGHBORS
   pub stays_told : (side : GapSide) {t : Table W} {p at : Place} (from to : Place × Place) → AreLinked words t from.0 p → AreLinked words t p from.1 → AreLinked words t to.0 to.1
       → own_on side to ≡ at → at ≢ p → (neighbor_on side to ≢ p) → (to.0 ≢ from.0) × (to.1 ≢ from.1)
   stays_told After from to before after links_back own other beside = (
@@ -289,17 +291,18 @@ module _ {W : Type 0} (words : LinkWords W) where
   beside_told After {t} x links_back own = ap (λ z. (neighbors words (t.entry z)).next) (sym own) ∙ links_back.next
   beside_told Before {t} x links_back own = ap (λ z. (neighbors words (t.entry z)).prev) (sym own) ∙ links_back.prev
 
-  -- a place that is neither `at` nor the neighbor of `at` on this side is none of the two neighbors
+  -- a place that is neither `at` nor the neighbor of `at` on this side is neither place of the pair x of neighbors
   pub apart_beside : (side : GapSide) {t : Table W} {at q : Place} (x : Place × Place) → AreLinked words t x.0 x.1 → own_on side x ≡ at → (Some at ≢ Some q)
       → (beside words side t at ≢ Some q) → (q ≢ x.0) × (q ≢ x.1)
   apart_beside After x links_back own off away = ((λ e. off (ap Some (sym own ∙ sym e))), (λ e. away (beside_told After x links_back own ∙ ap Some (sym e))))
   apart_beside Before x links_back own off away = ((λ e. away (beside_told Before x links_back own ∙ ap Some (sym e))), (λ e. off (ap Some (sym own ∙ sym e))))
 
-  -- a place that is neither neighbor of p, as the words of p name them, is neither of the two places around p
+  -- x and y are the two neighbors of p. A place that differs from both neighbors that the words of p name is neither x nor y
   pub apart_around : {t : Table W} {p q x y : Place} → AreLinked words t x p → AreLinked words t p y → (beside words Before t p ≢ Some q) → (beside words After t p ≢ Some q) → (q ≢ x) × (q ≢ y)
   apart_around comes goes before after = ((λ e. before (comes.prev ∙ ap Some (sym e))), (λ e. after (goes.next ∙ ap Some (sym e))))
 
-  -- A GAP THAT IS NOT BESIDE A HEAD, as two tests show, is not beside the place of the head
+  -- a splice tests that the first place of the pair `to` is neither the head `given` nor the place b before the head. The place `at`, which is in the
+  -- pair, is therefore not `given`
   pub splices_elsewhere : (side : GapSide) {t : Table W} {at given b : Place} (to : Place × Place) → AreLinked words t to.0 to.1 → own_on side to ≡ at → AreLinked words t b given
       → to.0 ≢ given → to.0 ≢ b → at ≢ given
   splices_elsewhere After to links_back own before other apart e = other (own ∙ e)

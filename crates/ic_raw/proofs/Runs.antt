@@ -23,7 +23,7 @@ use Rattle.ic_raw.proofs.Faults.{place_fault_back}
 use Rattle.ic_raw.proofs.Numbers.{none_named}
 use Rattle.ic_raw.proofs.Touches.{touched_back}
 
--- THE NUMBERS: a number that names a place is not the last number, so that there is a next number
+-- a number that names a place is not the last number of 32 bits, so that the next number also has 32 bits
 pub number_small : (i : ℕ) (p : Place) → place_of i ≡ Some p → i < 4294967296 → i + 1 < 4294967296
 number_small i p is fits = elim (eqb_tells i 4294967295) [
   | inl h ↦ absurd (none_not p (sym none_named ∙ sym (ap place_of h.1) ∙ is))
@@ -57,7 +57,7 @@ one_run first (p ∷ a) (q ∷ b) n m e =
     let rest : a ≡ b = one_run (first + 1) a b n.1 m.1 (omega (arith, e)) in
     λ k. same k ∷ rest k
 
--- the first place of a run has the number `first`, and the last place is the last of `count` places from this number on
+-- the first place of a run of `count` places has the number `first`, and the last place is `last_of_run first count`
 run_begins : (run : List Place) (first count : ℕ) (end : Option Place) → IsRun first run → length run ≡ count → count ≢ 0 → first_or run end ≡ place_of first
 run_begins [] first count end n c some = absurd (some (sym c))
 run_begins (p ∷ run) first count end n c some = sym n.0
@@ -76,13 +76,13 @@ absent_run : (q : Place) (run : List Place) → IsNoneOf (map Some run) q → Is
 absent_run q [] out = tt
 absent_run q (x ∷ run) out = ((λ e. out.0 (ap Some (sym e))), absent_run q run out.1)
 
--- THE FAULTS: if there is a fault, a refused call returns the first fault of the list
+-- if a list of faults has a fault, a refused call returns the first one
 pub refused_by : (faults : List ℕ) → first_fault faults ≢ 0 → first_fault faults ≡ refusal faults
 refused_by [] fault = absurd (fault refl)
 refused_by (zero ∷ faults) fault = refused_by faults fault
 refused_by (suc m ∷ faults) fault = refl
 
--- if there is no fault, a refused call returns `BROKEN`, because the words do not fit together
+-- if a list of faults has no fault, a refused call returns `BROKEN`, because the words do not fit together
 pub none_refused : (faults : List ℕ) → first_fault faults ≡ 0 → 5 ≡ refusal faults
 none_refused [] none = refl
 none_refused (zero ∷ faults) none = none_refused faults none
@@ -92,7 +92,7 @@ pub first_is : (n : ℕ) (faults : List ℕ) → n ≢ 0 → n ≡ first_fault (
 first_is zero faults fault = absurd (fault refl)
 first_is (suc n) faults fault = refl
 
--- the faults of the places that are left begin with the fault of the next place
+-- the list of the faults of `left` places begins with the fault of the first of these places
 pub faults_left : (fault : Option Place → ℕ) (number left : ℕ) → 0 < left → run_faults fault number left ≡ fault (place_of number) ∷ run_faults fault (number + 1) (left - 1)
 faults_left fault number zero some = absurd (omega (arith, some))
 faults_left fault number (suc left) some = let e : suc left - 1 ≡ left = omega arith in rw e refl
@@ -170,7 +170,7 @@ free_beside linked t u p (q ∷ run) same others out f = (
   free_beside linked t u p run same others out.1 f.1,
 )
 
--- THE NEXT PLACE OF A FREE RUN is not refused by a function that links each free place
+-- a function that links each free place does not refuse the next place of a free run
 pub not_refused : {W : Type 0} {linked : W → Bool} {t : Table W} {number left : ℕ} {asked taken : Option Place} → IsFreeRun linked t number left → 0 < left
     → asked ≡ place_of number → ((p : Place) → asked ≡ Some p → IsFree linked t p → taken ≡ Some p) → taken ≢ None
 not_refused {linked = linked} {t} {number} {left} r some is accepted none =
@@ -267,7 +267,7 @@ tail_on : (done : List Place) (p : Place) (after end : Option Place) → end_of 
 tail_on done p None end = sym (last_or-append end done (p ∷ []))
 tail_on done p (Some x) end = refl
 
--- If `Names` holds, the entry of a place also names the place before it
+-- `Names` says that the entry of a place also names the place before it
 module _ {E W : Type 0} (linked : E → Bool) (keep : Option Place → W) (Names : Type 0) where
   -- THE PLACES `done` OF A RUN are linked between the two sides of the gap, and the places `rest` are not linked yet. This holds whatever the entries
   -- say
@@ -310,8 +310,8 @@ module _ {E W : Type 0} (linked : E → Bool) (keep : Option Place → W) (Names
     tail = λ end is. turns.tail _ (k.tail end is) ∙ ap keep (tail_on k.done p gap.after end);
   }
 
-  -- if no place of the run is left, all its places are linked. The edit touches no other place if entries after the gap stay, or if there are no
-  -- members after the gap
+  -- if no place of the run is left, all its places are linked. The edit touches no other place if it changes no entry after the gap, or if there are
+  -- no members after the gap
   module _ {old now : Table E} {list list' : ListHead W} {gap : Gap} {before : Option Place} {run rest : List Place} (k : LinksRun old now list list' gap before run rest)
       (none : rest ≡ []) where
     all_done : k.done ≡ run
@@ -349,7 +349,7 @@ touches_no_run {linked = linked} {t} {first} {count} none free = record {
   others = λ q out. refl;
 }
 
--- the ends of the list in its words are those of the list in the view, at the gap that the call found
+-- the ends that the words of a list name change in the same way as the ends of the list in a view. The gap `gap` is the one that the call found
 pub turns_back : {was old new written : Ends} {found gap : Gap} {begins ends : Option Place} → found ≡ gap → was ≡ old → written ≡ new
     → TurnsEnds (λ last. last) was new found.before found.after begins ends → Turns gap begins ends old written
 turns_back same read write turns = rw (← same, ← read, write) (record { head = turns.head; tail = turns.tail _ refl })
@@ -382,8 +382,8 @@ module _ {W : Type 0} (linked : W → Bool) (unlinked : W) where
     free = subst (λ fs. AreFree linked (table_of unlinked fs) r.run) e (are_back t r.run r.free);
   }
 
-  -- what a fill touches in a view is what it touches in the words that the caller lent. The run is inserted after the end of the gap that the call
-  -- found
+  -- what a fill touches in a view is what it touches in the words that the caller lent. The run is inserted after the place `end`, which is before
+  -- the gap that the call found
   pub run_touched : {Names : Type 0} (a b : RawTable W) {es fs : List W} {found : Option Gap} {end : Option Place} {first count : ℕ} → raw_entries a ≡ es → fs ≡ raw_entries b
       → ((g : Gap) → found ≡ Some g → (Names → g.after ≡ None) → (free : IsFreeRun linked (raw_table unlinked a) first count)
       → TouchesRun linked (raw_table unlinked a) (raw_table unlinked b) free.run g.before)

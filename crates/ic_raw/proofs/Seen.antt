@@ -36,7 +36,8 @@ says_written es p new beyond i change at_p has written =
     (λ k. says (entry_same no_tree_words es p new i at_p covered k) p (length-set es i new k)) ∙ written
     ∙ ap (λ w. change (says w p (length es))) (sym (entry_read no_tree_words es p (slice_index_or es i beyond) beyond i at_p covered refl))
 
--- a word that has a place and a mark names this place whatever the mark is, and has this mark whatever the place is
+-- a word is the sum of the word of a place and of a mark, which is 0 or 1. The sum names this place whatever the mark is, and has this mark whatever
+-- the place is
 pub place_beside : (o : Option Place) (n v : ℕ) → n ≡ word_of o → place_in (n + v % 2) ≡ o
 place_beside o n v is =
     let fits = word_fits o in
@@ -58,12 +59,12 @@ pub color_kept : (c : Color) → cond (nat_eq (one_if_black c) 1) Black Red ≡ 
 color_kept Red = refl
 color_kept Black = refl
 
--- an edit reads a place of the table as the words name it
+-- if a word names no place outside the table, an edit reads the place that the word names
 pub named_itself : (places : ℕ) (o : Option Place) → ((q : Place) → o ≡ Some q → nat_lt (index_of q) places ≡ true) → named_within places o ≡ o
 named_itself places None h = refl
 named_itself places (Some q) h = ap (λ b. cond b (Some q) None) (h q refl)
 
--- the number in a word is 8 times the index of the place plus 8, because numbers count from 1
+-- if a word names a place, the number in the word is 8 times the sum of the index and 1
 index_in : (v : ℕ) (q : Place) → place_in v ≡ Some q → number_in v ≡ 8 * (index_of q + 1)
 index_in v q is = sym (number_read v) ∙ ap word_of is
 
@@ -77,7 +78,7 @@ number_beyond places v beyond = by (place_in v) refl where
   by None e = refl
   by (Some q) e = ap (λ b. cond b (Some q) None) (sym (le-ltb (index_of q) places (omega (arith, beyond, index_in v q e))))
 
--- an option is a given place exactly if their words are equal
+-- `end` is the place p exactly if the word of `end` is equal to the word of p
 same_words : (end : Option Place) (p : Place) → nat_eq (word_of end) (word_of (Some p)) ≡ is_end end p
 same_words None p = ne_eqb 0 (8 * (index_of p + 1)) (λ e. absurd (omega (arith, e)))
 same_words (Some q) p =
@@ -85,7 +86,7 @@ same_words (Some q) p =
     ap (λ (m : ℕ). nat_eq m (8 * (index_of p + 1))) (sym (word_is q)) ∙ ap (λ (m : ℕ). nat_eq q.word m) (sym (word_is p)) in
     words ∙ word_tells q p
 
--- an end that does not belong to the table can be replaced by none, because neither is a place p of the table
+-- in the test whether an end is the place p of the table, an end outside the table can be replaced by none, because the result is false for both
 end_within : (places : ℕ) (q p : Place) (b : Bool) → nat_lt (index_of q) places ≡ b → nat_lt (index_of p) places ≡ true → is_end (Some q) p ≡ is_end (cond b (Some q) None) p
 end_within places q p true e has = refl
 end_within places q p false e has =

@@ -85,14 +85,14 @@ pub member_told : (t : Table RawOne) (list : Front) {at : Option Place} {gap : G
     → gap.after ≡ Some p → TellsMember t list at
 member_told t list {p = p} links_back found is = (links_back, (λ none. none_not p (sym none ∙ sym (ap (λ (g : Gap). g.after) found) ∙ is)))
 
--- a list without a first member represents the empty sequence
+-- for a list without a first member, a table represents the empty sequence
 pub represents_none : (t : Table RawOne) (list : Front) → list.head ≡ None → RepresentsSome t list
 represents_none t list is = ([], record { distinct = tt; chain = tt; head = is; tail = refl })
 
--- A CHAIN THAT ENDS COMES TO NO PLACE TWICE. If it came to a place twice, it would go on in the same way after both visits, and would end after
--- equally many places
+-- A CHAIN THAT ENDS COMES TO NO PLACE TWICE. If it came to a place twice, it would go on in the same way after both visits, so that equally many
+-- places would follow each visit. But fewer places follow the second visit than the first
 module _ (t : Place → RawOne) where
-  -- a chain stays a chain whatever the place before it is, because no entry names the place before its place
+  -- a chain stays a chain whatever the place before it is, because the entries of a singly linked list do not name previous places
   pub after_any : (b b' : Option Place) (w : List Place) (a : Option Place) → IsChain (IsFollowed successor) t b w a → IsChain (IsFollowed successor) t b' w a
   after_any b b' [] a c = tt
   after_any b b' (x ∷ w) a c = (record { linked = c.0.linked; next = c.0.next }, c.1)
@@ -133,7 +133,7 @@ module _ {t : Table RawOne} {front at : Place} (leads : LeadsTo t front at) (lin
         sym (last_of_push leads.walked at),
       )
 
--- a place is different from each place of a list of options exactly if this holds without the option none
+-- a place that differs from each place of a list of options still does if the option none is added to the list
 apart_none : (places : List (Option Place)) (q : Place) → IsNoneOf places q → IsNoneOf (places ++ None ∷ []) q
 apart_none [] q out = (none_not q, tt)
 apart_none (end ∷ places) q out = (out.0, apart_none places q out.1)
@@ -142,7 +142,7 @@ pub touches_places : {old new : Table RawOne} {steps : List LinkStep} (places : 
     → Touches is_linked_one old new steps places
 touches_places places k = record { steps_are = k.steps_are; others = λ q out. k.others q (apart_none places q out) }
 
--- AN EDIT OF A SINGLY LINKED LIST TOUCHES NO PLACE AFTER ITS GAP, because no entry names the place before its place
+-- AN EDIT OF A SINGLY LINKED LIST TOUCHES NO PLACE AFTER ITS GAP, because the entries of a singly linked list do not name previous places
 module _ {old mid new : Table RawOne} {before after : Option Place} {p : Place} where
   pub touches_put : IsFree is_linked_one old p → IsLinked is_linked_one mid p → ChangesOnly old mid p → KeepsLinked is_linked_one mid new
       → ((q : Place) → before ≢ Some q → q ≢ p → (⊥ → after ≢ Some q) → new.entry q ≡ mid.entry q)

@@ -21,7 +21,7 @@ module _ {E : Type 0} {linked : E → Bool} where
   pub unlinks_last : {old mid new : Table E} {p : Place} → KeepsLinked linked old mid → Unlinks linked mid new p → Unlinks linked old new p
   unlinks_last keeps off = record { was = sym (keeps _) ∙ off.was; is = off.is; others = λ q n. off.others q n ∙ keeps q }
 
-  -- If `Names` holds, the entry of a place also names the place before it
+  -- `Names` says that the entry of a place also names the place before it
   module _ {Names : Type 0} {old mid new : Table E} {before following : Option Place} where
     -- INSERT: p is marked as linked, and then linked between its neighbors. The edit touches only p and its neighbors
     pub touches_insert : {p : Place} → IsFree linked old p → IsLinked linked mid p → ChangesOnly old mid p → KeepsLinked linked mid new
@@ -76,7 +76,7 @@ module _ {E : Type 0} {linked : E → Bool} where
         gone_only.others q (other_place out.1.0) ∙ others q out.1.1.0 away (λ _. out.1.1.1.0) ∙ only.others q away;
   }
 
-  -- what an edit touches can be said with an equal list of places
+  -- `Touches` stays true if the list of places is replaced by an equal list
   pub touches_same : {old new : Table E} {steps : List LinkStep} {places places' : List (Option Place)} → places ≡ places'
       → Touches linked old new steps places → Touches linked old new steps places'
   touches_same {old} {new} {steps} same touched = subst (λ named. Touches linked old new steps named) same touched

@@ -30,7 +30,7 @@ exchanges {p = p} {out} on apart off = record {
   others = λ q n m. off.others q m ∙ on.others q n;
 }
 
--- if a set has an end, each larger set has it
+-- if o is none or a place in the set S, it is also none or a place in each larger set T
 in_more : {S T : Place → Bool} → ((q : Place) → S q ≡ true → T q ≡ true) → (o : Option Place) → IsIn S o → IsIn T o
 in_more outer None i = tt
 in_more outer (Some q) i = outer q i
@@ -48,7 +48,7 @@ also_more came S q h = pick (is_end came q) where
 also_inner : (p : Place) (S : Place → Bool) (q : Place) → also (Some p) S q ≡ true → q ≢ p → S q ≡ true
 also_inner p S q h apart = sym (ap (λ b. cond b true (S q)) (is_end_not (Some p) q (λ e. apart (sym (some_same e))))) ∙ h
 
--- if no link leads out of a set, all places of the set, and the root, belong to the table
+-- if a set has the root, and no link leads out of the set except from the place `but`, the root is none or belongs to the table
 in_nodes : {t : Table RawThree} {root but : Option Place} {S : Place → Bool} → IsClosedBut seen_node (seen t) root but S → IsIn (has_place t) root
 in_nodes {t} {root} h = in_more {T = has_place t} h.linked root h.starts
 
@@ -72,7 +72,7 @@ module _ {t u : Table RawThree} {p : Place} (only : ChangesOnly t u p) where
     moved r q apart i =
         subst (λ (e : Seen). IsIn T (r (seen_node e))) (sym ((seen_changes t u p only).others q apart)) (in_more outer (r (seen_node ((seen t).entry q))) i)
 
--- A PLACE IS INSERTED: it is linked, with words that name no other place, and then linked into the tree
+-- A PLACE IS INSERTED: it is marked as linked, with words that name no other place, and is then inserted into the tree
 pub came_within : {t mid u : Table RawThree} {p : Place} {root root' at : Option Place} → IsFree is_linked_three t p → ChangesOnly t mid p → IsWithin mid p
     → KeepsMarks mid u
     → ((T : Place → Bool) → IsClosedBut seen_node (seen mid) root (Some p) T → T p ≡ true → IsIn T at → IsClosed seen_node (seen u) root' T)
@@ -109,7 +109,7 @@ stays_within {t} {root = root} keeps_links stays root_in ends_in = record {
   closed = λ S h ends. (stays S h ends).0;
 }
 
--- A PLACE IS REMOVED: its words change last, when it is unlinked
+-- A PLACE IS REMOVED: at the end of the edit it is unlinked, and only its words change
 pub left_within : {t mid u : Table RawThree} {p : Place} {root root' came : Option Place} {ends : List (Option Place)}
     → StaysWithin t mid root root' came None ends → ChangesOnly mid u p
     → StaysWithin t u root root' came (Some p) ends
@@ -120,7 +120,7 @@ left_within {t} {mid} {u} {p} {root' = root'} {came} stays only = record {
   closed = λ S h ends. let k = stays.closed S h ends in reopened only k k.linked (λ q m n. m) (λ q m. m);
 }
 
--- an end to which links lead from the root need not be named among the ends
+-- if links lead from the root to the end `at`, then `StaysWithin` also holds without `at` in the list of ends
 pub led_within : {t u : Table RawThree} {root root' at came left : Option Place} → ((S : Place → Bool) → IsClosed seen_node (seen t) root S → IsIn S at)
     → StaysWithin t u root root' came left (at ∷ []) → StaysWithin t u root root' came left []
 led_within leads stays = record { extent = stays.extent; starts = stays.starts; names = stays.names; closed = λ S h ends. stays.closed S h (leads S h, tt) }

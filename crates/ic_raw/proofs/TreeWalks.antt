@@ -84,7 +84,7 @@ unmarked_off w off =
 unmarked_twice : (w : RawThree) → unmarked (unmarked w) ≡ unmarked w
 unmarked_twice w = let same : w.left / 2 * 2 / 2 * 2 ≡ w.left / 2 * 2 = omega arith in ap (λ n. record w { left = n }) same
 
--- if an entry is as it was, or has lost its mark, this still holds after the mark is taken off once more
+-- x is the entry w, or w without its mark. If the mark of x is cleared, the result is still w, or w without its mark
 mark_off : (w x y : RawThree) → (x ≡ w) ⊎ ((is_linked_three w ≡ true) × (x ≡ unmarked w)) → y ≡ unmarked x → (y ≡ w) ⊎ ((is_linked_three w ≡ true) × (y ≡ unmarked w))
 mark_off w x y (inl k) off = pick (is_linked_three w) refl where
   pick : (b : Bool) → is_linked_three w ≡ b → (y ≡ w) ⊎ ((is_linked_three w ≡ true) × (y ≡ unmarked w))

@@ -35,7 +35,7 @@ use Rattle.ic_raw.proofs.Seen.{named_itself}
 pub kept : (t u : Table RawThree) (root : Option Place) (s : List Place) → Represents t root s → ((q : Place) → u.entry q ≡ t.entry q) → Represents u root s
 kept t u root s shown same = represents_kept shown (λ q member. same q)
 
--- a place beside a gap is a member of the tree, and is linked, and at most one place is on each side of a gap
+-- a place beside a gap is a member of the tree, and is linked. At most one place is on each side of a gap
 beside_member : (side : Side) (cut : Cut) {at : Option Place} {q : Place} → IsBeside side cut at → at ≡ Some q → IsAbsent q (join cut) → ⊥
 beside_member Left cut e is out = (gap_not cut.front cut.back refl e out).1 is
 beside_member Right cut e is out = (gap_not cut.front cut.back e refl out).0 is
@@ -47,7 +47,7 @@ pub one_beside : (side : Side) (cut : Cut) {a b : Option Place} → IsBeside sid
 one_beside Left cut x y = x ∙ sym y
 one_beside Right cut x y = x ∙ sym y
 
--- the root is none or linked
+-- the root of a tree is none or linked
 pub root_stands : {t : Table RawThree} {root : Option Place} {s : List Place} → Represents t root s → IsNoneOrLinked is_linked_three t root
 root_stands shown q is = holds_linked shown.held (λ out. root_member shown is out)
 
@@ -56,7 +56,7 @@ pub beside_rooted : {t : Table RawThree} {root : Option Place} (side : Side) (cu
 beside_rooted {t} {root} side cut shown {at} {q} e is none =
     beside_member side cut e is (subst (λ s. IsAbsent q s) (sym (no_root (subst (λ r. Represents t r (join cut)) none shown))) tt)
 
--- a position for a child on a side of a member is beside this member. If no member is named, it is beside no member
+-- a position for a child on a side of a member is beside this member. If `at` is none, the position is beside none
 pub insert_pos_beside : (t : Table RawThree) (side : Side) (at : Option Place) (cut : Cut) → IsInsertPos side t at cut → IsBeside side cut at
 insert_pos_beside t Left None cut h = sym (ap first h.1)
 insert_pos_beside t Right None cut h = sym (ap last h.0)
@@ -76,7 +76,7 @@ pub insert_pos_viewed : {es : List RawThree} (t : RawTable RawThree) (side : Sid
 insert_pos_viewed t side None cut e h = h
 insert_pos_viewed t side (Some q) cut e h = (subst (λ fs. child_on side (node (entry_at no_tree_words fs q)) ≡ None) (sym e) h.0, h.1)
 
--- an entry that is as before, as an edit reads it, is as before
+-- if an entry is the same before and after, as an edit reads it, its words are the same
 pub frame_told : {t u : Table RawThree} {s : List Place} → ChangesOnlyIn (seen t) (seen u) s → ChangesOnlyIn t u s
 frame_told frame = record { extent = frame.extent; others = λ q out. ap (λ e. e.words) (frame.others q out) }
 
@@ -87,7 +87,7 @@ AreLinked t p = IsLinked is_linked_three t p × IsWithin t p
 pub told_kept : {t u : Table RawThree} → KeepsMarks t u → (q : Place) → AreLinked t q → AreLinked u q
 told_kept kept q h = (kept.marks q ∙ h.0, kept.names q h.1)
 
--- NO LINK LEADS OUT OF THE TABLE, as an edit reads the words, so that no link leads out of the set of all its places
+-- NO LINK LEADS OUT OF THE TABLE, as an edit reads the words. Therefore no link leads out of the set of all places of the table
 module _ (t : Table RawThree) where
   named_in : (o : Option Place) → IsIn (has_place t) (named_within t.extent.places o)
   named_in None = tt
@@ -109,7 +109,7 @@ module _ (t : Table RawThree) where
     starts = starts;
   }
 
-  -- a position for a child is a position for a child as an edit reads the words
+  -- a position for a child in the words themselves is a position for a child as an edit reads the words
   pub seen_insert_pos : (side : Side) (at : Option Place) (cut : Cut) → IsInsertPos side t at cut → insert_positions.IsInsertPos seen_node (seen t) at side cut
   seen_insert_pos side None cut h = h
   seen_insert_pos Left (Some q) cut h = (ap (named_within t.extent.places) h.0, h.1)
@@ -199,7 +199,8 @@ module _ (t : Table RawThree) (law : (q : Place) → is_linked_three (t.entry q)
   pub seen_represents : {root : Option Place} {s : List Place} → Represents t root s → trees.Represents seen_node (seen t) root s
   seen_represents h = represents_of seen_node (seen_represented [] (represented_of node h) tt)
 
-  -- an edit reads each member of a tree as its words say, and also one more place that is linked and names only places of the table
+  -- an edit reads each member of a tree as its words say. This also holds of one more place, if it is linked and its words name only places of the
+  -- table
   pub members_told : {root : Option Place} {s : List Place} → Represents t root s → (q : Place) → (IsAbsent q s → ⊥) → AreLinked t q
   members_told shown q member = (holds_linked shown.held member, within shown q member)
 

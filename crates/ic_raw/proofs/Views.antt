@@ -110,6 +110,6 @@ module _ {W : Type 0} (unlinked : W) where
 pub unlinks_none : {W : Type 0} {is_linked : W → Bool} {off : W → W} (t : Table W) → OnlyUnlinks is_linked off t t
 unlinks_none t = record { extent = refl; entries = λ q. inl refl }
 
--- what a call does can be said with equal names for the words before the call and the words after it
+-- if `Trace` holds of the words before a call and after it, `Trace` holds of words that are equal to them
 pub renamed : {W : Type 0} (Trace : List W → List W → Type 0) {old old' new new' : List W} → old' ≡ old → new ≡ new' → Trace old' new' → Trace old new
 renamed Trace e f does = rw (← e, f) does

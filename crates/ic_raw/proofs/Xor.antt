@@ -23,14 +23,14 @@ use Rattle.ic_raw.proofs.Lists.{before_stands, after_stands}
 pub words_tell : {a b : Option Place} {v w : ℕ} → v ≡ word_of a → w ≡ word_of b → (nat_eq v w ≡ true → a ≡ b) × (a ≡ b → nat_eq v w ≡ true)
 words_tell {a} {b} {v} {w} e f = (same_word a b e f, λ same. eq-eqb v w (e ∙ ap word_of same ∙ sym f))
 
--- each of the two neighbors of a place, together with the place's word, gives the second neighbor
+-- `other` of a place's word and of one neighbor is the second neighbor
 pub other_after : (e : RawOne) (a b : Option Place) → HasNeighbors e a b → other e a ≡ b
 other_after e a b j = joins_finds_other (next_of_one e) a b j
 
 other_before : (e : RawOne) (a b : Option Place) → HasNeighbors e a b → other e b ≡ a
 other_before e a b j = joins_finds_other (next_of_one e) b a (joins_symmetric (next_of_one e) a b j)
 
--- the list goes on beyond a place, and the place faces its neighbor, if the places there are none or linked and the ends are at the right places
+-- `GoesOn` and `Faces` hold if each place that they mention is none or linked, and if the list ends wherever such a place is none
 goes_on_by : (t : Table RawOne) (end : Option Place) (p : Place) (beyond : Option Place) → IsNoneOrLinked is_linked_one t beyond → (beyond ≡ None → end ≡ Some p) → GoesOn t.entry end p beyond
 goes_on_by t end p None stands ends = ends refl
 goes_on_by t end p (Some q) stands ends = stands q refl
@@ -42,7 +42,8 @@ faces_by t end None neighbor stands none beyond ends = none refl
 faces_by t end (Some p) neighbor stands none beyond ends = (stands p refl, goes_on_by t end p (other (t.entry p) neighbor) (beyond p refl) (ends p refl))
 
 module _ {t : Table RawOne} {list : Ends} (front back : List Place) (shown : Represents t list (front ++ back)) where
-  -- the list can be cut at the next gap, on the opposite side of a place beside this gap. The word of the place and its neighbor give the place there
+  -- p is a place beside the gap. The sequence can also be cut at the gap on the opposite side of p. The place beyond p is there, by the word of p and
+  -- the neighbor of p at the first gap
   cut_before : {p : Place} → Some p ≡ last front → Represents t list (but_last front ++ p ∷ back)
   cut_before {p} here = rw (← append_assoc (but_last front) (p ∷ []) back) (rw (← split_last front (sym here)) shown)
 
@@ -73,7 +74,8 @@ module _ {t : Table RawOne} {list : Ends} (front back : List Place) (shown : Rep
   pub gap_told : {before after : Option Place} → before ≡ last front → after ≡ first back → TellsGap t list before after
   gap_told e k = (before_faces e k, after_faces k e)
 
--- the words confirm each member of a list that they represent. The member is linked, and each of its neighbors and its word give the second neighbor
+-- the words confirm each member of a list that they represent. The member is linked, and `other` of its word and of one neighbor is the second
+-- neighbor
 module _ {t : Table RawOne} {list : Ends} (front : List Place) (p : Place) (back : List Place) (shown : Represents t list (front ++ p ∷ back)) where
   pub member_told : {before after : Option Place} → before ≡ last front → after ≡ first back → TellsMember t list before p after
   member_told e k =
@@ -99,7 +101,7 @@ ends_told {t} {list} {s} shown =
 pub turned : {t : Table RawOne} {list list' : Ends} {s : List Place} → Represents t list s → list'.head ≡ list.tail → list'.tail ≡ list.head → Represents t list' (reverse s)
 turned shown head tail = represents_reversed (joined_symmetric (λ e a b. joins_symmetric (next_of_one e) a b)) shown head tail
 
--- the ends of a list after an edit can be said with equal names for the ends before and after it
+-- `Turns` stays true if the ends before and after the edit are replaced by equal ends
 pub turned_back : {gap : Gap} {begins ends ends' : Option Place} {old old' new new' : Ends} → ends' ≡ ends → old ≡ old' → new' ≡ new → Turns gap begins ends old new
     → Turns gap begins ends' old' new'
 turned_back same e f turns = rw (same, ← e, f) turns

@@ -1,4 +1,4 @@
--- This file says what the status means that a call returns.
+-- This file explains the statuses that calls return.
 use Rattle.std.specs.Prelude.{◌≡◌, ◌≤◌, ℕ, zero, suc, List, [], ◌∷◌, Option, Some, None}
 use Rattle.ic_unsafe_ref.specs.declared.place.Place.{Place}
 use Rattle.ic_raw.specs.declared.status.TheConstants.{OK, NULL, BROKEN}
@@ -15,7 +15,7 @@ refusal [] = BROKEN
 refusal (zero ∷ faults) = refusal faults
 refusal (suc fault ∷ faults) = suc fault
 
--- THE CALL IS ACCEPTED: its status is `OK`, and it has made the edit `Trace`
+-- THE CALL IS ACCEPTED: its status is `OK`, and `Trace` says which edit it has made
 pub record IsAccepted (status : ℕ) (Trace : Type 0) : Type 0 where
   pub accepted : status ≡ OK
   pub done : Trace
@@ -26,6 +26,7 @@ abbrev pub IsFound : Option Place → (status number : ℕ) → Type 0
 IsFound None status number = status ≡ NULL
 IsFound (Some p) status number = IsAccepted status (HasNumber p number)
 
--- the result of the call is a position that has the property `Is`. A position is a member, or none
+-- a call finds a position for which `Is` holds. If the position is a member, the call is accepted, and `number` is the number of the member. If the
+-- position is none, the status is `NULL`
 abbrev pub HandsOut : (Option Place → Type 0) → (status number : ℕ) → Type 0
 HandsOut Is status number = (position : Option Place) × Is position × IsFound position status number

@@ -1,5 +1,5 @@
--- WHAT A CALL DOES: the definitions say how a call changes the words of a table and of a list, if these words represent a sequence. The definitions
--- are the same for every kind of lists.
+-- The definitions of this file say how a call changes the words of a table and of a list, if these words represent a sequence. The definitions are
+-- the same for every kind of lists.
 use Rattle.std.specs.Prelude.{◌≡◌, ◌⊎◌, ℕ, Bool, ◌∷◌, ◌++◌, List, Option}
 use Rattle.ic_link_ops.specs.Prelude.{Place, Cut, join, IsDisjoint, IsMember, Table, IsLinked, IsUnlinked, ChangesOnlyIn}
 use Rattle.ic_link_ops.specs.PlainTables.{table_of}
@@ -68,7 +68,8 @@ module _ {W R H : Type 0} (Represents : Table W → H → List Place → Type 0)
         RepresentsList old list (front ++ out ∷ back) → FreeIn old p → IsAccepted status
         (Replaces Represents (table_of unlinked old) (table_of unlinked new) (head_of list') (before out front back) p × IsUnlinked linked (table_of unlinked new) out)
 
-    -- if the list has the member `out` and p is free, p replaces `out`, which the call unlinks, and `number` is the number of `out`
+    -- if the list has the member `out` and p is free, the call inserts p at the position of `out`, and removes and unlinks `out`. `number` is the
+    -- number of `out`
     abbrev pub Exchanged : ℕ → Place → (front back : List Place) → Place → Type 0
     Exchanged number out front back p =
         RepresentsList old list (front ++ out ∷ back) → FreeIn old p → IsAccepted status
@@ -81,7 +82,8 @@ module _ {W R H : Type 0} (Represents : Table W → H → List Place → Type 0)
         RepresentsList old list (join cut) → RepresentsList old given t → IsDisjoint t (join cut)
         → IsAccepted status (Splices Represents (table_of unlinked old) (table_of unlinked new) (head_of list') cut t)
 
-    -- the call cuts the list in two: the list keeps the members `kept`, and the list with the words `rest` gets the members `handed`
+    -- if the table represents the list, the call cuts it in two: the list keeps the members `kept`, and the list with the words `rest` gets the
+    -- members `handed`
     abbrev pub Split : R → Cut → (kept handed : List Place) → Type 0
     Split rest cut kept handed =
         RepresentsList old list (join cut)

@@ -1,4 +1,4 @@
--- WHAT THE CHECK OF A LIST, A TREE OR A HASH TABLE DOES: each record is the whole contract of one call.
+-- Each record of this file is the whole contract of one call that checks a list, a tree or a hash table.
 use Rattle.std.specs.Prelude.{◌≡◌, ◌≢◌, ◌<◌, ◌≤◌, ◌++◌, ◌∷◌, ℕ, zero, suc, List, [], length}
 use Rattle.std.specs.List.{AllByRecursion}
 use Rattle.ic_unsafe_ref.specs.declared.place.Place.{Place}
@@ -11,10 +11,10 @@ use Rattle.ic_raw.specs.Hash.{slot_of, bucket_at, buckets_fault, HoldsChains}
 use Rattle.ic_raw.specs.Keys.{key_of, keys_fault}
 use Rattle.ic_raw.specs.Singly.{RepresentsList}
 
--- `old` and `new` are the words of the table before the call and after it
+-- `old` and `new` are the words of the table before the call and after it. `status` is the status that the call returns
 module _ {W : Type 0} (old new : List W) (status : ℕ) where
-  -- THE MEMBERS ARE COUNTED: if the words represent some sequence, the number of its members replaces the number `was`. `Represented s` says that the
-  -- words represent the sequence s
+  -- THE MEMBERS ARE COUNTED. `Represented s` says that the words represent the sequence s. The caller's variable contains `was` before the call and
+  -- `members` after it. If the call is accepted, `members` is the number of members of such a sequence
   pub record CheckCall (Represented : List Place → Type 0) (was members : ℕ) : Type 0 where
     pub shown : status ≡ OK → IsRepresented Represented members
     pub not_represented : status ≢ OK → RepresentsNone Represented

@@ -70,7 +70,8 @@ module _ {W : Type 0} (words : LinkWords W) where
   TellsGap After t list at = IsNoneOrLinked words.is_linked t (next_from t list at) × (prev_from t list (next_from t list at) ≡ at)
   TellsGap Before t list at = IsNoneOrLinked words.is_linked t (prev_from t list at) × (next_from t list (prev_from t list at) ≡ at)
 
-  -- the call cuts the list at a gap. For the side `After` the list gives away the part after the gap, and for `Before` the part before the gap
+  -- the call cuts the list at a gap. The part after the gap is `handed` for `After`, and `kept` for `Before`. The part before the gap is the other
+  -- one of the two
   abbrev pub SplitsBeside : GapSide → (old new : Table W) → (kept handed : Ends) → Cut → Type 0
   SplitsBeside After old new kept handed cut = Splits Represents old new kept handed cut.front cut.back
   SplitsBeside Before old new kept handed cut = Splits Represents old new kept handed cut.back cut.front

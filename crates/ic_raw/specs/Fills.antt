@@ -1,5 +1,5 @@
--- A run is a list of places with consecutive numbers. This file says what a call does that inserts a run. The definitions are the same for every kind
--- of lists.
+-- A run is a sequence of places with consecutive numbers. This file says what a call does that inserts a run. The definitions are the same for every
+-- kind of lists.
 use Rattle.std.specs.Prelude.{◌≡◌, ℕ, zero, suc, ◌+◌, ◌-◌, Bool, List, [], ◌∷◌, length, map, Option, Some}
 use Rattle.ic_link_ops.specs.Prelude.{Place, Cut, join, Table, acquires}
 use Rattle.ic_link_ops.specs.PlainTables.{table_of}
@@ -43,8 +43,8 @@ pub record IsFreeRun {E : Type 0} (linked : E → Bool) (t : Table E) (first cou
 abbrev pub last_of_run : (first count : ℕ) → Option Place
 last_of_run first count = place_of (first + (count - 1))
 
--- A FILL TOUCHES NO MORE THAN A RUN AND AN END: the call links the places of the run in their order. It changes only their entries and that of the
--- place `end`, after which it inserts them
+-- WHAT A FILL TOUCHES: the call links the places of `run` in their order, and inserts them after the place `end`. It changes only the entries of
+-- these places and of `end`
 abbrev pub TouchesRun : {E : Type 0} → (linked : E → Bool) → (old new : Table E) → (run : List Place) → (end : Option Place) → Type 0
 TouchesRun linked old new run end = Touches linked old new (map acquires run) (end ∷ map Some run)
 

@@ -1,4 +1,4 @@
--- A gap is the position between two neighboring members at which a call edits a list.
+-- A gap is a position between two neighboring members, or at an end of a list. A call edits a list at a gap.
 use Rattle.std.specs.Prelude.{◌≡◌, ◌≢◌, ◌∷◌, List, Bool, Option, Some, None}
 use Rattle.ic_link_ops.specs.Prelude.{Place, Cut, at_front, at_back, first, last, IsAfter, IsBefore, Table, IsLinked}
 use Rattle.ic_link_ops.specs.Chains.{Ends, end_of}
@@ -69,7 +69,8 @@ pub record IsCutAt (gap : Gap) (old front back : Ends) : Type 0 where
   pub back_head : back.head ≡ gap.after
   pub back_tail : back.tail ≡ end_of gap.after None old.tail
 
--- the list is cut at the gap. For the side `After` the list gives away the part after the gap, and for `Before` the part before the gap
+-- the list with the ends `old` is cut at the gap. The part after the gap is `handed` for `After`, and `kept` for `Before`. The part before the gap is
+-- the other one of the two
 abbrev pub IsCutBeside : GapSide → Gap → (old kept handed : Ends) → Type 0
 IsCutBeside After gap old kept handed = IsCutAt gap old kept handed
 IsCutBeside Before gap old kept handed = IsCutAt gap old handed kept

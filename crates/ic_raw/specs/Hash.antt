@@ -8,7 +8,7 @@ use Rattle.ic_raw.specs.Keys.{key_of}
 use Rattle.ic_raw.specs.Singly.{LeadsFrom, RepresentsList, table_of, word_of_front}
 use Rattle.ic_raw.specs.Words.{is_linked_one, HasNumber}
 
--- `slot_of` is the number of the bucket to which a hash leads: the remainder of the hash, divided by the number of buckets
+-- `slot_of` is the number of the bucket to which a hash leads: the remainder after the hash is divided by the number of buckets
 abbrev pub slot_of : List RawFront → ℕ → ℕ
 slot_of buckets hash = hash % length buckets
 

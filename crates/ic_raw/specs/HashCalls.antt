@@ -1,4 +1,4 @@
--- WHAT THE CALLS OF HASH TABLES DO: each record is the whole contract of a call.
+-- Each record of this file is the whole contract of one call of hash tables.
 use Rattle.std.specs.Prelude.{◌≡◌, ◌≢◌, ◌≤◌, ◌↔◌, ◌⊎◌, ◌++◌, ◌∷◌, ℕ, List, [], Option, Some, None, length}
 use Rattle.ic_link_ops.specs.Prelude.{Place, at_front, IsMember, acquires}
 use Rattle.ic_hash_table.specs.Searches.{Finds}
@@ -16,9 +16,9 @@ use Rattle.ic_raw.specs.Singly.{Inserted, Removed, LeavesChain, Touched}
 use Rattle.ic_raw.specs.Words.{is_linked_one}
 
 -- `old` and `new` are the words of the table before the call and after it. `buckets` and `buckets'` are the words of the buckets before the call and
--- after it
+-- after it. `status` is the status that the call returns
 module _ (old new : List RawOne) (buckets buckets' : List RawFront) (status hash : ℕ) where
-  -- A PLACE IS INSERTED AT THE FRONT OF THE CHAIN to which its hash leads
+  -- A PLACE IS INSERTED AT THE FRONT OF THE CHAIN to which `hash` leads
   pub record InsertCall (place : Option Place) : Type 0 where
     pub inserted : (s : List Place) (p : Place) → 1 ≤ length buckets → place ≡ Some p
         → Inserted old new (chain_of buckets hash) (chain_of buckets' hash) status (at_front s) p
@@ -33,7 +33,7 @@ module _ (old new : List RawOne) (buckets buckets' : List RawFront) (status hash
     pub why : status ≢ OK → status ≡ refusal (buckets_fault buckets ∷ fault_of old place ∷ [])
     pub is_status : IsStatus status
 
-  -- A PLACE IS REMOVED FROM THE CHAIN to which its hash leads
+  -- A PLACE IS REMOVED FROM THE CHAIN to which `hash` leads
   pub record RemoveCall (place : Option Place) : Type 0 where
     pub removed : (front back : List Place) (p : Place) → 1 ≤ length buckets → place ≡ Some p
         → Removed old new (chain_of buckets hash) (chain_of buckets' hash) status p front back
@@ -52,7 +52,8 @@ module _ (old new : List RawOne) (buckets buckets' : List RawFront) (status hash
     pub why : status ≢ OK → status ≢ NULL → status ≡ refusal (buckets_fault buckets ∷ fault_at old place ∷ [])
     pub is_status : IsStatus status
 
--- `keys` has one key for each place. If the call finds a member, the number of this member replaces the number `was`
+-- `keys` has one key for each place. The caller's variable contains `was` before the call and `number` after it. If the call is accepted, `number` is
+-- the number of the found member
 module _ (keys : List ℕ) (old new : List RawOne) (status was number : ℕ) where
   -- THE FIRST MEMBER WITH A KEY IS FOUND in the chain to which `hash` leads
   pub record FindCall (buckets : List RawFront) (hash key : ℕ) : Type 0 where

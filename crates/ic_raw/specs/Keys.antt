@@ -36,8 +36,8 @@ keys_fault keys places = cond (nat_lt (length keys) places) OUT_OF_RANGE OK
 abbrev pub key_of : List ℕ → Place → ℕ
 key_of keys p = slice_index keys (index_of p)
 
--- ON THE WAY DOWN: a search begins with the way `at_root`, which has passed no member. `past way p left` is the way that has also passed p, on its
--- left side if `left` is true
+-- THE WAY OF A SEARCH is the `InsertPos` to which the search has come. `at_root` is the way at the start, which has passed no member. `past way p
+-- left` is the way that has also passed the member p, on the left side of p if `left` is true, and else on its right side
 abbrev pub at_root : InsertPos
 at_root = record { parent = None; side = Left; front = None; back = None }
 
@@ -45,19 +45,20 @@ abbrev pub past : InsertPos → Place → Bool → InsertPos
 past way p true = record { parent = Some p; side = Left; front = way.front; back = Some p }
 past way p false = record { parent = Some p; side = Right; front = Some p; back = way.back }
 
--- THE WAY DOWN ENDS in this gap: the last place on the way has no child on the side to which the search goes, as an edit reads the words
+-- THE WAY DOWN ENDS in the gap `gap`: the last place on the way has no child on the side to which the search goes, as an edit reads the words
 pub record EndsIn (t : Table RawThree) (gap : Cut) (way : InsertPos) : Type 0 where
   pub insert_pos : IsInsertPos seen_node (seen t) way.parent way.side gap
   pub front_is : way.front ≡ last gap.front
   pub back_is : way.back ≡ first gap.back
 
--- THE SEARCH HAS GONE to the right at the member before the gap, and to the left at the member after the gap, as the comparison `left` demands
+-- THE SEARCH HAS GONE to the right at the member before the gap, and to the left at the member after the gap. `left` says at which places it should
+-- go to the left
 pub record HasTurned (left : Place → Bool) (way : InsertPos) : Type 0 where
   pub front : (q : Place) → way.front ≡ Some q → left q ≡ false
   pub back : (q : Place) → way.back ≡ Some q → left q ≡ true
 
--- a search leads from the place `from` down to `to`, past the places of the list. At each place it goes to the child on the side that `left` gives,
--- and `to` is none if there is no child
+-- a search leads from the place `from` down to `to`, past the places of the list. At a place for which `left` is true it goes to the left child, and
+-- otherwise to the right child. `to` is none if this child is missing
 abbrev pub LeadsDown : Table Seen → (Place → Bool) → Option Place → List Place → Option Place → Type 0
 LeadsDown t left from [] to = from ≡ to
 LeadsDown t left from (x ∷ w) to = (from ≡ Some x) × LeadsDown t left (child_on (side_of (left x)) (seen_node (t.entry x))) w to
@@ -66,7 +67,8 @@ LeadsDown t left from (x ∷ w) to = (from ≡ Some x) × LeadsDown t left (chil
 abbrev pub EndsBelow : Table Seen → (Place → Bool) → Option Place → Type 0
 EndsBelow t left from = (w : List Place) × LeadsDown t left from w None
 
--- if a member has the searched key, the search goes to the left. Only the search for the last member, which is the target `AtMost`, goes to the right
+-- `equals_of target` is the side to which a search goes at a member with the searched key. A search for `AtMost`, which finds the last such member,
+-- goes to the right, and the other searches go to the left
 abbrev pub equals_of : Target → Side
 equals_of Equal = Left
 equals_of AtLeast = Left
@@ -83,8 +85,8 @@ IsTarget Equal at s position = Finds at s position
 IsTarget AtLeast at s position = IsLowerBorder (Included at) s position
 IsTarget AtMost at s position = IsUpperBorder (Included at) s position
 
--- A MEMBER MEETS THE TARGET if its key is equal to the searched key for `Equal`, at least the searched key for `AtLeast`, and at most this key for
--- `AtMost`
+-- A MEMBER MEETS THE TARGET if its key is equal to the searched key for `Equal`, at least the searched key for `AtLeast`, and at most the searched
+-- key for `AtMost`
 abbrev pub Meets : Target → Ordering → Type 0
 Meets Equal order = is_eq order ≡ true
 Meets AtLeast order = is_le order ≡ true

@@ -10,7 +10,8 @@ use Rattle.ic_raw.specs.declared.table.RawTable.{RawTable}
 use Rattle.ic_raw.specs.Tables.{nameable_table, neighbors_of, IsFree, member_fault, place_fault}
 use Rattle.ic_raw.specs.Words.{no_words, is_linked_two, next_of_two, prev_of_two, no_narrow_words, is_linked_narrow, next_of_narrow, prev_of_narrow}
 
--- HOW THE WORDS OF A PLACE ARE READ: the record has the ghost members of the trait `PrevPlace`, which each type of words implements
+-- `LinkWords W` says how the words of a place are read. The record has the ghost members of the trait `PrevPlace`, which each type W of such words
+-- implements
 abbrev pub LinkWords : Type 0 → Type 1
 LinkWords W = record {
   unlinked : W;

@@ -1,6 +1,6 @@
--- WHAT THE CALLS OF DOUBLY LINKED LISTS DO: each record is the whole contract of one call. The first fields say what the call does to a list that the
--- table represents. The other fields hold whatever the words contain. They say what an accepted call has tested before it edits, which entries it
--- changes, and which ends the list then has. They also say what a refused call leaves, and why it was refused.
+-- Each record of this file is the whole contract of one call of doubly linked lists. The first fields say what the call does to a list that the table
+-- represents. The other fields hold whatever the words contain. They say what an accepted call has tested before it edits, which entries it changes,
+-- and which ends the list then has. They also say what a refused call leaves as it was, and why it was refused.
 use Rattle.std.specs.Prelude.{◌≡◌, ◌≢◌, ◌↔◌, ◌++◌, ◌∷◌, ℕ, List, [], Option, Some, None}
 use Rattle.ic_link_ops.specs.Prelude.{Place, Cut, join, at_back, KeepsLinked, acquires, releases}
 use Rattle.ic_link_ops.specs.Chains.{no_members}
@@ -35,7 +35,8 @@ module _ {W : Type 0} (link : LinkWords W) (old new : List W) (list list' : RawE
     pub why : status ≢ OK → status ≡ refusal (fault_at link old at ∷ fault_of link old place ∷ [])
     pub is_status : IsStatus status
 
-  -- THE FIRST MEMBER IS REMOVED, or the last member for the side `Before`. The number of the removed member replaces the number `was`
+  -- THE FIRST MEMBER IS REMOVED, or the last member for the side `Before`. The caller's variable contains `was` before the call and `popped` after
+  -- it. If the call is accepted, `popped` is the number of the removed member
   pub record PopCall (side : GapSide) (was popped : ℕ) : Type 0 where
     pub taken : (front back : List Place) (p : Place) → IsEnd side front back → Popped link old new list list' status popped p front back
     pub handed : (p : Place) → end_on side (ends_of list) ≡ Some p → status ≡ OK → HasNumber p popped

@@ -8,7 +8,8 @@ use Rattle.ic_raw.specs.declared.gap.GapSide.TheVariants.{After, Before}
 use Rattle.ic_raw.specs.LinkWords.{LinkWords, neighbors}
 
 module _ {W : Type 0} (words : LinkWords W) where
-  -- r IS A CIRCLE: no place is in it twice, the words of each name its neighbors in r, and the first place follows the last
+  -- THE PLACES OF A LIST ARE A CIRCLE: no place is in the list twice, the words of each place name its neighbors in the list, and the first place
+  -- comes again after the last
   abbrev pub IsCircle : Table W → List Place → Type 0
   IsCircle t = rings.IsCircle (neighbors words) t.entry
 

@@ -1,5 +1,6 @@
--- WHAT THE CALLS OF RINGS DO: each record is the whole contract of one call. The first fields say what the call does to rings. The fields after them
--- say what holds of every accepted call, and the last fields what holds of a refused call.
+-- Each record of this file is the whole contract of one call of rings. The first fields say what the call does to rings. The other fields hold
+-- whatever the words contain. They say what an accepted call has tested and which entries it changes, what a refused call leaves as it was, and why
+-- it was refused.
 use Rattle.std.specs.Prelude.{◌≡◌, ◌≢◌, ◌↔◌, ◌⊎◌, ◌++◌, ◌∷◌, ℕ, List, [], Option, Some, None}
 use Rattle.ic_link_ops.specs.Prelude.{Place, IsDisjoint, last, ChangesOnly, IsLinked, IsUnlinked, acquires, releases}
 use Rattle.ic_raw.specs.declared.gap.GapSide.{GapSide}
@@ -18,7 +19,8 @@ pub record IsAmid {W : Type 0} (words : LinkWords W) (es : List W) (p : Place) :
   pub comes : AreLinked words (table_of words es) before p
   pub goes : AreLinked words (table_of words es) p after
 
--- `words` says how the words of a place are read. `old` and `new` are the words of the table before the call and after it
+-- `words` says how the words of a place are read. `old` and `new` are the words of the table before the call and after it. `status` is the status
+-- that the call returns
 module _ {W : Type 0} (words : LinkWords W) (old new : List W) (status : ℕ) where
   -- A PLACE BECOMES A HEAD, and is then alone in a ring without members
   pub record InitCall (head : Option Place) : Type 0 where
@@ -71,7 +73,8 @@ module _ {W : Type 0} (words : LinkWords W) (old new : List W) (status : ℕ) wh
     pub why : status ≢ OK → status ≢ NULL → status ≡ refusal (fault_at words old one ∷ fault_at words old other ∷ [])
     pub is_status : IsStatus status
 
-  -- THE PLACE ON THIS SIDE OF A HEAD IS REMOVED from its ring. The number of the removed place replaces the number `was`
+  -- THE PLACE ON THIS SIDE OF A HEAD IS REMOVED from its ring. The caller's variable contains `was` before the call and `popped` after it. If the
+  -- call is accepted, `popped` is the number of the removed place
   pub record PopCall (was popped : ℕ) (side : GapSide) (head : Option Place) : Type 0 where
     pub taken : (h p : Place) (r : List Place) → head ≡ Some h → IsCircle words (table_of words old) (put_in side h p r)
         → IsAccepted status

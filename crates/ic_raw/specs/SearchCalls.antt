@@ -1,5 +1,5 @@
--- WHAT THE CALLS DO THAT INSERT AND FIND MEMBERS OF A RED-BLACK TREE BY KEYS: each record is the whole contract of one call. The keys are in an array
--- with one key for each place.
+-- Each record of this file is the whole contract of one call that inserts or finds members of a red-black tree by keys. The keys are in an array with
+-- one key for each place.
 use Rattle.std.specs.Prelude.{◌≡◌, ◌≢◌, ◌≤◌, ◌⊎◌, ◌∷◌, ℕ, List, [], Option, Some, None, length}
 use Rattle.ic_link_ops.specs.Prelude.{Place, LinksAlso}
 use Rattle.ic_raw.specs.declared.search.Target.{Target}
@@ -30,8 +30,8 @@ module _ (keys : List ℕ) (old new : List RawThree) (status : ℕ) where
     pub why : status ≢ OK → status ≡ refusal (keys_fault keys (length old) ∷ fault_of old place ∷ [])
     pub is_status : IsStatus status
 
-  -- THE MEMBER THAT `target` MEANS FOR THE KEY `key` IS FOUND, for example the first member with this key. The number of the member replaces the
-  -- number `was`
+  -- THE MEMBER THAT `target` MEANS FOR THE KEY `key` IS FOUND, for example the first member with this key. The caller's variable contains `was`
+  -- before the call and `number` after it. If the call is accepted, `number` is the number of the found member
   pub record FindCall (tree : RawRoot) (key : ℕ) (target : Target) (was number : ℕ) : Type 0 where
     pub found : (s : List Place) → length old ≤ length keys → RepresentsTree old tree s → HandsOut (IsTarget target (against key keys) s) status number
     pub reached : status ≡ OK → HandsOutReached (table_of old) (root_in tree) [] number

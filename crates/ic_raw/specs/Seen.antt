@@ -1,4 +1,5 @@
--- An edit of a tree reads a caller's words as if every place of the table were linked, and no place outside the table.
+-- An edit of a tree reads a caller's words as if every place of the table were linked. If a word names a place outside the table, the edit reads the
+-- word as if it named no place.
 use Rattle.std.specs.Prelude.{◌≡◌, ◌≢◌, ◌⊎◌, ℕ, Bool, true, cond, nat_lt, Option, Some, None, List}
 use Rattle.ic_link_ops.specs.Prelude.{Place, index_of, Table, IsLinked, KeepsLinked}
 use Rattle.ic_link_ops.specs.RedBlackTree.{Node}
@@ -33,8 +34,8 @@ seen t = record { extent = t.extent; entry = λ p. record { words = t.entry p; p
 abbrev pub has_place : Table RawThree → Place → Bool
 has_place t p = nat_lt (index_of p) t.extent.places
 
--- WORDS NAME WITHIN a table of this many places: each of the three words names none, or a place that the table has. An edit then reads these words as
--- they are
+-- THE WORDS w NAME NO PLACE OUTSIDE a table of this many places: each of the three words names none, or a place that the table has. An edit then
+-- reads these words as they are
 pub record NamesWithin (places : ℕ) (w : RawThree) : Type 0 where
   pub left : named_within places (place_in w.left) ≡ place_in w.left
   pub right : named_within places (place_in w.right) ≡ place_in w.right
@@ -44,15 +45,15 @@ pub record NamesWithin (places : ℕ) (w : RawThree) : Type 0 where
 abbrev pub IsWithin : Table RawThree → Place → Type 0
 IsWithin t p = NamesWithin t.extent.places (t.entry p)
 
--- every edit keeps the extent of the table, and which places have the mark of a linked place. If the words of a place name only places of the table
--- before the edit, they do after the edit
+-- an edit keeps the extent of the table, and it keeps which places have the mark of a linked place. If the words of a place name only places of the
+-- table before the edit, they still do after the edit
 pub record KeepsMarks (old new : Table RawThree) : Type 0 where
   pub extent : new.extent ≡ old.extent
   pub marks : KeepsLinked is_linked_three old new
   pub names : (q : Place) → IsWithin old q → IsWithin new q
 
--- LINKS LEAD TO THE PLACE q from the root or from the places `ends`: q is in each set that has these places and out of which no link leads, as an
--- edit reads the words
+-- LINKS LEAD TO THE PLACE q from the root or from the places `ends`. This means that q is in each set of places that has the root and `ends`, and out
+-- of which no link leads. The links are those that an edit reads from the words
 abbrev pub IsReached : Table RawThree → (root : Option Place) → List (Option Place) → Place → Type 0
 IsReached t root ends q = (S : Place → Bool) → IsClosed seen_node (seen t) root S → AreIn S ends → S q ≡ true
 

@@ -15,7 +15,7 @@ use Rattle.ic_raw.specs.Fills as fills
 use Rattle.ic_raw.specs.Gaps.{IsNoneOrLinked}
 use Rattle.ic_raw.specs.Touches.{Touches}
 
--- `table_of` is the table that has these words, and `lent_table` is the table of the words that a caller lends. Contracts name both
+-- `table_of` is the table that has these words, and `lent_table` is the table of the words that a caller lends
 abbrev pub table_of : List RawOne → Table RawOne
 table_of = plain.table_of no_word
 
@@ -30,7 +30,7 @@ successor = successor_of next_of_one is_linked_one
 abbrev pub Represents : Table RawOne → Front → List Place → Type 0
 Represents = singly.Represents successor
 
--- THE TABLE REPRESENTS SOME SEQUENCE for the list, because the links lead from the list's first place to an end
+-- THE TABLE REPRESENTS SOME SEQUENCE for the list: the links lead from the first place of the list to an end
 abbrev pub RepresentsSome : Table RawOne → Front → Type 0
 RepresentsSome = singly.RepresentsSome successor
 
@@ -63,7 +63,8 @@ TellsGap t list at = IsNoneOrLinked is_linked_one t at × IsNoneOrLinked is_link
 abbrev pub TellsMember : Table RawOne → Front → (at : Option Place) → Type 0
 TellsMember t list at = TellsGap t list at × (next_from t list at ≢ None)
 
--- THE LINKS LEAD FROM `front` TO `at`: each place of `walked` is linked and names the next one, and the last names `at`
+-- THE LINKS LEAD FROM `front` TO `at`, through the places of `walked`. Each place of `walked` is linked and names the next one, and the last one
+-- names `at`. If `walked` is empty, `front` is `at`
 pub record LeadsTo (t : Table RawOne) (front at : Place) : Type 0 where
   pub walked : List Place
   pub chain : IsChain (IsFollowed successor) t.entry None walked (Some at)
@@ -81,7 +82,7 @@ pub record LosesFront (t : Table RawOne) (at : Option Place) (old new : Front) :
   pub first : old.head ≡ at → new.head ≡ next_from t old at
   pub other : old.head ≢ at → new.head ≡ old.head
 
--- the definitions of what a call does are those of the file Calls, which are used here for singly linked lists
+-- THE DEFINITIONS BELOW are those of the file Calls, for singly linked lists
 abbrev pub RepresentsList : List RawOne → RawFront → List Place → Type 0
 RepresentsList = calls.RepresentsList Represents is_linked_one no_word list_of
 

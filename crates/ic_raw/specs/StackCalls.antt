@@ -1,6 +1,6 @@
--- WHAT THE CALLS OF SINGLY LINKED LISTS DO: each record is the whole contract of one call. The first fields say what the call does to a list that the
--- table represents. The other fields hold whatever the words contain. They say what an accepted call has tested before it edits, what a refused call
--- leaves, and why it was refused.
+-- Each record of this file is the whole contract of one call of singly linked lists. The first fields say what the call does to a list that the table
+-- represents. The other fields hold whatever the words contain. They say what an accepted call has tested before it edits, what a refused call leaves
+-- as it was, and why it was refused.
 use Rattle.std.specs.Prelude.{◌≡◌, ◌≢◌, ◌↔◌, ◌∷◌, ℕ, List, [], Option, Some, None}
 use Rattle.ic_link_ops.specs.Prelude.{Place, Cut, at_front, last, IsAfter, acquires, releases}
 use Rattle.ic_link_ops.specs.Chains.{end_of}
@@ -32,7 +32,8 @@ module _ (old new : List RawOne) (list list' : RawFront) (status : ℕ) where
     pub why : status ≢ OK → status ≡ refusal (fault_at old at ∷ fault_of old place ∷ [])
     pub is_status : IsStatus status
 
-  -- THE FIRST MEMBER IS REMOVED. The number of the removed member replaces the number `was`
+  -- THE FIRST MEMBER IS REMOVED. The caller's variable contains `was` before the call and `popped` after it. If the call is accepted, `popped` is the
+  -- number of the removed member
   pub record PopCall (was popped : ℕ) : Type 0 where
     pub taken : (s : List Place) (p : Place) → Popped old new list list' status popped p [] s
     pub handed : (p : Place) → front_of list ≡ Some p → status ≡ OK → HasNumber p popped
@@ -45,7 +46,8 @@ module _ (old new : List RawOne) (list list' : RawFront) (status : ℕ) where
     pub why : status ≢ OK → status ≢ NULL → status ≡ BROKEN
     pub is_status : IsStatus status
 
-  -- THE MEMBER AFTER `at` IS REMOVED, or the first member if `at` is none. The number of the removed member replaces the number `was`
+  -- THE MEMBER AFTER `at` IS REMOVED, or the first member if `at` is none. The caller's variable contains `was` before the call and `removed` after
+  -- it. If the call is accepted, `removed` is the number of the removed member
   pub record RemoveCall (at : Option Place) (was removed : ℕ) : Type 0 where
     pub taken : (front back : List Place) (p : Place) → at ≡ last front → Popped old new list list' status removed p front back
     pub handed : (p : Place) → after at ≡ Some p → status ≡ OK → HasNumber p removed
@@ -59,8 +61,8 @@ module _ (old new : List RawOne) (list list' : RawFront) (status : ℕ) where
     pub why : status ≢ OK → status ≢ NULL → status ≡ refusal (fault_at old at ∷ [])
     pub is_status : IsStatus status
 
-  -- A PLACE REPLACES THE MEMBER AFTER `at`, or the first member if `at` is none. The replaced member is removed, and its number replaces the number
-  -- `was`
+  -- A PLACE REPLACES THE MEMBER AFTER `at`, or the first member if `at` is none. The replaced member is removed. The caller's variable contains `was`
+  -- before the call and `out` after it. If the call is accepted, `out` is the number of the replaced member
   pub record ReplaceCall (at place : Option Place) (was out : ℕ) : Type 0 where
     pub replaced : (front back : List Place) (q p : Place) → at ≡ last front → place ≡ Some p → Exchanged old new list list' status out q front back p
     pub handed : (q : Place) → after at ≡ Some q → status ≡ OK → HasNumber q out

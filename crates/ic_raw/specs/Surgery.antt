@@ -8,11 +8,11 @@ use Rattle.ic_raw.specs.Tree.{lent_table}
 
 -- `a` and `b` are the state of the implementation before the edit and after it
 module _ {S : Type 0} (Reports : S → S → Table RawThree → Table RawThree → Type 0) (a b : S) where
-  -- an insertion first changes only the entry of p. The record covers what the insertion writes after this change
+  -- at its beginning, an insertion changes only the entry of p. The record covers what the insertion writes after this change
   abbrev pub ReportsInsertion : (old new : Table RawThree) → Place → Type 0
   ReportsInsertion old new p = (mid : Table RawThree) × ChangesOnly old mid p × Reports a b mid new
 
-  -- a removal last changes only the entry of p. The record covers what the removal writes before this change
+  -- at its end, a removal changes only the entry of p. The record covers what the removal writes before this change
   abbrev pub ReportsRemoval : (old new : Table RawThree) → Place → Type 0
   ReportsRemoval old new p = (mid : Table RawThree) × Reports a b old mid × ChangesOnly mid new p
 

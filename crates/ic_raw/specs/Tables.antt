@@ -46,8 +46,9 @@ module _ {W : Type 0} where
     pub unlinked : IsUnlinked is_linked t p
 
 module _ {W : Type 0} (next_word : W → ℕ) where
-  -- `joins_of` says that the words w name two places as neighbors. Each definition here reads the words as a link, for which the reading is defined
-  -- already
+  -- `joins_of w` says which two places are neighbors of a place in an XOR list, if w is the words of the place. `other_of w` is one of these
+  -- neighbors, given the other. `successor_of w` is what w says in a singly linked list, and `neighbors_of prev w` what w says in a doubly linked
+  -- list
   abbrev pub joins_of : W → Option Place → Option Place → Type 0
   joins_of w = readings.HasXorNeighbors next_word (link_of w)
 

@@ -12,7 +12,7 @@ IsNoneOf (end ∷ ends) q = (end ≢ Some q) × IsNoneOf ends q
 abbrev pub sides : Gap → List (Option Place)
 sides gap = gap.before ∷ gap.after ∷ []
 
--- AN EDIT TOUCHES NO MORE: it links and unlinks places in exactly these steps, and changes only the entries of these places
+-- WHAT AN EDIT TOUCHES: the edit makes exactly the link steps `steps`, and changes no entry outside the list `places`
 pub record Touches {E : Type 0} (linked : E → Bool) (old new : Table E) (steps : List LinkStep) (places : List (Option Place)) : Type 0 where
   pub steps_are : TraceIs linked old new steps
   pub others : (q : Place) → IsNoneOf places q → new.entry q ≡ old.entry q

@@ -14,7 +14,7 @@ use Rattle.ic_raw.specs.Words.{place_in, no_tree_words, is_linked_three, color_o
 use Rattle.ic_raw.specs.Tables.{raw_table}
 use Rattle.ic_raw.specs.Calls as calls
 
--- `table_of` is the table that has these words, and `lent_table` is the table of the words that a caller lends. Contracts name both
+-- `table_of` is the table that has these words, and `lent_table` is the table of the words that a caller lends
 abbrev pub table_of : List RawThree → Table RawThree
 table_of = plain.table_of no_tree_words
 
@@ -41,8 +41,8 @@ word_of_root root = record { root = word_of root }
 abbrev pub IsWritten : RawRoot → Type 0
 IsWritten t = t ≡ word_of_root (root_in t)
 
--- A POSITION FOR A CHILD on this side of the member `at`, which has no child there: a new member comes before `at` on the left side, and after `at`
--- on the right. If `at` is none, the tree is empty
+-- THE CUT IS A POSITION FOR A CHILD on this side of the member `at`, which has no child there: the cut is before `at` on the left side, and after
+-- `at` on the right. If `at` is none, the tree is empty
 abbrev pub IsInsertPos : Side → Table RawThree → Option Place → Cut → Type 0
 IsInsertPos side t at cut = insert_positions.IsInsertPos node t at side cut
 
@@ -51,7 +51,7 @@ abbrev pub TellsInsertPos : Side → Table RawThree → (root : Option Place) �
 TellsInsertPos side t root None = root ≡ None
 TellsInsertPos side t root (Some p) = child_on side (node (t.entry p)) ≡ None
 
--- the definitions of what a call does are those of the file Calls, which are used here for red-black trees
+-- THE DEFINITIONS BELOW are those of the file Calls, for red-black trees
 abbrev pub RepresentsTree : List RawThree → RawRoot → List Place → Type 0
 RepresentsTree = calls.RepresentsList Represents is_linked_three no_tree_words root_in
 

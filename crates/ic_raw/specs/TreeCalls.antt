@@ -1,6 +1,6 @@
--- WHAT THE CALLS OF RED-BLACK TREES DO: each record is the whole contract of one call. The first fields say what the call does to a tree that the
--- table represents. The other fields hold whatever the words contain. They say what an accepted call has tested before it edits, what a refused call
--- leaves, and why it was refused.
+-- Each record of this file is the whole contract of one call of red-black trees. The first fields say what the call does to a tree that the table
+-- represents. The other fields hold whatever the words contain. They say what an accepted call has tested before it edits, what a refused call leaves
+-- as it was, and why it was refused.
 use Rattle.std.specs.Prelude.{◌≡◌, ◌≢◌, ◌↔◌, ◌⊎◌, ◌∷◌, ℕ, List, [], Option, Some, None}
 use Rattle.ic_link_ops.specs.Prelude.{Place, Cut, join, LinksAlso, Unlinks, Exchanges}
 use Rattle.ic_link_ops.specs.declared.side.Side.{Side}
@@ -84,8 +84,8 @@ module _ (old new : List RawThree) (tree tree' : RawRoot) (status : ℕ) where
 -- `old` and `new` are the words of the table before the call and after it, and `tree` is the word of the tree. `status` is the status that the call
 -- returns
 module _ (old new : List RawThree) (tree : RawRoot) (status : ℕ) where
-  -- THE MEMBER BESIDE `at` on this side IS FOUND. If `at` is none, the outermost member on the opposite side is found. The number of the member
-  -- replaces the number `was`
+  -- THE MEMBER BESIDE `at` on this side IS FOUND. If `at` is none, the outermost member on the opposite side is found. The caller's variable contains
+  -- `was` before the call and `number` after it. If the call is accepted, `number` is the number of the found member
   pub record StepCall (side : Side) (at : Option Place) (was number : ℕ) : Type 0 where
     pub found : (cut : Cut) (member : Option Place) → IsBeside side cut at → IsBeside (across side) cut member → RepresentsTree old tree (join cut)
         → IsFound member status number

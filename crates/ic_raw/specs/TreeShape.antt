@@ -19,16 +19,16 @@ IsSeen t = trees.Represents seen_node (seen t)
 abbrev pub Cleared : (old new : List RawThree) (tree tree' : RawRoot) (status : ℕ) → List Place → Type 0
 Cleared = calls.Cleared Represents is_linked_three no_tree_words root_in
 
--- `unmarked` is the entry without the mark of a linked place. It names the places that the entry named with the mark
+-- `unmarked w` is the entry w without the mark of a linked place. It names the same places as w
 abbrev pub unmarked : RawThree → RawThree
 unmarked w = record w { left = w.left / 2 * 2 }
 
--- MARKS ARE CLEARED, AND NOTHING ELSE CHANGES: each entry is as it was, or it had the mark of a linked place and has lost this mark
+-- MARKS ARE CLEARED, AND NOTHING ELSE CHANGES: each entry is as it was, or it has lost the mark of a linked place
 abbrev pub OnlyUnmarks : (old new : Table RawThree) → Type 0
 OnlyUnmarks = calls.OnlyUnlinks is_linked_three unmarked
 
--- STEPS TO THE RIGHT LEAD THROUGH THESE PLACES, which are linked, one after the other to an end. They begin at the place `at`, or before the first
--- member if `at` is none
+-- STEPS TO THE RIGHT LEAD THROUGH THE PLACES of the list, one after the other, to an end. Each of these places is linked. The steps begin at the
+-- place `at`, or before the first member if `at` is none
 abbrev pub LeadsThrough : Table RawThree → (root at : Option Place) → List Place → Type 0
 LeadsThrough t root at [] = StepEndsIn t root Right at
 LeadsThrough t root at (x ∷ s) = StepsTo seen_node (seen t) root Right at x × IsLinked is_linked_three t x × LeadsThrough t root (Some x) s

@@ -36,8 +36,8 @@ place_of i = place_at (8 * ((i + 1) % 4294967296))
 abbrev pub HasNumber : Place → ℕ → Type 0
 HasNumber p number = index_of p < 4294967295 → place_of number ≡ Some p
 
--- A link of one word: `no_word` is the word of an unlinked place, `is_linked_one` says whether a place is linked, and `next_of_one` is the number of
--- the next place
+-- A LINK OF ONE WORD: `no_word` is the link of an unlinked place, and `is_linked_one` says whether a place is linked. `next_of_one` is the number in
+-- the word, which in a singly linked list is the number of the next place
 abbrev pub no_word : RawOne
 no_word = record { next = 0 }
 

@@ -15,7 +15,7 @@ use Rattle.ic_raw.specs.Fills as fills
 abbrev pub HasNeighbors : RawOne → Option Place → Option Place → Type 0
 HasNeighbors = joins_of next_of_one
 
--- `other` is the second neighbor of a place, which its word and its first neighbor give
+-- `other w a` is the second neighbor of a place, if w is the word of the place and a is its first neighbor
 abbrev pub other : RawOne → Option Place → Option Place
 other = other_of next_of_one
 
@@ -23,18 +23,18 @@ other = other_of next_of_one
 abbrev pub Represents : Table RawOne → Ends → List Place → Type 0
 Represents = xor.Represents is_linked_one HasNeighbors
 
--- `beyond` is the neighbor of the place `at` that is opposite to `neighbor`, by the word of `at`. If `at` is none, it is none
+-- `beyond` is the neighbor of the place `at` that is opposite to `neighbor`, by the word of `at`. If `at` is none, `beyond` is none
 abbrev pub beyond : Table RawOne → (at neighbor : Option Place) → Option Place
 beyond t None neighbor = None
 beyond t (Some p) neighbor = other (t.entry p) neighbor
 
--- THE LIST GOES ON beyond the place p: the place `beyond` is linked, or it is none and p is the end of the list on that side
+-- THE LIST GOES ON beyond the place p: the place `beyond` is linked, or it is none and p is `end`, the end of the list on the side of `beyond`
 abbrev pub GoesOn : (Place → RawOne) → (end : Option Place) → Place → (beyond : Option Place) → Type 0
 GoesOn entry end p None = end ≡ Some p
 GoesOn entry end p (Some q) = is_linked_one (entry q) ≡ true
 
 -- A PLACE FACES ITS NEIGHBOR: the place is linked, and the list goes on beyond the place, on the side away from the neighbor. If there is no place,
--- the neighbor is the list's end
+-- the neighbor is `end`, an end of the list
 abbrev pub Faces : (Place → RawOne) → (end place neighbor : Option Place) → Type 0
 Faces entry end None neighbor = end ≡ neighbor
 Faces entry end (Some p) neighbor = (is_linked_one (entry p) ≡ true) × GoesOn entry end p (other (entry p) neighbor)
@@ -62,8 +62,9 @@ TellsMemberBefore t list after at = (p : Place) → at ≡ Some p → TellsMembe
 abbrev pub TellsEnds : Table RawOne → Ends → Type 0
 TellsEnds t list = Faces t.entry list.tail list.head None × Faces t.entry list.head list.tail None
 
--- THE LINKS LEAD THROUGH s from the first member to the last: each place of s is linked, and its word and the place before it give the next place.
--- Unlike a list, s may have a place twice
+-- THE LINKS LEAD THROUGH s to the end of the list: each place of s is linked, and its word and the place before it name the next place.
+-- `LeadsThrough` says this from the first member on. `LeadsOn` says it from the place `at` on, with the place `from` before `at`. Unlike a list, s
+-- may have a place twice
 abbrev pub LeadsOn : (Place → RawOne) → (end from at : Option Place) → List Place → Type 0
 LeadsOn entry end from at [] = (at ≡ None) × (end ≡ from)
 LeadsOn entry end from at (x ∷ s) = (at ≡ Some x) × (is_linked_one (entry x) ≡ true) × LeadsOn entry end (Some x) (other (entry x) from) s
@@ -71,7 +72,7 @@ LeadsOn entry end from at (x ∷ s) = (at ≡ Some x) × (is_linked_one (entry x
 abbrev pub LeadsThrough : Table RawOne → Ends → List Place → Type 0
 LeadsThrough t list s = LeadsOn t.entry list.tail None list.head s
 
--- the definitions of what a call does are those of the file Calls, which are used here for XOR linked lists
+-- THE DEFINITIONS BELOW are those of the file Calls, for XOR linked lists
 abbrev pub RepresentsList : List RawOne → RawEnds → List Place → Type 0
 RepresentsList = calls.RepresentsList Represents is_linked_one no_word ends_of
 
@@ -111,7 +112,7 @@ Cleared = calls.Cleared Represents is_linked_one no_word ends_of
 abbrev pub Filled : (old new : List RawOne) (list list' : RawEnds) (status : ℕ) → Cut → (first count : ℕ) → Type 0
 Filled = fills.Filled Represents is_linked_one no_word ends_of
 
--- LINKED PLACES ARE UNLINKED, AND NOTHING ELSE IS CHANGED: each entry is as it was, or it was that of a linked place and is now the word of an
--- unlinked place
+-- LINKED PLACES ARE UNLINKED, AND NOTHING ELSE CHANGES: each entry of `new` is equal to that of `old`, or it is the word of an unlinked place and the
+-- entry of `old` is that of a linked place
 abbrev pub OnlyUnlinks : (old new : Table RawOne) → Type 0
 OnlyUnlinks = calls.OnlyUnlinks is_linked_one (λ w. no_word)

@@ -1,6 +1,6 @@
--- WHAT THE CALLS OF XOR LINKED LISTS DO: each record is the whole contract of one call. The first fields say what the call does to a list that the
--- table represents. The other fields hold whatever the words contain. They say what an accepted call has tested before it edits, what a refused call
--- leaves, and why it was refused.
+-- Each record of this file is the whole contract of one call of XOR linked lists. The first fields say what the call does to a list that the table
+-- represents. The other fields hold whatever the words contain. They say what an accepted call has tested before it edits, what a refused call leaves
+-- as it was, and why it was refused.
 use Rattle.std.specs.Prelude.{◌≡◌, ◌≢◌, ◌↔◌, ◌∷◌, ℕ, List, [], Option, Some, None}
 use Rattle.ic_link_ops.specs.Prelude.{Place, Cut, at_back, last, IsAfter, IsBefore, acquires, releases}
 use Rattle.ic_link_ops.specs.Chains.{no_members}
@@ -23,7 +23,7 @@ use Rattle.ic_raw.specs.Xor.{Inserted, Removed, Popped, Replaced, Spliced, Split
 -- `old` and `new` are the words of the table before the call and after it. `list` and `list'` are the words of the list before the call and after it.
 -- `status` is the status that the call returns
 module _ (old new : List RawOne) (list list' : RawEnds) (status : ℕ) where
-  -- A PLACE IS INSERTED BETWEEN the neighbors `before` and `after`, of which one is none at an end of the list
+  -- A PLACE IS INSERTED BETWEEN the neighbors `before` and `after`. At the front of the list `before` is none, and at the back `after` is none
   pub record InsertCall (before after place : Option Place) : Type 0 where
     pub inserted : (cut : Cut) (p : Place) → IsAfter cut before → IsBefore cut after → place ≡ Some p → Inserted old new list list' status cut p
     pub free : (p : Place) → place ≡ Some p → status ≡ OK → FreeIn old p
@@ -38,7 +38,7 @@ module _ (old new : List RawOne) (list list' : RawEnds) (status : ℕ) where
     pub why : status ≢ OK → status ≡ refusal (fault_at old before ∷ fault_at old after ∷ fault_of old place ∷ [])
     pub is_status : IsStatus status
 
-  -- A PLACE IS INSERTED AT AN END of the list. One of `before` and `after` is none, and the second is the end that the list's words name
+  -- A PLACE IS INSERTED AT AN END of the list. One of `before` and `after` is none, and the other one is the end that the words of the list name
   pub record PushCall (before after place : Option Place) : Type 0 where
     pub inserted : (cut : Cut) (p : Place) → IsAfter cut before → IsBefore cut after → place ≡ Some p → Inserted old new list list' status cut p
     pub free : (p : Place) → place ≡ Some p → status ≡ OK → FreeIn old p
@@ -61,7 +61,8 @@ module _ (old new : List RawOne) (list list' : RawEnds) (status : ℕ) where
   around_end After = gap_between None (beyond (table_of old) (ends_of list).head None)
   around_end Before = gap_between (beyond (table_of old) (ends_of list).tail None) None
 
-  -- THE FIRST MEMBER IS REMOVED, or the last member for the side `Before`. The number of the removed member replaces the number `was`
+  -- THE FIRST MEMBER IS REMOVED, or the last member for the side `Before`. The caller's variable contains `was` before the call and `popped` after
+  -- it. If the call is accepted, `popped` is the number of the removed member
   pub record PopCall (side : GapSide) (was popped : ℕ) : Type 0 where
     pub taken : (front back : List Place) (p : Place) → IsEnd side front back → Popped old new list list' status popped p front back
     pub handed : (p : Place) → end_on side (ends_of list) ≡ Some p → status ≡ OK → HasNumber p popped
@@ -110,8 +111,8 @@ module _ (old new : List RawOne) (list list' : RawEnds) (status : ℕ) where
     pub why : status ≢ OK → status ≢ NULL → status ≡ refusal (fault_at old at ∷ fault_at old before ∷ fault_of old place ∷ [])
     pub is_status : IsStatus status
 
-  -- ALL MEMBERS OF A SECOND LIST MOVE BETWEEN the neighbors `before` and `after`, of which one is none at an end of the list. `given` and `given'`
-  -- are the words of the second list before the call and after it
+  -- ALL MEMBERS OF A SECOND LIST MOVE BETWEEN the neighbors `before` and `after`. At the front of the list `before` is none, and at the back `after`
+  -- is none. `given` and `given'` are the words of the second list before the call and after it
   pub record SpliceCall (before after : Option Place) (given given' : RawEnds) : Type 0 where
     pub spliced : (cut : Cut) (t : List Place) → IsAfter cut before → IsBefore cut after → Spliced old new list list' status given cut t
     pub emptied : status ≡ OK → given' ≡ words_of no_members
@@ -146,8 +147,9 @@ module _ (old new : List RawOne) (list list' : RawEnds) (status : ℕ) where
     pub why : status ≢ OK → status ≡ BROKEN
     pub is_status : IsStatus status
 
-  -- THE LIST IS CUT BETWEEN the neighbors `before` and `after`, of which one is none at an end of the list. The members after the cut become the list
-  -- `rest`, which has to be empty before the call. `rest` and `rest'` are the words of this list before the call and after it
+  -- THE LIST IS CUT BETWEEN the neighbors `before` and `after`. At the front of the list `before` is none, and at the back `after` is none. The
+  -- members after the cut become the list `rest`, which has to be empty before the call. `rest` and `rest'` are the words of this list before the
+  -- call and after it
   pub record SplitCall (before after : Option Place) (rest rest' : RawEnds) : Type 0 where
     pub split : (cut : Cut) → IsAfter cut before → IsBefore cut after → ends_of rest ≡ no_members → Split old new list list' status rest' cut
     pub empty : status ≡ OK → ends_of rest ≡ no_members

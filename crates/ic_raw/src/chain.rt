@@ -23,8 +23,8 @@ use crate::words::RawOne;
 use ic_link_ops::singly_linked_list::SinglyLinkedListOps;
 use ic_unsafe_ref::Place;
 
-// Returns the place before `member` in the chain that begins with `front`, if a walk from `front` comes to `member`. The inner result is `None` if
-// `member` is the first of the chain.
+// Returns the place before `member` in the chain that begins with `front`, or `Some(None)` if `member` is the first of the chain. The result is
+// `None` if a walk from `front` does not come to `member`.
 pub(crate) fn place_before(
     links: &RawTable<'_, RawOne>,
     front: Option<Place>,
@@ -59,7 +59,8 @@ pub(crate) fn place_before(
     None
 }
 
-// Stores in `found` the number of the first member with the key `key`, among the members of a chain from the place `from` on.
+// Searches the members of a chain from the place `from` on, and stores in `found` the number of the first one with the key `key`. The function
+// returns [`NULL`] if the chain ends without such a member. It returns [`BROKEN`] if the links lead to a place that is not linked, or to no end.
 pub(crate) fn find_from(
     links: &RawTable<'_, RawOne>,
     keys: &[u64],

@@ -37,10 +37,10 @@ impl<W: Words> TellsLinks for RawTable<'_, W> {
     }
 }
 
-/// Checks that the words represent a doubly linked list, and stores the number of its members in `members`, or returns [`BROKEN`] if they do not
-/// represent one. O(n).
+/// Checks that the words represent a doubly linked list, and stores the number of its members in `members`. If the words represent none, the call
+/// returns [`BROKEN`]. O(n).
 ///
-/// The call writes nothing else. If it returns [`OK`], every other call does with this list what the comment of the other call says.
+/// The call writes nothing else. If it returns [`OK`], each other call does with this list what the comment of that call says.
 #[inline]
 pub fn check_list<W: PrevPlace>(table: &mut [W], list: &RawEnds, members: &mut u64) -> u32
     ensures { CheckCall table.old table.new result (doubly.RepresentsList W.PrevPlace table.old list.now) members.old members.new }
@@ -53,10 +53,10 @@ pub fn check_list<W: PrevPlace>(table: &mut [W], list: &RawEnds, members: &mut u
     OK
 }
 
-/// Checks that the words represent a singly linked list, and stores the number of its members in `members`, or returns [`BROKEN`] if they do not
-/// represent one. O(n).
+/// Checks that the words represent a singly linked list, and stores the number of its members in `members`. If the words represent none, the call
+/// returns [`BROKEN`]. O(n).
 ///
-/// The call writes nothing else. If it returns [`OK`], every other call does with this list what the comment of the other call says.
+/// The call writes nothing else. If it returns [`OK`], each other call does with this list what the comment of that call says.
 #[inline]
 pub fn check_stack(table: &mut [RawOne], list: &RawFront, members: &mut u64) -> u32
     ensures { CheckCall table.old table.new result (singly.RepresentsList table.old list.now) members.old members.new }
@@ -69,11 +69,11 @@ pub fn check_stack(table: &mut [RawOne], list: &RawFront, members: &mut u64) -> 
     OK
 }
 
-/// Checks that the words represent a tree, and stores the number of its members in `members`, or returns [`BROKEN`] if they do not represent a
-/// red-black tree. O(n).
+/// Checks that the words represent a red-black tree, and stores the number of its members in `members`. If the words represent none, the call returns
+/// [`BROKEN`]. O(n).
 ///
-/// The call writes nothing else, and it requires no keys. If it returns [`OK`], every other call does with this tree what the comment of the other
-/// call says.
+/// The call writes nothing else, and it requires no keys. If it returns [`OK`], each other call does with this tree what the comment of that call
+/// says.
 #[inline]
 pub fn check_tree(table: &mut [RawThree], tree: &RawRoot, members: &mut u64) -> u32
     ensures { CheckCall table.old table.new result (RepresentsTree table.old tree.now) members.old members.new }
@@ -138,7 +138,7 @@ fn all_members(links: &RawTable<'_, RawOne>, hashes: &[u64], buckets: &[RawFront
 /// end, or if a member is not in the bucket to which its hash leads. O(b + n) for b buckets and n places.
 ///
 /// The call writes nothing else. There must be a hash for each place of the table, and at least one bucket. If the call returns [`OK`], no place is
-/// in two chains, and every other call does with each chain what the comment of the other call says.
+/// in two chains, and each other call does with each chain what the comment of that call says.
 #[inline]
 pub fn check_hash(
     table: &mut [RawOne],

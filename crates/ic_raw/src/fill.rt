@@ -1,4 +1,4 @@
-//! A run is a list of places with consecutive numbers, which one call links.
+//! A run is a sequence of places with consecutive numbers. One call inserts all places of a run into a list.
 //!
 //! ```text
 //! let status = fill(&mut links, &mut list, gap, first, count);
@@ -46,9 +46,11 @@ fn run_fault<W: Words>(links: &RawTable<'_, W>, first: u32, count: u32) -> u32
     OK
 }
 
-// Links each place of a run of unlinked places after the previous one, between two neighbors of a list.
+// Inserts the run of `count` places from the number `first` on into `gap`. The function links each place of the run after the place before it. It
+// ends early if a place cannot be acquired.
 //
-// The clause `filled` has a premise, which the caller proves for its kind of lists: a place between two other places is linked.
+// The clause `filled` has a premise, which the caller proves for its kind of lists: an entry that names the neighbors of a member is the entry of a
+// linked place.
 fn link_run<'a, W: Words, K: ForwardLinks<RawTable<'a, W>>>(
     links: &mut RawTable<'a, W>,
     list: &mut LinkList<K, ()>,
@@ -81,8 +83,8 @@ fn link_run<'a, W: Words, K: ForwardLinks<RawTable<'a, W>>>(
     }
 }
 
-/// Inserts a run of places into the gap, if there is a gap and each place of the run belongs to the table and is not linked. Otherwise the function
-/// returns the status of the refusal. O(count).
+/// Inserts the run of `count` places from the number `first` on into `gap`. O(count). If a place of the run does not belong to the table or is
+/// linked, or if `gap` is `None`, the function changes nothing and returns the status of the refusal.
 pub(crate) fn fill<'a, W: Words, K: ForwardLinks<RawTable<'a, W>>>(
     links: &mut RawTable<'a, W>,
     list: &mut LinkList<K, ()>,
@@ -120,7 +122,7 @@ pub(crate) fn fill<'a, W: Words, K: ForwardLinks<RawTable<'a, W>>>(
     OK
 }
 
-/// Returns the gap after the last member of an XOR list. The result is `None` if the links on the two sides of this gap do not lead to each other.
+/// Returns the gap after the last member of an XOR list. The result is `None` if the links on the two sides of the gap do not lead to each other.
 pub(crate) fn gap_after_last_of_xor(
     links: &RawTable<'_, RawOne>,
     list: &xor_list::List,

@@ -22,7 +22,7 @@ use crate::xor_calls;
 
 /// Inserts the `count` places `first`, `first + 1` and so on at the back of the list, in the order of their numbers. O(count).
 ///
-/// Each of these places must belong to the table and must not be linked. If the last member does not belong to the table, the call returns
+/// Each of these places must belong to the table and must not be linked. If the last member is not linked, the call returns
 /// [`BROKEN`](crate::BROKEN). If `count` is 0, nothing changes.
 #[inline]
 pub fn fill_list(table: &mut [RawTwo], list: &mut RawEnds, first: u32, count: u32) -> u32
@@ -66,7 +66,7 @@ pub fn fill_stack(table: &mut [RawOne], list: &mut RawFront, first: u32, count: 
 
 /// Inserts the `count` places `first`, `first + 1` and so on at the back of the list, in the order of their numbers. O(count).
 ///
-/// Each of these places must belong to the table and must not be linked. If the last member does not belong to the table, the call returns
+/// Each of these places must belong to the table and must not be linked. If the last member is not linked, the call returns
 /// [`BROKEN`](crate::BROKEN). If `count` is 0, nothing changes.
 #[inline]
 pub fn fill_xor_list(table: &mut [RawOne], list: &mut RawEnds, first: u32, count: u32) -> u32

@@ -1,4 +1,4 @@
-//! A gap is the position between two neighboring members, at which a call edits a list.
+//! A gap is a position between two neighboring members, or at an end of a list. A call edits a list at a gap.
 //!
 //! ```text
 //! GapSide::After  // after a place, before all at none
@@ -14,9 +14,9 @@ use ic_unsafe_ref::Place;
 /// The side of a place on which a call edits.
 #[derive(Clone, Copy)]
 pub enum GapSide {
-    /// The edit is made in the gap after the place, or in the gap before all members if there is no place.
+    /// The edit is made in the gap after the place, or in the gap before all members if the caller names no place.
     After,
-    /// The edit is made in the gap before the place, or in the gap after all members if there is no place.
+    /// The edit is made in the gap before the place, or in the gap after all members if the caller names no place.
     Before,
 }
 
@@ -30,7 +30,7 @@ pub struct Gap {
 }
 
 impl Gap {
-    /// Returns whether the place is on neither side of the gap.
+    /// Returns whether `place` is on neither side of the gap.
     #[inline]
     pub fn is_apart(&self, place: Place) -> bool
         ensures { (result ≡ true) ↔ IsApart self.now place }

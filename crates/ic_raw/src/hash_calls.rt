@@ -36,7 +36,7 @@ fn slot(buckets: &[RawFront], hash: u64) -> Option<usize>
     Some((hash % buckets.len() as u64) as usize)
 }
 
-/// Inserts a place at the front of its chain, which is the list in the bucket with the number `hash % buckets`. O(1).
+/// Inserts a place at the front of its chain, which is the list in the bucket with the number `hash % buckets.len()`. O(1).
 ///
 /// The place must belong to the table and must not be linked, and there must be at least one bucket. If the first member of the chain is not linked,
 /// the call returns [`BROKEN`](crate::BROKEN).
@@ -50,7 +50,7 @@ pub fn insert(table: &mut [RawOne], buckets: &mut [RawFront], hash: u64, place: 
     push_front(table, &mut buckets[at], place)
 }
 
-// Removes a member from any position of a list.
+// Removes `member` from the list, at whichever position of the list it is, or returns the status of the refusal.
 #[inline]
 fn remove_from(table: &mut [RawOne], list: &mut RawFront, member: Place) -> u32
     ensures removed { (front back : List Place) → Removed table.old table.new list.old list.new result member front back }

@@ -1,5 +1,5 @@
-//! Lists, rings, hash tables and red-black trees whose links are words that the caller keeps. A place is a number, and the words of the place are at
-//! this index.
+//! Lists, rings, hash tables and red-black trees whose links are words that the caller keeps. A place is a number: the index of its words in the
+//! caller's array.
 //!
 //! ```text
 //! let mut last = NONE;
@@ -7,11 +7,11 @@
 //! list_calls::pop(table, list, GapSide::Before, &mut last)    // OK, and last is 7
 //! ```
 //!
-//! The modules whose names end in `_calls` contain the calls for C, and `ic_ffi` gives each of them its C name. No call requires anything of its
-//! arguments. Each call tests every link that it follows or changes, returns a status, and changes nothing if the status is not [`OK`]. The status is
-//! that of the first fault. A call tests the members that the caller names, in their order, then the keys, and then the place to insert. The function
-//! returns [`BROKEN`] if all these are right but the links do not fit together. [`NULL`] means that the caller named no place where one is needed, or
-//! that a search found no member.
+//! The modules whose names end in `_calls` contain the calls for C, and `ic_ffi` gives each call its C name. No call requires anything of its
+//! arguments. Each call tests every link that it follows or changes, and returns a status. If the status is not [`OK`], the call has changed nothing.
+//! If several arguments have faults, the contract of the call says which fault gives the status. The fault of a place to insert comes last. The call
+//! returns [`BROKEN`] if no argument has a fault but the links do not fit together. It returns [`NULL`] if the caller names no place where a member
+//! or a head is needed, or if there is no member to find or to remove.
 #![tactic(auto)]
 
 mod chain;

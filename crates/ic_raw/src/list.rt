@@ -1,4 +1,4 @@
-//! This module has what the calls of doubly linked lists test, and their edits over a view of the table.
+//! This module has the tests and the edits of the calls of doubly linked lists, over a view of the table.
 //!
 //! ```text
 //! let made = insert(&mut links, &mut list, GapSide::After, at, place);
@@ -104,8 +104,8 @@ pub(crate) fn follows<W: ListWords>(
     Place::to_word(prev_of(links, list, place)) == Place::to_word(prev)
 }
 
-/// Returns the gap on this side of the place `at`, or the outermost gap of the list if `at` is `None`. The result is `None` if the links on the two
-/// sides of the gap do not lead to each other.
+/// Returns the gap on this side of the place `at`. If `at` is `None`, this is the gap before all members for `After`, and the gap after all members
+/// for `Before`. The result is `None` if the links on the two sides of the gap do not lead to each other.
 #[inline]
 pub fn gap_at<W: ListWords>(
     links: &RawTable<'_, W>,
@@ -168,7 +168,8 @@ pub fn beside<W: ListWords>(links: &RawTable<'_, W>, list: &List, at: Option<Pla
     Some(Gap { before, after })
 }
 
-// Returns whether the place belongs to the table and is linked, with `next` after it, and its words have exactly the bits that a call writes.
+// Returns whether `place` is a linked place of the table with `next` after it. If the word for the next place does not have exactly the bits that a
+// call writes, the result is `false`.
 #[inline]
 pub(crate) fn is_before<W: ListWords>(
     links: &RawTable<'_, W>,
@@ -181,7 +182,8 @@ pub(crate) fn is_before<W: ListWords>(
     links.covers(place) && links.at(place).is_before(next)
 }
 
-// Returns whether the place belongs to the table and is linked, with `prev` before it, and its words have exactly the bits that a call writes.
+// Returns whether `place` is a linked place of the table with `prev` before it. If the word for the previous place does not have exactly the bits
+// that a call writes, the result is `false`.
 #[inline]
 pub(crate) fn is_after<W: ListWords>(
     links: &RawTable<'_, W>,
@@ -194,8 +196,8 @@ pub(crate) fn is_after<W: ListWords>(
     links.covers(place) && links.at(place).is_after(prev)
 }
 
-// Returns the two neighbors of a member, if it has both and their words name it with exactly the bits that a call writes. Otherwise the function
-// returns `None`.
+// Returns the two neighbors of `member`, if it has both, and the word by which each of them names `member` has exactly the bits that a call writes.
+// Otherwise the function returns `None`.
 #[inline]
 pub(crate) fn between<W: ListWords>(links: &RawTable<'_, W>, member: Place) -> Option<Gap>
     ensures member { (gap : Gap) → result ≡ Some gap → IsNoneOrLinked W.is_linked (lent_table W.PrevPlace links.now) (Some member) }
@@ -226,8 +228,9 @@ pub(crate) fn between<W: ListWords>(links: &RawTable<'_, W>, member: Place) -> O
     })
 }
 
-// Returns the gap at an end of the list, if the words of the member there have exactly the bits that a call writes. Otherwise the function returns
-// `None`.
+// Returns the gap at the end of the list that `side` means: the gap before all members for `After`, or after all members for `Before`. The list must
+// have a member at this end. The word by which this member says that it is the outermost one must have exactly the bits that a call writes. Otherwise
+// the function returns `None`.
 #[inline]
 pub(crate) fn gap_at_end<W: ListWords>(
     links: &RawTable<'_, W>,
@@ -268,8 +271,8 @@ pub(crate) fn gap_at_end<W: ListWords>(
     }
 }
 
-// Inserts a place after the last member, if the words of the last member have exactly the bits that a call writes. Otherwise the function changes
-// nothing and returns `false`.
+// Inserts `place` after the last member, if the first word of the last member has exactly the bits that a call writes. Otherwise, or if `place` is
+// linked or not a place of the table, the function changes nothing and returns `false`.
 #[inline]
 pub(crate) fn push_after_last<W: ListWords>(
     links: &mut RawTable<'_, W>,
@@ -297,8 +300,8 @@ pub(crate) fn push_after_last<W: ListWords>(
     true
 }
 
-// Removes the first member, if a second member is after it and the words of both have exactly the bits that a call writes. Otherwise the function
-// changes nothing and returns `None`.
+// Removes the first member and returns it, if a second member is after it. The words of both for the previous place must have exactly the bits that a
+// call writes. Otherwise the function changes nothing and returns `None`.
 #[inline]
 pub(crate) fn pop_before_second<W: ListWords>(
     links: &mut RawTable<'_, W>,
@@ -335,8 +338,8 @@ pub(crate) fn pop_before_second<W: ListWords>(
     Some(first)
 }
 
-// Removes a member that has a neighbor on each side, if the words of both neighbors name it with exactly the bits that a call writes. Otherwise the
-// function changes nothing and returns `false`.
+// Removes `member`, if it has a neighbor on each side, and the word by which each neighbor names `member` has exactly the bits that a call writes.
+// Otherwise the function changes nothing and returns `false`.
 #[inline]
 pub(crate) fn remove_between<W: ListWords>(
     links: &mut RawTable<'_, W>,
@@ -363,7 +366,7 @@ pub(crate) fn remove_between<W: ListWords>(
     true
 }
 
-// Inserts the place into the gap on this side of the place `at`, and returns whether it did.
+// Inserts `place` into the gap on this side of the place `at`, and returns whether it has made this edit.
 #[inline]
 pub(crate) fn insert<W: ListWords>(
     links: &mut RawTable<'_, W>,
@@ -394,7 +397,7 @@ pub(crate) fn insert<W: ListWords>(
     true
 }
 
-// Removes the member, and returns whether it did.
+// Removes `member`, and returns whether it has made this edit.
 #[inline]
 pub(crate) fn remove<W: ListWords>(
     links: &mut RawTable<'_, W>,
@@ -421,8 +424,8 @@ pub(crate) fn remove<W: ListWords>(
     true
 }
 
-// Returns the gap on this side of the member `at`, if a second member is on the opposite side of the gap. The words of the second member have to name
-// `at` with exactly the bits that a call writes. Otherwise the function returns `None`.
+// Returns the gap on this side of the member `at`, if a second member is on the opposite side of the gap. The word by which the second member names
+// `at` must have exactly the bits that a call writes. Otherwise the function returns `None`.
 #[inline(always)]
 pub(crate) fn gap_inside<W: ListWords>(
     links: &RawTable<'_, W>,
@@ -470,8 +473,8 @@ pub(crate) fn gap_inside<W: ListWords>(
     }
 }
 
-// Returns the member at the end of the list that this side means, and the places on both sides of this member. The result is `None` if the links on
-// the two sides of one of these gaps do not lead to each other.
+// Returns the outermost member of the list and the two places beside it. The member is the first one for `After`, and the last one for `Before`. The
+// result is `None` if the list is empty. It is also `None` if the links across one of the two gaps beside the member do not lead to each other.
 #[inline]
 fn end_at<W: ListWords>(links: &RawTable<'_, W>, list: &List, side: GapSide) -> Option<(Place, Gap)>
     ensures shown { (front back : List Place) (p : Place) → Represents W.PrevPlace (lent_table W.PrevPlace links.now) list.now (front ++ p ∷ back)
@@ -523,7 +526,8 @@ fn end_at<W: ListWords>(links: &RawTable<'_, W>, list: &List, side: GapSide) -> 
     }
 }
 
-// Removes the member at an end of the list, and returns this member.
+// Removes the outermost member, which is the first one for `After` and the last one for `Before`, and returns this member. If `end_at` finds no
+// member, the function changes nothing and returns `None`.
 #[inline]
 pub(crate) fn pop<W: ListWords>(
     links: &mut RawTable<'_, W>,
@@ -552,7 +556,7 @@ pub(crate) fn pop<W: ListWords>(
     Some(member)
 }
 
-// Inserts the place at the position of the member, removes the member, and returns whether it did.
+// Inserts `place` at the position of `member`, and removes `member`. The function returns whether it has made this edit.
 #[inline]
 pub(crate) fn replace<W: ListWords>(
     links: &mut RawTable<'_, W>,
@@ -585,7 +589,7 @@ pub(crate) fn replace<W: ListWords>(
     true
 }
 
-// Moves all members of the list `given` into the gap on this side of the place `at`, and returns whether it did.
+// Moves all members of the list `given` into the gap on this side of the place `at`, and returns whether it has made this edit.
 #[inline]
 pub(crate) fn splice<W: ListWords>(
     links: &mut RawTable<'_, W>,
@@ -621,9 +625,9 @@ pub(crate) fn splice<W: ListWords>(
     true
 }
 
-// Moves all members of the list `given` to an end of the list. The function changes nothing and returns `false` if `at` is a place, a list has no
-// members, or both begin with the same member. It also changes nothing if the words of the lists' ends do not have exactly the bits that a call
-// writes.
+// Moves all members of the list `given` to the front of the list for `After`, or to the back for `Before`. The function changes nothing and returns
+// `false` if `at` is a place, if a list has no members, or if both lists begin with the same member. It also refuses if a tested word at an end of a
+// list does not have exactly the bits that a call writes.
 #[inline(always)]
 pub(crate) fn splice_at_end<W: ListWords>(
     links: &mut RawTable<'_, W>,
@@ -665,7 +669,8 @@ pub(crate) fn splice_at_end<W: ListWords>(
     true
 }
 
-// Cuts the list at a gap, and returns the part on this side of the gap. The list keeps the part on the opposite side.
+// Cuts the list at `gap`. The function returns the part after the gap for `After`, or the part before the gap for `Before`, and the list keeps the
+// other part.
 #[inline]
 pub(crate) fn split<W: ListWords>(
     links: &mut RawTable<'_, W>,

@@ -21,7 +21,7 @@ use crate::{list, whole};
 use ic_linked_list::LinkedList;
 use ic_unsafe_ref::Place;
 
-/// Returns the list that its two words represent.
+/// Returns the list whose first and last place `words` names.
 #[inline]
 pub fn list_of(words: &RawEnds) -> list::List
     ensures { result ≡ ends_of words.now }
@@ -29,7 +29,7 @@ pub fn list_of(words: &RawEnds) -> list::List
     LinkedList::from_ends(place_in(words.head), place_in(words.tail))
 }
 
-/// Writes the words of the list's first and last place.
+/// Writes the first and the last place of `list` to `words`.
 #[inline]
 pub fn write_back(words: &mut RawEnds, list: list::List)
     ensures set { ends_of words.new ≡ list }
@@ -38,11 +38,11 @@ pub fn write_back(words: &mut RawEnds, list: list::List)
     words.set(list.first(), list.last());
 }
 
-/// Inserts the place with the number `place` into the gap on this side of the member `at`, or at the end that the side means if `at` is [`NONE`].
-/// O(1).
+/// Inserts the place with the number `place` into the gap on this side of the member `at`. If `at` is [`NONE`], the place goes to the front for
+/// [`GapSide::After`], or to the back for [`GapSide::Before`]. O(1).
 ///
-/// The place must belong to the table and must not be linked. A refused call changes no word. The call returns the first fault of the two places, or
-/// else [`BROKEN`].
+/// The place must belong to the table and must not be linked. A refused call changes no word, and returns the first fault of the two places, or else
+/// [`BROKEN`].
 #[inline]
 pub fn insert_at<W: ListWords>(
     table: &mut [W],
@@ -85,7 +85,7 @@ pub fn pop<W: ListWords>(
     OK
 }
 
-// Returns why no member is popped: the list is empty, or the links beside the member do not lead back to it.
+// Returns the status of a refused pop: [`NULL`] if the list is empty, or else [`BROKEN`], because the links beside the member do not lead back to it.
 #[cold]
 #[inline(never)]
 fn refusal_to_pop(list: &RawEnds, side: GapSide) -> u32
@@ -103,7 +103,7 @@ fn refusal_to_pop(list: &RawEnds, side: GapSide) -> u32
     }
 }
 
-// Moves all members of the list `given` into the gap beside a place of any list, or returns the status of the refusal.
+// Makes the splice of `splice_at` for any gap and any lists, or returns the status of the refusal.
 #[cold]
 #[inline(never)]
 fn splice_slow<W: ListWords>(
@@ -126,11 +126,10 @@ fn splice_slow<W: ListWords>(
     OK
 }
 
-/// Moves all members of `given` into the gap on this side of the member `at`, or to the end that the side means if `at` is [`NONE`]. The list `given`
-/// is then empty. O(1).
+/// Moves all members of `given` into the gap on this side of the member `at`, and leaves `given` empty. If `at` is [`NONE`], the members go to the
+/// front for [`GapSide::After`], or to the back for [`GapSide::Before`]. O(1).
 ///
-/// A refused call changes nothing. The call returns the fault of the member, or else [`BROKEN`], for example if both lists begin with the same
-/// member.
+/// A refused call changes nothing. It returns the fault of `at`, or else [`BROKEN`], for example if both lists begin with the same member.
 #[inline(always)]
 pub fn splice_at<W: ListWords>(
     table: &mut [W],
@@ -152,8 +151,7 @@ pub fn splice_at<W: ListWords>(
     splice_slow(links.entries, list, at, given, side)
 }
 
-// Cuts any list at the gap on this side of the place `at`, or returns the status of the refusal. The part on this side of the gap becomes the list
-// `rest`.
+// Makes the cut of `split_at` at any gap of any list, or returns the status of the refusal.
 #[cold]
 #[inline(never)]
 fn split_slow<W: ListWords>(
@@ -178,10 +176,10 @@ fn split_slow<W: ListWords>(
     links.refusal_at(at)
 }
 
-/// Cuts the list at the gap on this side of the member `at`, or at the end that the side means if `at` is [`NONE`]. The part on this side of the gap
-/// becomes the list `rest`. O(1).
+/// Cuts the list at the gap on this side of the member `at`. The part after the gap becomes the list `rest` for [`GapSide::After`], or the part
+/// before the gap for [`GapSide::Before`]. If `at` is [`NONE`], all members move to `rest`. O(1).
 ///
-/// A refused call changes nothing. The call returns the fault of the member, or else [`BROKEN`], for example if `rest` is not empty before.
+/// A refused call changes nothing. It returns the fault of `at`, or else [`BROKEN`], for example if `rest` is not empty before the call.
 #[inline(always)]
 pub fn split_at<W: ListWords>(
     table: &mut [W],
@@ -205,7 +203,7 @@ pub fn split_at<W: ListWords>(
     split_slow(links.entries, list, at, rest, side)
 }
 
-// Inserts a place after all members of any list, or returns the status of the refusal.
+// Makes the insertion of `push_back` into any list, or returns the status of the refusal.
 #[cold]
 #[inline(never)]
 fn push_back_slow<W: ListWords>(table: &mut [W], list: &mut RawEnds, place: u32) -> u32
@@ -230,7 +228,7 @@ pub fn push_back<W: ListWords>(table: &mut [W], list: &mut RawEnds, place: u32) 
     push_back_slow(links.entries, list, place)
 }
 
-// Removes the first member of any list, or returns the status of the refusal.
+// Makes the removal of `pop_front` from any list, or returns the status of the refusal.
 #[cold]
 #[inline(never)]
 fn pop_front_slow<W: ListWords>(table: &mut [W], list: &mut RawEnds, popped: &mut u32) -> u32
@@ -254,7 +252,7 @@ pub fn pop_front<W: ListWords>(table: &mut [W], list: &mut RawEnds, popped: &mut
     pop_front_slow(links.entries, list, popped)
 }
 
-// Removes any member, or returns the status of the refusal.
+// Makes the removal of `remove` for any member of any list, or returns the status of the refusal.
 #[cold]
 #[inline(never)]
 fn remove_slow<W: ListWords>(table: &mut [W], list: &mut RawEnds, at: u32) -> u32
@@ -287,7 +285,7 @@ pub fn remove<W: ListWords>(table: &mut [W], list: &mut RawEnds, at: u32) -> u32
     remove_slow(links.entries, list, at)
 }
 
-/// Inserts a place at the position of the member `at`, and removes `at`, or returns [`NULL`] if `at` is [`NONE`]. O(1).
+/// Inserts a place at the position of the member `at`, and removes `at`. The call returns [`NULL`] if `at` is [`NONE`]. O(1).
 ///
 /// The place must belong to the table and must not be linked.
 #[inline]

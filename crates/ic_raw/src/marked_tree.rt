@@ -1,5 +1,5 @@
-//! A view of a tree's words as they are, which serves checks, and edits of a tree that a check has found valid. A place is linked if its words have
-//! the mark of a linked place, and each number names the place with that number.
+//! A view that reads a tree's words as they are. It serves checks, and also edits of a tree that a check has found valid. A place is linked if its
+//! words have the mark of a linked place. A word names the place with the number in the word, even if the table does not have this place.
 //!
 //! ```text
 //! let links = MarkedTree::new(words);

@@ -17,8 +17,8 @@ use crate::status::{NONE, NULL, OK};
 use crate::table::RawTable;
 use crate::words::{ListWords, RawEnds};
 
-// Moves any member into the gap on this side of the place `at`, or returns the status of the refusal. If the member is already beside this gap,
-// nothing changes.
+// Makes the move of `move_at` for any member and any gap, or returns the status of the refusal. If the member is already beside the gap, nothing
+// changes.
 #[cold]
 #[inline(never)]
 fn move_slow<W: ListWords>(
@@ -46,8 +46,8 @@ fn move_slow<W: ListWords>(
     OK
 }
 
-/// Moves the member `place` into the gap on this side of the member `at`, or to the end that the side means if `at` is [`NONE`]. The member stays
-/// linked during the call. O(1).
+/// Moves the member `place` into the gap on this side of the member `at`. If `at` is [`NONE`], the member goes to the front for [`GapSide::After`],
+/// or to the back for [`GapSide::Before`]. The member stays linked during the call. O(1).
 ///
 /// If the member is already in this position, nothing changes. The call returns [`NULL`] if `place` is [`NONE`], else the first fault of the two
 /// places, or else [`BROKEN`](crate::BROKEN). A refused call changes no word.
@@ -77,7 +77,7 @@ pub fn move_at<W: ListWords>(
     OK
 }
 
-// Moves a member to an end of any list, or returns the status of the refusal.
+// Makes the move of `move_to_end` in any list, or returns the status of the refusal.
 #[cold]
 #[inline(never)]
 fn move_to_end_slow<W: ListWords>(

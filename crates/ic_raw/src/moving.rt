@@ -24,8 +24,8 @@ use crate::words::ListWords;
 use ic_link_ops::linked_list::LinkedListOps;
 use ic_unsafe_ref::Place;
 
-// Returns whether the member is at the end of the list that this side means, and has a neighbor in the list. The tested words of both have to have
-// exactly the bits that a call writes.
+// Returns whether `member` is at the front of the list for `After`, or at the back for `Before`, and has a neighbor in the list. If a tested word of
+// the two members does not have exactly the bits that a call writes, the result is `false`.
 #[inline]
 pub(crate) fn is_at_end<W: ListWords>(
     links: &RawTable<'_, W>,
@@ -62,8 +62,8 @@ pub(crate) fn is_at_end<W: ListWords>(
     }
 }
 
-// Returns the places on both sides of the member, if it is at the end opposite to this side and the list has another member. The tested words of both
-// have to have exactly the bits that a call writes. Otherwise the function returns `None`.
+// Returns the places on both sides of `member`, if the list has a second member, and `member` is at the back for `After`, or at the front for
+// `Before`. The tested words of the two members must have exactly the bits that a call writes. Otherwise the function returns `None`.
 #[inline]
 pub(crate) fn beside_other_end<W: ListWords>(
     links: &RawTable<'_, W>,
@@ -108,8 +108,8 @@ pub(crate) fn beside_other_end<W: ListWords>(
     }
 }
 
-// Returns what `gaps_to_move` returns, if the member has a neighbor on each side and the gap beside `at` is between two members. The tested words
-// have to have exactly the bits that a call writes. Otherwise the function returns `None`.
+// Returns what `gaps_to_move` returns, if `member` has a neighbor on each side and the gap beside `at` is between two members. The tested words must
+// have exactly the bits that a call writes. Otherwise the function returns `None`.
 #[inline(always)]
 pub(crate) fn gaps_inside<W: ListWords>(
     links: &RawTable<'_, W>,
@@ -139,8 +139,8 @@ pub(crate) fn gaps_inside<W: ListWords>(
     Some((from, to))
 }
 
-// Returns the places on both sides of a member, and the gap to which the member is to go, which is beside the place `at`. The result is `None` if the
-// links beside the member do not lead back to it. It is also `None` if the links on the two sides of the gap do not lead to each other.
+// Returns the places on both sides of `member`, and the gap on this side of the place `at`, into which `member` is to move. The result is `None` if
+// the links beside `member` do not lead back to it. It is also `None` if the links on the two sides of the gap do not lead to each other.
 #[inline]
 pub(crate) fn gaps_to_move<W: ListWords>(
     links: &RawTable<'_, W>,
@@ -171,7 +171,7 @@ pub(crate) fn gaps_to_move<W: ListWords>(
     Some((from, to))
 }
 
-// Moves a member from between the two places of `from` into the gap `to`, which is not beside the member. The member stays linked.
+// Moves `member` from between the two places of `from` into the gap `to`, which is not beside `member`. The member stays linked.
 #[inline]
 pub(crate) fn relocate<W: ListWords>(
     links: &mut RawTable<'_, W>,

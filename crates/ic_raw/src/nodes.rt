@@ -16,7 +16,7 @@ use ic_link_ops::{Color, Side};
 use ic_rbtree::NodeStore;
 use ic_unsafe_ref::Place;
 
-/// An edit of a tree reads at a place the words there, the place itself, and how many places the table has.
+/// What an edit of a tree reads at a place: the words of the place, the place itself, and the number of places of the table.
 ///
 /// Only contracts use this type. No code makes a value of it.
 #[derive(Clone, Copy)]
@@ -27,8 +27,8 @@ pub struct Seen {
 }
 
 impl RawTable<'_, RawThree> {
-    // Returns the place that a word names, or `None` if the table has no such place. The function compares the number in the word, so that it needs
-    // no shift. A number beyond the table is treated as 0, so that one test finds both cases.
+    // Returns the place that `word` names, or `None` if the word names no place of the table. The function compares the number in the word with the
+    // number of the last place, because this comparison needs no shift. It replaces a number beyond the table by 0, the number for no place.
     #[inline]
     pub(crate) fn named(&self, word: u64) -> Option<Place>
         ensures { result ≡ named_within (lent_table self.now).extent.places (place_in word) }
@@ -42,8 +42,8 @@ impl RawTable<'_, RawThree> {
         Place::from_word(word_in_bounds)
     }
 
-    // Returns whether a word names the place `place`. The function compares the numbers of the two places, because a number beyond the table differs
-    // from every place of the table.
+    // Returns whether `word` names `place`, a place of the table. The function compares only two numbers. It need not test whether the number in
+    // `word` is beyond the table, because such a number is not the number of `place`.
     #[inline]
     fn is_named(&self, word: u64, place: Place) -> bool
         requires { has_place (lent_table self.now) place ≡ true }
@@ -53,7 +53,7 @@ impl RawTable<'_, RawThree> {
     }
 }
 
-/// Every place of the table counts as linked, so that whatever the words contain, no link leads out of the table.
+/// Every place of the table counts as linked. So no link leads out of the table, whatever the words contain.
 impl NodeStore for RawTable<'_, RawThree> {
     ghost use Rattle.std.specs.Prelude.{nat_lt};
     ghost use Rattle.std.proofs.Common.{refl, ap, ◌∙◌};

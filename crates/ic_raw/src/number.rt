@@ -1,4 +1,4 @@
-//! This module reads a place from a word or from a number, and returns the number of a place that crosses to C.
+//! The functions of this module read a place from a word or from a number, and return the number by which C names a place.
 //!
 //! ```text
 //! place_of(7)   // the place with index 7
@@ -33,7 +33,7 @@ pub fn place_of(index: u32) -> Option<Place>
     Place::from_word(8 * u64::from(index.wrapping_add(1)))
 }
 
-/// Returns the index of the place, cut to the bits of a `u32`. No call inserts a place whose index has more bits.
+/// Returns the low 32 bits of the index of `place`. No call inserts a place whose index has more bits.
 #[inline]
 #[tactic(auto, using(crate::proofs::Numbers::index_named))]
 pub fn number_of(place: Place) -> u32

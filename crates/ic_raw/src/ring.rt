@@ -1,4 +1,4 @@
-//! This module has what the calls of rings test, and their edits over a view of the table. The arguments of a call are places, and never a ring.
+//! This module has the tests and the edits of the calls of rings, over a view of the table. The arguments of a call are places, and never a ring.
 //!
 //! ```text
 //! let made = remove(&mut links, place);
@@ -22,7 +22,8 @@ use ic_unsafe_ref::Place;
 /// A pair of neighbors in a ring: the second place is directly after the first place.
 pub type Pair = (Place, Place);
 
-// Returns the two places, if both are linked, the first names the second as its next place, and the second names the first as its previous place.
+// Returns the places `before` and `after`, if both are linked and name each other: `after` is the next place of `before`, and `before` is the
+// previous place of `after`.
 #[inline]
 fn pair<W: PrevPlace>(
     links: &RawTable<'_, W>,
@@ -49,7 +50,7 @@ fn pair<W: PrevPlace>(
     Some((before, after))
 }
 
-/// Returns a place and its neighbor on this side, if both are linked and name each other.
+/// Returns the place `at` and its neighbor on this side, in the order of the ring, if both are linked and name each other.
 #[inline]
 pub fn beside<W: PrevPlace>(links: &RawTable<'_, W>, side: GapSide, at: Place) -> Option<Pair>
     ensures links_back { (x : Place × Place) → result ≡ Some x → AreLinked W.PrevPlace (lent_table W.PrevPlace links.now) x.0 x.1 × (own_on side x ≡ at) }
@@ -64,7 +65,7 @@ pub fn beside<W: PrevPlace>(links: &RawTable<'_, W>, side: GapSide, at: Place) -
     }
 }
 
-// Returns the two neighbors of a place, if both neighbors are linked and name this place.
+// Returns the two neighbors of `place`, if all three places are linked and both neighbors name `place`.
 #[inline]
 pub(crate) fn around<W: PrevPlace>(links: &RawTable<'_, W>, place: Place) -> Option<Pair>
     ensures links_back { (x : Place × Place) → result ≡ Some x → AreLinked W.PrevPlace (lent_table W.PrevPlace links.now) x.0 place × AreLinked W.PrevPlace (lent_table W.PrevPlace links.now) place x.1 }
@@ -79,7 +80,7 @@ pub(crate) fn around<W: PrevPlace>(links: &RawTable<'_, W>, place: Place) -> Opt
     Some((before.0, after.1))
 }
 
-// Returns whether the place is its own next place, as a head without members is.
+// Returns whether `place` is linked and is its own neighbor on both sides, as a head without members is.
 #[inline]
 pub(crate) fn is_alone<W: PrevPlace>(links: &RawTable<'_, W>, place: Place) -> bool
     ensures links_back { result ≡ true → AreLinked W.PrevPlace (lent_table W.PrevPlace links.now) place place }
@@ -91,7 +92,8 @@ pub(crate) fn is_alone<W: PrevPlace>(links: &RawTable<'_, W>, place: Place) -> b
     true
 }
 
-// Makes a ring of the place alone, and returns the place, if it belongs to the table and is not linked.
+// Makes a ring of `place` alone and returns `place`, if it belongs to the table and is not linked. Otherwise the function changes nothing and returns
+// `None`.
 #[inline]
 pub(crate) fn close<W: PrevPlace>(
     links: &mut RawTable<'_, W>,
@@ -109,7 +111,7 @@ pub(crate) fn close<W: PrevPlace>(
     Some(place)
 }
 
-// Inserts a linked place that is in no ring between two neighbors of a ring.
+// Inserts `place`, which is linked but in no ring, between the two neighbors of `pair`.
 #[inline]
 pub(crate) fn link_between<W: PrevPlace>(links: &mut RawTable<'_, W>, pair: Pair, place: Place)
     requires held { IsLinked W.is_linked (lent_table W.PrevPlace links.old) place }
@@ -125,7 +127,7 @@ pub(crate) fn link_between<W: PrevPlace>(links: &mut RawTable<'_, W>, pair: Pair
     turn_to(links, pair.0, place, pair.1);
 }
 
-// Makes two linked places neighbors. Places that were between the two are no longer in the ring, but they stay linked.
+// Makes the linked places `before` and `after` neighbors in a ring. The places that were between the two leave the ring, but they stay linked.
 #[inline]
 pub(crate) fn close_gap<W: PrevPlace>(links: &mut RawTable<'_, W>, before: Place, after: Place)
     requires before { IsLinked W.is_linked (lent_table W.PrevPlace links.old) before }
@@ -162,7 +164,7 @@ pub(crate) fn cross<W: PrevPlace>(links: &mut RawTable<'_, W>, first: Pair, seco
     links.set_prev(first.1, Some(second.0));
 }
 
-// Removes the place from the ring in which it is, and returns whether it did.
+// Removes `place` from the ring in which it is, and returns whether it has made this edit.
 #[inline]
 pub(crate) fn remove<W: PrevPlace>(links: &mut RawTable<'_, W>, place: Place) -> bool
     ensures removed { (r : List Place) → IsCircle W.PrevPlace (lent_table W.PrevPlace links.old) (place ∷ r)
@@ -183,7 +185,7 @@ pub(crate) fn remove<W: PrevPlace>(links: &mut RawTable<'_, W>, place: Place) ->
     true
 }
 
-// Inserts the place on this side of the place `at`, which is in a ring, and returns whether it did.
+// Inserts `place` on this side of the place `at`, which is in a ring. The function returns whether it has made this edit.
 #[inline]
 pub(crate) fn insert<W: PrevPlace>(
     links: &mut RawTable<'_, W>,
@@ -211,7 +213,8 @@ pub(crate) fn insert<W: PrevPlace>(
     true
 }
 
-// Exchanges the next places of two places in rings, and returns whether it did. Two rings become one ring, or one ring becomes two rings.
+// Exchanges the next places of `one` and `other`, which are in rings. Two rings become one ring, or one ring becomes two rings. The function returns
+// whether it has made this edit.
 #[inline]
 pub(crate) fn exchange<W: PrevPlace>(links: &mut RawTable<'_, W>, one: Place, other: Place) -> bool
     ensures joins { (r s : List Place) → IsCircle W.PrevPlace (lent_table W.PrevPlace links.old) r → IsCircle W.PrevPlace (lent_table W.PrevPlace links.old) s → IsDisjoint r s

@@ -39,7 +39,7 @@ pub fn init<W: PrevPlace>(table: &mut [W], head: u32) -> u32
     OK
 }
 
-/// Inserts a place on this side of the place `at`, which is in a ring. O(1).
+/// Inserts a place into the ring of the place `at`, on this side of `at`. O(1).
 ///
 /// The place must belong to the table and must not be linked. The call returns [`NULL`] if `at` is [`NONE`](crate::NONE), else the first fault of the
 /// two places, or else [`BROKEN`](crate::BROKEN). A refused call changes no word.
@@ -59,7 +59,7 @@ pub fn insert<W: PrevPlace>(table: &mut [W], side: GapSide, at: u32, place: u32)
 
 /// Removes a place from the ring in which it is. O(1).
 ///
-/// If the place is a head without members, it is unlinked, and the ring no longer exists.
+/// If the place is a head without members, the call unlinks it, and there is then no such ring.
 #[inline]
 pub fn remove<W: PrevPlace>(table: &mut [W], place: u32) -> u32
     ensures { RemoveCall W.PrevPlace table.old table.new result (place_of place) }
@@ -77,8 +77,8 @@ pub fn remove<W: PrevPlace>(table: &mut [W], place: u32) -> u32
 /// Exchanges the next places of two places. If the two places are in two rings, the rings become one ring. If they are in one ring, the ring becomes
 /// two rings. O(1).
 ///
-/// If one argument is the last member of a ring and the second argument is the head of another ring, the call joins the rings. All members of the
-/// second ring are then at the back of the first. A second call with the same arguments undoes the first call.
+/// If one argument is the last member of a ring and the second argument is the head of another ring, the call joins the rings. The members of the
+/// second ring, and then its head, are at the back of the joined ring. A second call with the same arguments undoes the first call.
 #[inline]
 pub fn exchange<W: PrevPlace>(table: &mut [W], one: u32, other: u32) -> u32
     ensures { ExchangeCall W.PrevPlace table.old table.new result (place_of one) (place_of other) }
@@ -96,7 +96,8 @@ pub fn exchange<W: PrevPlace>(table: &mut [W], one: u32, other: u32) -> u32
     OK
 }
 
-// Returns why no place is removed beside a head: the head has no members, or the links of the head and of its neighbor do not lead to each other.
+// Returns the status of a refused pop: [`NULL`] if `head` has no members, or else the fault of `head`, or else [`BROKEN`](crate::BROKEN), because the
+// links of the head and of its neighbor do not lead to each other.
 #[cold]
 fn refusal_to_pop<W: PrevPlace>(links: &RawTable<'_, W>, head: Place) -> u32
     ensures null { (result ≡ NULL) ↔ AreLinked W.PrevPlace (lent_table W.PrevPlace links.now) head head }
@@ -166,10 +167,10 @@ pub fn move_beside<W: PrevPlace>(table: &mut [W], side: GapSide, at: u32, place:
     OK
 }
 
-/// Moves all members of the ring with the head `head` to this side of `at`, which is in another ring. O(1).
+/// Moves all members of the ring with the head `head` to this side of the place `at` of another ring. O(1).
 ///
-/// The head `head` is then without members. The call returns [`NULL`] if one of the two places is [`NONE`](crate::NONE), and
-/// [`BROKEN`](crate::BROKEN) if `at` is the head itself or its last member. A refused call changes no word.
+/// The head `head` is then without members. The call returns [`NULL`] if one of the two places is [`NONE`](crate::NONE). It returns
+/// [`BROKEN`](crate::BROKEN) if `at` is `head`, and also if the gap on this side of `at` is beside `head`. A refused call changes no word.
 #[inline]
 pub fn splice<W: PrevPlace>(table: &mut [W], side: GapSide, at: u32, head: u32) -> u32
     ensures { SpliceCall W.PrevPlace table.old table.new result side (place_of at) (place_of head) }

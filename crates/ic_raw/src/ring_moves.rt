@@ -1,5 +1,5 @@
-//! The calls of this module consist of several edits of rings: pops, replacements, moves and splices over a view of the table. Each call tests
-//! everything that it needs before it writes, so that a refusal changes no word.
+//! The functions of this module make the pops, replacements, moves and splices of rings, over a view of the table. Each function makes several edits.
+//! It tests everything that it needs before it writes, so that a refusal changes no word.
 //!
 //! ```text
 //! let popped = pop(&mut links, GapSide::After, head);
@@ -31,7 +31,7 @@ fn neighbor_on(side: GapSide, pair: Pair) -> Place
     }
 }
 
-// Removes the place on this side of a head, and returns this place. The result is `None` if the head is in no ring or has no members.
+// Removes the place on this side of `head`, and returns this place. The result is `None` if `head` is in no ring or has no members.
 #[inline]
 pub(crate) fn pop<W: PrevPlace>(
     links: &mut RawTable<'_, W>,
@@ -62,7 +62,7 @@ pub(crate) fn pop<W: PrevPlace>(
     Some(member)
 }
 
-// Returns the place that will be after `own` once `own` replaces `at`, whose next place is `next`. If `at` is alone in its ring, the result is `own`.
+// Returns the place that is after `own` when `own` has replaced `at`: `next`, which is the next place of `at`, or `own` if `at` is alone in its ring.
 #[inline]
 fn next_without(at: Place, next: Place, own: Place) -> Place
     ensures alone { next ≡ at → result ≡ own }
@@ -71,7 +71,7 @@ fn next_without(at: Place, next: Place, own: Place) -> Place
     if next == at { own } else { next }
 }
 
-// Inserts a place into a ring at the position of the place `at`, removes `at`, and returns whether it did.
+// Inserts `place` into a ring at the position of the place `at`, and removes `at`. The function returns whether it has made this edit.
 #[inline]
 pub(crate) fn replace<W: PrevPlace>(
     links: &mut RawTable<'_, W>,
@@ -103,7 +103,7 @@ pub(crate) fn replace<W: PrevPlace>(
     true
 }
 
-// Moves a place to this side of the place `at`, out of any ring of the table, and returns whether it did.
+// Moves `place` from any ring of the table to this side of the place `at`, and returns whether the call is accepted.
 #[inline]
 pub(crate) fn move_beside<W: PrevPlace>(
     links: &mut RawTable<'_, W>,
@@ -142,8 +142,8 @@ pub(crate) fn move_beside<W: PrevPlace>(
     true
 }
 
-// Moves all members of the head `given` to this side of the place `at` of another ring, and returns whether it did. The function refuses if `at` is
-// the head itself or its last member.
+// Moves all members of the head `given` to this side of the place `at` of another ring, and returns whether the call is accepted. The function
+// refuses if `at` is `given`, and also if the gap on this side of `at` is beside `given`.
 #[inline]
 pub(crate) fn splice<W: PrevPlace>(
     links: &mut RawTable<'_, W>,

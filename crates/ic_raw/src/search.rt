@@ -34,10 +34,11 @@ use ic_rbtree::NodeStore;
 use ic_unsafe_ref::{Place, Values};
 use std::cmp::Ordering;
 
-// A search takes at most this many turns, of three comparisons each. In a valid red-black tree every way down is shorter.
+// A search makes at most this many turns of its loop, with at most three comparisons in each turn. In a valid red-black tree every way down is
+// shorter.
 const TURNS: u32 = 22;
 
-/// The member that a search returns.
+/// Says which member a search by a key returns.
 #[derive(Clone, Copy)]
 pub enum Target {
     /// The search returns the first member with the key.
@@ -51,7 +52,7 @@ pub enum Target {
 /// The gap between two members that a search from the root has reached.
 #[derive(Drop)]
 pub struct InsertPos {
-    // The member that has the gap on one of its sides, or `None` in an empty tree, and the side of this member on which the gap is.
+    // The member that has the gap on one of its sides, or `None` in an empty tree. `side` is the side of this member on which the gap is.
     parent: PlaceWord,
     side: Side,
     // The members before and after the gap.
@@ -117,8 +118,8 @@ fn compare_at(keys: &[u64], key: u64, place: Place) -> Ordering
     key.cmp(keys.value(place))
 }
 
-// Returns whether a search goes to the left at a member, by the result of the comparison of the keys. If the keys are equal, the search goes to the
-// side `equals`.
+// Returns whether a search goes to the left at a member. `order` is the result of the comparison of the searched key with the key of the member. If
+// the two keys are equal, the search goes to the side `equals`.
 #[inline]
 fn goes_left(order: Ordering, equals: Side) -> bool
     ensures { result ≡ goes_left equals order }
@@ -130,7 +131,7 @@ fn goes_left(order: Ordering, equals: Side) -> bool
 }
 
 impl InsertPos {
-    // Returns the way at the start of a search, which is at the root.
+    // Returns the way of a search at its start, when it has not passed any member.
     #[inline]
     fn new() -> InsertPos
         ensures { result ≡ at_root }
@@ -143,7 +144,7 @@ impl InsertPos {
         }
     }
 
-    // Goes from a member down to its left side if `left` is true, or else to its right side.
+    // Goes down from the member `place` to its left side if `left` is true, or else to its right side.
     #[inline]
     fn pass(&mut self, place: Place, left: bool)
         ensures { self.new ≡ past self.old place left }
@@ -172,8 +173,8 @@ impl InsertPos {
     }
 }
 
-// Compares the key with that of the place `place`, and goes past this place. The word for the child is picked without a branch. If the keys are in
-// random order, a processor would predict every second such branch wrongly.
+// Compares `key` with the key of `place`, and notes in `way` that the search passes `place`. The function picks the word for the child without a
+// branch, because a processor would predict every second branch wrongly if the keys are in random order.
 #[inline]
 fn look_at(
     links: &RawTable<'_, RawThree>,
@@ -202,8 +203,8 @@ fn look_at(
     }
 }
 
-// Returns the way of a search that has come to its end. The condition of the `if` is never true, but it reads the words for both children. Without
-// this test the compiler would load only one word, from an address that depends on the comparison.
+// Returns `way`, the way of a search that has come to its end. The condition of the `if` is never true, but it reads the words for both children.
+// Without this condition the compiler would load only one of the two words, from an address that depends on the comparison.
 #[inline]
 fn end(children: Children, way: InsertPos) -> Option<InsertPos>
     requires { (children.picked ≡ children.left) ⊎ (children.picked ≡ children.right) }
@@ -216,9 +217,9 @@ fn end(children: Children, way: InsertPos) -> Option<InsertPos>
     Some(way)
 }
 
-// Goes down from the root to the gap where the key belongs, at equal keys to the side `equals`. [`RBTree::descend`](ic_rbtree::RBTree::descend) does
-// this for any probe in a table that represents the tree. It also keeps the last equal member, which takes more instructions for each comparison. The
-// result is `None` if the way is longer than in any valid tree.
+// Goes down from the root to the gap where `key` belongs. At a member with an equal key the search goes to the side `equals`. The result is `None` if
+// the way is longer than in any valid tree. [`RBTree::descend`](ic_rbtree::RBTree::descend) makes the same search with any probe, but only in a table
+// that represents the tree. It also keeps the last equal member, which takes more instructions for each comparison.
 #[inline]
 fn descend(
     links: &RawTable<'_, RawThree>,
@@ -271,7 +272,7 @@ fn equals_of(target: Target) -> Side
     }
 }
 
-// Returns the member that the target means for the key, or `Some(None)` if there is none. The result is `None` if the links lead to no end.
+// Returns the member that `target` means for `key`, or `Some(None)` if there is none. The result is `None` if the links lead to no end.
 #[inline]
 pub(crate) fn find(
     links: &RawTable<'_, RawThree>,
@@ -307,7 +308,7 @@ pub(crate) fn find(
     }
 }
 
-// Stores in `found` the number of the member that the target means for the key.
+// Stores in `found` the number of the member that `target` means for `key`, or returns the status of the refusal.
 #[inline]
 pub(crate) fn store_found(
     links: &RawTable<'_, RawThree>,
@@ -336,7 +337,7 @@ pub(crate) fn store_found(
     tree::hand_out(links, member, found)
 }
 
-// Inserts the place by its key, after all members whose key is not greater, and returns whether it did.
+// Inserts `place` by its key, after all members whose key is not greater, and returns whether it has made this edit.
 #[inline]
 pub(crate) fn insert<S: Surgery>(
     surgery: &mut S,

@@ -30,8 +30,8 @@ pub fn insert(table: &mut [RawThree], keys: &[u64], tree: &mut RawRoot, place: u
     insert_by(&mut Plain, table, keys, tree, place)
 }
 
-/// Inserts a place by its key as `insert` does, with an implementation of [`Surgery`] that the caller passes and that sees which words the edit
-/// writes.
+/// Inserts a place by its key as `insert` does. The edit is made by the caller's implementation `by` of [`Surgery`], which can record the words that
+/// it writes.
 #[inline]
 pub fn insert_by<S: Surgery>(
     by: &mut S,

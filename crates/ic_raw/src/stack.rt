@@ -1,4 +1,4 @@
-//! This module has what the calls of singly linked lists test, and their edits over a view of the table.
+//! This module has the tests and the edits of the calls of singly linked lists, over a view of the table.
 //!
 //! ```text
 //! let made = insert(&mut links, &mut stack, at, place);
@@ -64,7 +64,7 @@ pub(crate) fn gap_after(
     Some(Gap { before: at, after })
 }
 
-// Inserts the place `place` into the gap after the place `at`, and returns whether it did.
+// Inserts `place` into the gap after the place `at`, and returns whether it has made this edit.
 #[inline]
 pub(crate) fn insert(
     links: &mut RawTable<'_, RawOne>,
@@ -92,7 +92,7 @@ pub(crate) fn insert(
     true
 }
 
-// Removes the member after the place `at`, or the first member if `at` is `None`.
+// Removes `member`, which is the member after `at`, or the first member if `at` is `None`.
 #[inline]
 pub(crate) fn remove(
     links: &mut RawTable<'_, RawOne>,
@@ -114,8 +114,8 @@ pub(crate) fn remove(
     links.release_link(member);
 }
 
-// Inserts the place `place` at the position of the member after `at`, or of the first member if `at` is `None`, and removes this member. The function
-// returns whether it did.
+// Inserts `place` at the position of `member`, and removes `member`. `member` is the member after `at`, or the first member if `at` is `None`. The
+// function returns whether it has made this edit.
 #[inline]
 pub(crate) fn replace(
     links: &mut RawTable<'_, RawOne>,
@@ -146,8 +146,8 @@ pub(crate) fn replace(
     true
 }
 
-/// Returns the last member of the list that begins with the place `front`. The result is `None` if the links do not lead to an end within as many
-/// steps as the table has places.
+/// Returns the last member of the list that begins with the place `front`. The result is `None` if the links do not lead through linked places to an
+/// end within as many steps as the table has places.
 pub fn last_from(links: &RawTable<'_, RawOne>, front: Place) -> Option<Place>
     ensures ended { (end : Place) → result ≡ Some end
         → (s : List Place) × Represents (lent_table links.now) (list_from (Some front)) s × (Some end ≡ last s) }
@@ -168,7 +168,8 @@ pub fn last_from(links: &RawTable<'_, RawOne>, front: Place) -> Option<Place>
     None
 }
 
-// Moves all members of the list `given` into the gap after the place `at`, and returns whether it did.
+// Moves all members of the list `given` into the gap after the place `at`, and returns `true`. If the function refuses, it changes nothing and
+// returns `false`.
 #[inline]
 pub(crate) fn splice(
     links: &mut RawTable<'_, RawOne>,
@@ -204,8 +205,8 @@ pub(crate) fn splice(
     true
 }
 
-// Cuts the list at the gap after the place `at`, and returns whether it did. The list keeps the members before the gap, and `rest` becomes the list
-// of the members after the gap.
+// Cuts the list at the gap after the place `at`, and returns whether it has made this edit. The list keeps the members before the gap, and `rest`
+// becomes the list of the members after the gap.
 #[inline]
 pub(crate) fn split(
     links: &mut RawTable<'_, RawOne>,

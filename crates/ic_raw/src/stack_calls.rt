@@ -18,7 +18,7 @@ use crate::words::{RawFront, RawOne};
 use crate::{stack, whole};
 use ic_singly_linked_list::SinglyLinkedList;
 
-/// Returns the list that its word represents.
+/// Returns the list whose first place `words` names.
 #[inline]
 pub fn stack_of(words: &RawFront) -> stack::Stack
     ensures { result ≡ list_from (front_of words.now) }
@@ -26,7 +26,7 @@ pub fn stack_of(words: &RawFront) -> stack::Stack
     SinglyLinkedList::from_front(place_in(words.head))
 }
 
-/// Writes the word of the list's first place.
+/// Writes the first place of `list` to `words`.
 #[inline]
 pub fn write_back(words: &mut RawFront, list: stack::Stack)
     ensures set { front_of words.new ≡ list.head }
@@ -51,7 +51,7 @@ pub fn push_front(table: &mut [RawOne], list: &mut RawFront, place: u32) -> u32
     OK
 }
 
-// Removes the first member of any list, or returns the status of the refusal.
+// Makes the removal of `pop_front` from any list, or returns the status of the refusal.
 #[cold]
 #[inline(never)]
 fn pop_front_slow(table: &mut [RawOne], list: &mut RawFront, popped: &mut u32) -> u32

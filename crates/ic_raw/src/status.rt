@@ -7,7 +7,8 @@
 /// The call was accepted and has made its edit or found its member.
 pub const OK: u32 = 0;
 
-/// A place that the caller names does not belong to the table, an array has fewer elements than the table has places, or there are no buckets.
+/// A place that the caller names does not belong to the table, or the caller names no place to insert. A call also returns this status if an array
+/// has fewer elements than the table has places, or if there are no buckets.
 pub const OUT_OF_RANGE: u32 = 1;
 
 /// The place to insert is already linked.
@@ -16,7 +17,7 @@ pub const LINKED: u32 = 2;
 /// A place that must be a member is not linked.
 pub const NOT_LINKED: u32 = 3;
 
-/// The caller named no place where one is needed, or there is no member of the kind that the call looks for.
+/// The caller named no place where a member or a head is needed, or there is no member to find or to remove.
 pub const NULL: u32 = 4;
 
 /// The links contradict one another or the arguments. For example, the caller names a place that is not a member of the list.

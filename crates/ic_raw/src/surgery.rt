@@ -1,4 +1,5 @@
-//! This module inserts and removes members of a tree over a view of the table. By a trait, a caller can see which words an edit writes.
+//! This module inserts and removes members of a tree over a view of the table. A caller can pass an implementation of the trait `Surgery`, which can
+//! record the words that an edit writes.
 //!
 //! ```text
 //! search_calls::insert_by(&mut Plain, table, keys, tree, 7) // as `insert`
@@ -20,13 +21,13 @@ use ic_link_ops::Side;
 use ic_rbtree::RBTree;
 use ic_unsafe_ref::Place;
 
-/// An implementation of insertions and removals in a tree, over a view of the table.
+/// A type that makes insertions and removals in a tree, over a view of the table. It may record which words it writes.
 pub trait Surgery {
-    // `Reports a b old new` says what the implementation has recorded between its own states a and b. The record is about the words written between the
-    // states old and new of the table.
+    // `Reports a b old new` says what the implementation has recorded between its own states `a` and `b`. The record is about the words that were
+    // written between the states `old` and `new` of the table.
     ghost Reports: { Self → Self → Table RawThree → Table RawThree → Type 0 };
 
-    /// Inserts the place, as [`RBTree::attach`] does. O(log n).
+    /// Inserts `place` on the side `side` of `parent`, as [`RBTree::attach`] does. O(log n).
     fn attach(
         &mut self,
         links: &mut RawTable<'_, RawThree>,
@@ -41,7 +42,7 @@ pub trait Surgery {
         ensures keeps_links { KeepsMarks (lent_table links.old) (lent_table links.new) }
         ensures reported { Reports self.old self.new (lent_table links.old) (lent_table links.new) };
 
-    /// Removes the member, as [`RBTree::unlink`] does. O(log n).
+    /// Removes the member `place`, as [`RBTree::unlink`] does. O(log n).
     fn unlink(&mut self, links: &mut RawTable<'_, RawThree>, tree: &mut RBTree<()>, place: Place)
         requires { IsSafe seen_node (seen (lent_table links.old)) (root_of tree.old) (Some place ∷ []) }
         ensures taken { TakesAway seen_node (seen (lent_table links.old)) (seen (lent_table links.new)) (root_of tree.old) (root_of tree.new) place }

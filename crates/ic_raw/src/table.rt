@@ -23,10 +23,11 @@ use ic_link_ops::xor_linked_list::XorLinkedListOps;
 use ic_link_ops::{LinkOps, NextWord, PrevPlace, Word, Words};
 use ic_unsafe_ref::Place;
 
-/// A view of the words of a table, with one element for each place.
+/// A view of the words of a table, which are an array with one element for each place.
 ///
 /// Words of 4 bytes can name only the first 536,870,911 places. Later places do not belong to the table. The view implements the link traits of the
-/// collections that its words can serve. `LentTable` of `ic_link_ops` is such a view over a generic type of links, which C cannot pass.
+/// collections that its words can serve. `LentTable` of `ic_link_ops` is a similar view, but over links of a generic type, which a function for C
+/// cannot take.
 pub struct RawTable<'a, W> {
     pub(crate) entries: &'a mut [W],
 }
@@ -64,7 +65,7 @@ impl<W: Words> RawTable<'_, W> {
     pub fn covers(&self, place: Place) -> bool
         ensures { IsTrue result ↔ IsCovered (nameable_table W.width W.unlinked self.now) place }
     {
-        // The comparison adds 1 to the index, because this takes one instruction less: indices begin at 0, and words at 1.
+        // The index is the word of the place divided by 8, minus 1. The added 1 cancels this subtraction, which saves an instruction.
         place.index() + 1 <= self.places()
     }
 
@@ -122,7 +123,7 @@ impl<W: Words> RawTable<'_, W> {
         }
     }
 
-    /// Marks `place` as linked and returns it, if it belongs to the table and is not linked. O(1).
+    /// Marks `place` as linked and returns it, if it belongs to the table and is not linked. Otherwise the result is `None`. O(1).
     #[inline]
     pub fn acquire(&mut self, place: Option<Place>) -> Option<Place>
         ensures accepted { (p : Place) → place ≡ Some p → IsFree W.is_linked (nameable_table W.width W.unlinked self.old) p → result ≡ Some p }
@@ -176,9 +177,9 @@ impl<W: Words> RawTable<'_, W> {
         if self.is_linked(place) { LINKED } else { OK }
     }
 
-    /// Returns why a call at this member is refused: the member's fault, or else [`BROKEN`]. O(1).
+    /// Returns why a call at `member` is refused: the fault of `member`, or else [`BROKEN`]. O(1).
     ///
-    /// The argument is a place and not its number, so that a caller that has the place need not keep the number.
+    /// Unlike `refusal_at`, this function takes the place itself, so that a caller that has the place need not keep its number.
     #[cold]
     #[inline(never)]
     pub fn refusal_of(&self, member: Place) -> u32
@@ -206,7 +207,7 @@ impl<W: Words> RawTable<'_, W> {
         BROKEN
     }
 
-    /// Returns why a call at two members is refused: the first fault of the two, or else [`BROKEN`]. O(1).
+    /// Returns why a call at the members `one` and `other` is refused: the first fault of the two, or else [`BROKEN`]. O(1).
     #[cold]
     #[inline(never)]
     pub fn refusal_at_both(&self, one: u32, other: u32) -> u32

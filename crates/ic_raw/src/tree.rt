@@ -1,4 +1,4 @@
-//! This module has what the calls of red-black trees test, and their edits over a view of the table.
+//! This module has the tests and the edits of the calls of red-black trees, over a view of the table.
 //!
 //! ```text
 //! let made = remove(&mut Plain, &mut links, &mut tree, member);
@@ -33,8 +33,8 @@ use ic_unsafe_ref::Place;
 /// A tree that belongs to the caller.
 pub(crate) type Tree = RBTree<()>;
 
-// Returns whether the root is a linked place of the table. The function compares words, so that it needs no shift, and one test excludes both `None`
-// and a place beyond the table.
+// Returns whether the root is a linked place of the table. The function compares the word of the root with the word of the last place of the table,
+// because this comparison needs no shift.
 #[inline]
 fn has_root(links: &RawTable<'_, RawThree>, tree: &Tree) -> bool
     ensures root { result ≡ true → IsNoneOrLinked is_linked_three (lent_table links.now) (root_of tree.now) }
@@ -68,8 +68,8 @@ pub(crate) fn stand(links: &RawTable<'_, RawThree>, tree: &Tree, at: Option<Plac
     }
 }
 
-// Returns whether the place may be a member of the tree: the place and the root are linked, and the place is the root if its words name no parent.
-// This test excludes the root of another tree.
+// Returns whether `member` may be a member of the tree: it and the root are linked, and if its words name no parent, it is the root. This test
+// excludes the root of another tree.
 #[inline]
 fn may_hold(links: &RawTable<'_, RawThree>, tree: &Tree, member: Place) -> bool
     ensures at { result ≡ true → IsNoneOrLinked is_linked_three (lent_table links.now) (Some member) }
@@ -86,7 +86,7 @@ fn may_hold(links: &RawTable<'_, RawThree>, tree: &Tree, member: Place) -> bool
     }
 }
 
-// Returns the child of a linked place on this side.
+// Returns the child on this side of `place`, which is linked.
 #[inline]
 fn child(links: &RawTable<'_, RawThree>, place: Place, side: Side) -> Option<Place>
     requires { IsLinked is_linked_three (lent_table links.now) place }
@@ -117,7 +117,7 @@ fn is_insert_pos(links: &RawTable<'_, RawThree>, tree: &Tree, side: Side, at: Op
     }
 }
 
-// Marks the place as linked and returns the place, if it belongs to the table and is not linked. The words of the place then name no other place.
+// Marks `place` as linked and returns it, if it belongs to the table and is not linked. The words of the place then name no other place.
 #[inline]
 fn acquire(links: &mut RawTable<'_, RawThree>, place: Option<Place>) -> Option<Place>
     ensures accepted { (p : Place) → place ≡ Some p → IsFree is_linked_three (lent_table links.old) p → result ≡ Some p }
@@ -139,8 +139,8 @@ fn acquire(links: &mut RawTable<'_, RawThree>, place: Option<Place>) -> Option<P
     Some(place)
 }
 
-// Inserts the place on this side of the place `at` of the table, or as the root if `at` is `None`. The place must belong to the table and must not be
-// linked. The function returns whether it did.
+// Inserts `place` on this side of the place `at` of the table, or as the root if `at` is `None`. The function returns whether it has made this edit.
+// It refuses a `place` that does not belong to the table or is linked.
 #[inline(always)]
 pub(crate) fn put<S: Surgery>(
     surgery: &mut S,
@@ -170,7 +170,7 @@ pub(crate) fn put<S: Surgery>(
     true
 }
 
-// Inserts the place on this side of the member `at`, or as the only member if `at` is `None`, and returns whether it did.
+// Inserts `place` on this side of the member `at`, or as the only member if `at` is `None`. The function returns whether it has made this edit.
 #[inline(always)]
 pub(crate) fn insert<S: Surgery>(
     surgery: &mut S,
@@ -201,7 +201,7 @@ pub(crate) fn insert<S: Surgery>(
     put(surgery, links, tree, side, at, place)
 }
 
-// Removes the member, and returns whether it did.
+// Removes `member`, and returns whether it has made this edit.
 #[inline]
 pub(crate) fn remove<S: Surgery>(
     surgery: &mut S,
@@ -230,7 +230,7 @@ pub(crate) fn remove<S: Surgery>(
     true
 }
 
-// Inserts the place at the position of the member, removes the member, and returns whether it did.
+// Inserts `place` at the position of `member`, and removes `member`. The function returns whether it has made this edit.
 #[inline]
 pub(crate) fn replace(
     links: &mut RawTable<'_, RawThree>,
@@ -264,7 +264,8 @@ pub(crate) fn replace(
     true
 }
 
-// Stores the number of the member in `found`, if there is a member and it is linked, and returns whether it did.
+// Stores the number of `member` in `found` and returns `true`, if there is a member and it is linked. Otherwise the function changes nothing and
+// returns `false`.
 #[inline(always)]
 fn tell(links: &RawTable<'_, RawThree>, member: Option<Place>, found: &mut u32) -> bool
     requires { IsIn (has_place (lent_table links.now)) member }
@@ -282,7 +283,8 @@ fn tell(links: &RawTable<'_, RawThree>, member: Option<Place>, found: &mut u32) 
     true
 }
 
-// Returns why no number is stored: there is no member, or its place is not linked.
+// Returns the status of a call that stores no number: [`NULL`] if there is no member, or else [`BROKEN`], because the place of the member is not
+// linked.
 #[inline]
 fn nothing_told(member: Option<Place>) -> u32
     ensures null { (result ≡ NULL) ↔ (member ≡ None) }
@@ -326,7 +328,7 @@ pub(crate) fn hand_out(
     nothing_told(member)
 }
 
-// Stores in `found` the number of the outermost member on the side opposite to `side`.
+// Stores in `found` the number of the outermost member on the side opposite to `side`, or returns the status of the refusal.
 //
 // The function is not inlined, so that a step from a member uses no register for this case.
 #[inline(never)]
@@ -345,7 +347,8 @@ fn step_from_none(links: &RawTable<'_, RawThree>, tree: &Tree, side: Side, found
     hand_out(links, step_bounded(links, tree.root(), None, side), found)
 }
 
-// Stores in `found` the number of the member on this side of the member `at`, or of the outermost member on the opposite side if `at` is none.
+// Stores in `found` the number of the member on this side of the member `at`, or returns the status of the refusal. If `at` is none, the member is
+// the outermost one on the opposite side.
 #[inline(always)]
 pub(crate) fn step(
     links: &RawTable<'_, RawThree>,

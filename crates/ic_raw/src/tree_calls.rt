@@ -24,7 +24,7 @@ use crate::{tree, tree_clear};
 use ic_link_ops::Side;
 use ic_rbtree::RBTree;
 
-// Returns the tree that its word represents.
+// Returns the tree whose root `words` names.
 #[inline]
 pub(crate) fn tree_of(words: &RawRoot) -> tree::Tree
     ensures { root_of result ≡ root_in words.now }
@@ -32,8 +32,8 @@ pub(crate) fn tree_of(words: &RawRoot) -> tree::Tree
     RBTree::from_root((), place_in(words.root))
 }
 
-/// Inserts the place with the number `place` as the child on this side of the member `at`, or as the only member if `at` is [`NONE`](crate::NONE).
-/// O(log n).
+/// Inserts the place with the number `place` as the child on this side of the member `at`. If `at` is [`NONE`](crate::NONE), the place becomes the
+/// only member. O(log n).
 ///
 /// The place must belong to the table and must not be linked. A refused edit leaves the words as they are, and returns the first fault of the two
 /// places, or else [`BROKEN`](crate::BROKEN). For example, the call returns [`BROKEN`](crate::BROKEN) if the member already has a child on this side,
@@ -45,7 +45,8 @@ pub fn insert_at(table: &mut [RawThree], tree: &mut RawRoot, side: Side, at: u32
     insert_at_by(&mut Plain, table, tree, side, at, place)
 }
 
-/// Inserts a place as `insert_at` does, with an implementation of [`Surgery`] that the caller passes and that sees which words the edit writes.
+/// Inserts a place as `insert_at` does. The edit is made by the caller's implementation `by` of [`Surgery`], which can record the words that it
+/// writes.
 #[inline]
 pub fn insert_at_by<S: Surgery>(
     by: &mut S,
@@ -83,7 +84,7 @@ pub fn remove(table: &mut [RawThree], tree: &mut RawRoot, at: u32) -> u32
     remove_by(&mut Plain, table, tree, at)
 }
 
-/// Removes a member as `remove` does, with an implementation of [`Surgery`] that the caller passes and that sees which words the edit writes.
+/// Removes a member as `remove` does. The edit is made by the caller's implementation `by` of [`Surgery`], which can record the words that it writes.
 #[inline]
 pub fn remove_by<S: Surgery>(by: &mut S, table: &mut [RawThree], tree: &mut RawRoot, at: u32) -> u32
     ensures call { RemoveCall table.old table.new tree.old tree.new result (place_of at) }
@@ -102,7 +103,8 @@ pub fn remove_by<S: Surgery>(by: &mut S, table: &mut [RawThree], tree: &mut RawR
     OK
 }
 
-/// Inserts a place at the position of the member `at`, and removes `at`, or returns [`NULL`](crate::NULL) if `at` is [`NONE`](crate::NONE). O(1).
+/// Inserts a place at the position of the member `at`, and removes `at`. The call returns [`NULL`](crate::NULL) if `at` is [`NONE`](crate::NONE).
+/// O(1).
 ///
 /// The place must belong to the table and must not be linked.
 #[inline]
@@ -124,7 +126,7 @@ pub fn replace(table: &mut [RawThree], tree: &mut RawRoot, at: u32, place: u32) 
 /// Stores in `found` the number of the member on this side of `at`. If `at` is [`NONE`](crate::NONE), the member is the outermost one on the opposite
 /// side. The call returns [`NULL`] if there is no such member. The call writes nothing else. O(log n), and O(1) on average over a walk.
 ///
-/// The call returns the fault of the member, or [`BROKEN`](crate::BROKEN) if the links lead to a place that is not linked.
+/// A refused call returns the fault of `at`, or [`BROKEN`](crate::BROKEN) if the links lead to a place that is not linked.
 #[inline(always)]
 pub fn step_at(table: &mut [RawThree], tree: &RawRoot, side: Side, at: u32, found: &mut u32) -> u32
     ensures { StepCall table.old table.new tree.now result side (place_of at) found.old found.new }

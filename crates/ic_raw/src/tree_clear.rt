@@ -74,7 +74,7 @@ fn leads_to_end(links: &RawTable<'_, RawThree>, tree: &Tree) -> bool
     at.is_none()
 }
 
-// Clears the mark of a linked place. The words of the place name the same places as before, so that steps can still follow them.
+// Clears the bit that marks `place` as linked. The words of the place name the same places as before, so that steps can still follow them.
 #[inline]
 fn unmark(links: &mut RawTable<'_, RawThree>, place: Place)
     requires covered { IsCovered (lent_table links.old) place }
@@ -87,7 +87,7 @@ fn unmark(links: &mut RawTable<'_, RawThree>, place: Place)
     words.left = words.left / 2 * 2;
 }
 
-// Unlinks the places one after the other, beginning with the first member.
+// Unlinks the members one after the other, beginning with the first member.
 fn unmark_all(links: &mut RawTable<'_, RawThree>, tree: &Tree)
     ensures cleared { (s : List Place) → Represents (lent_table links.old) (root_of tree.now) s
         → Clears is_linked_three (lent_table links.old) (lent_table links.new) s }
@@ -109,7 +109,7 @@ fn unmark_all(links: &mut RawTable<'_, RawThree>, tree: &Tree)
     }
 }
 
-// Removes all members, if steps lead from the first member to an end, and returns whether it did.
+// Removes all members and returns `true`, if steps lead from the first member to an end. Otherwise the function changes nothing and returns `false`.
 pub(crate) fn clear(links: &mut RawTable<'_, RawThree>, tree: &Tree) -> bool
     ensures cleared { (s : List Place) → Represents (lent_table links.old) (root_of tree.now) s
         → (result ≡ true) × Clears is_linked_three (lent_table links.old) (lent_table links.new) s }

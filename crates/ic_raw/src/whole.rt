@@ -21,7 +21,8 @@ use crate::words::{ListWords, RawOne};
 use ic_link_ops::linked_list::LinkedListOps;
 use ic_unsafe_ref::Place;
 
-// Removes all members of a singly linked list, if its links lead to an end, and returns whether it did.
+// Removes all members of a singly linked list and returns `true`, if its links lead to an end. Otherwise the function changes nothing and returns
+// `false`.
 pub(crate) fn clear_stack(links: &mut RawTable<'_, RawOne>, list: &mut Stack) -> bool
     ensures cleared { (s : List Place) → singly.Represents (singly.lent_table links.old) list.old s
         → (result ≡ true) × Clears is_linked_one (singly.lent_table links.old) (singly.lent_table links.new) s }
@@ -66,7 +67,8 @@ fn leads_to_last<W: ListWords>(links: &RawTable<'_, W>, list: &List) -> bool
     false
 }
 
-// Removes all members of a doubly linked list, if its links lead from the first member to the last and back, and returns whether it did.
+// Removes all members of a doubly linked list and returns `true`, if its links lead from the first member to the last and back. Otherwise the
+// function changes nothing and returns `false`.
 pub(crate) fn clear_list<W: ListWords>(links: &mut RawTable<'_, W>, list: &mut List) -> bool
     ensures cleared { (s : List Place) → doubly.Represents W.PrevPlace (lent_table W.PrevPlace links.old) list.old s
         → (result ≡ true) × Clears W.is_linked (lent_table W.PrevPlace links.old) (lent_table W.PrevPlace links.new) s }

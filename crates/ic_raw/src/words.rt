@@ -1,5 +1,5 @@
-//! The words of a table, a list or a tree cross to C. Every pattern of bits is a value, and zeroed memory is a table of unlinked places, or an empty
-//! list or tree.
+//! The types of this module are the words of a table, a list or a tree, which C and Rattle share. Words may have any bits. Zeroed memory is a table
+//! whose places are all unlinked, or an empty list or tree.
 //!
 //! ```text
 //! struct ic_link1 { uint64_t next; };
@@ -42,8 +42,8 @@ pub struct RawTwo {
     prev: u64,
 }
 
-/// The words of a place in a table of doubly linked lists or of rings, with 4 bytes each. They are the words of [`RawTwo`], and can name only places
-/// with an index below 536,870,911. Later places are out of range.
+/// The two words of a place in a table of doubly linked lists or of rings, if each word has 4 bytes. They mean the same as the words of [`RawTwo`],
+/// but can name only places with an index below 536,870,911. Later places are out of range.
 #[repr(C)]
 #[derive(Clone, Copy)]
 pub struct RawNarrowTwo {
@@ -88,10 +88,10 @@ pub struct RawRoot {
     pub root: u64,
 }
 
-/// The words of a place in a doubly linked list, of 8 bytes or of 4 bytes. One comparison of a word tests whether the place is linked and has a given
-/// neighbor.
+/// The words of a place in a doubly linked list, which have 8 bytes or 4 bytes each. One comparison of a word tests whether the place is linked and
+/// has a given neighbor.
 ///
-/// The methods `is_before` and `is_after` test for exactly the bits that a call writes. If such a test fails, a call tests the words again and
+/// The methods `is_before` and `is_after` test for exactly the bits that a call writes. If such a test fails, a call makes a second test, which
 /// ignores the bits that have no meaning.
 pub trait ListWords: PrevPlace {
     ghost use Rattle.std.specs.Prelude.{◌≡◌, true};
@@ -103,12 +103,12 @@ pub trait ListWords: PrevPlace {
         ensures next { result ≡ true → place_at (Self.next_word self.now) ≡ next }
         ensures leads { Self.is_linked self.now ≡ true → next ≡ place_at (Self.next_word self.now) → result ≡ true };
 
-    /// Returns whether these are the words of a linked place as a call writes them, with `next` after it.
+    /// Returns whether the place is linked with `next` after it, and the word that says so has exactly the bits that a call writes.
     fn is_before(&self, next: Option<Place>) -> bool
         ensures linked { result ≡ true → Self.is_linked self.now ≡ true }
         ensures next { result ≡ true → place_at (Self.next_word self.now) ≡ next };
 
-    /// Returns whether these are the words of a linked place as a call writes them, with `prev` before it.
+    /// Returns whether the place is linked with `prev` before it, and the word for `prev` has exactly the bits that a call writes.
     fn is_after(&self, prev: Option<Place>) -> bool
         ensures linked { result ≡ true → Self.is_linked self.now ≡ true }
         ensures prev { result ≡ true → Self.prev self.now ≡ prev };
@@ -382,7 +382,7 @@ impl ListWords for RawNarrowTwo {
     }
 }
 
-// Returns whether a word of 4 bytes has exactly the bits that a call writes for a place.
+// Returns whether `word` has exactly the bits that a call writes for `place`.
 #[inline]
 fn is_word(word: u32, place: Option<Place>) -> bool
     ensures { result ≡ true → narrow_place_in word ≡ place }
@@ -390,7 +390,7 @@ fn is_word(word: u32, place: Option<Place>) -> bool
     u64::from(word) == Place::to_word(place)
 }
 
-// Returns whether the word has exactly the bits that a call writes at a linked place with `next` after it.
+// Returns whether `word` has exactly the bits that a call writes at a linked place with `next` after it.
 #[inline]
 fn is_marked_word(word: u32, next: Option<Place>) -> bool
     ensures linked { result ≡ true → is_marked word ≡ true }
@@ -493,7 +493,7 @@ impl RawEnds {
         };
     }
 
-    // Returns whether these are the ends of a list with no members.
+    // Returns whether both words name no place, as those of a list with no members do.
     #[inline]
     pub(crate) fn is_empty(&self) -> bool
         ensures { (result ≡ true) ↔ (ends_of self.now ≡ no_members) }

@@ -1,5 +1,5 @@
-//! This module has the calls of XOR linked lists. A place is a number, and a list is two words. An edit names the neighbors between which it inserts
-//! or cuts.
+//! This module has the calls of XOR linked lists. A place is a number, and a list is two words. The caller of an insertion or of a cut names the
+//! neighbors between which it is made.
 //!
 //! ```text
 //! push_back(table, list, 7)            // OK
@@ -33,7 +33,7 @@ use ic_unsafe_ref::Place;
 use ic_xor_linked_list::XorLinkedList;
 use std::mem;
 
-// Returns the list that its two words represent.
+// Returns the list whose first and last place `words` names.
 #[inline]
 pub(crate) fn list_of(words: &RawEnds) -> xor_list::List
     ensures { result ≡ ends_of words.now }
@@ -41,7 +41,7 @@ pub(crate) fn list_of(words: &RawEnds) -> xor_list::List
     XorLinkedList::from_ends(place_in(words.head), place_in(words.tail))
 }
 
-// Writes the words of the list's first and last place.
+// Writes the first and the last place of `list` to `words`.
 #[inline]
 pub(crate) fn write_back(words: &mut RawEnds, list: xor_list::List)
     ensures set { ends_of words.new ≡ list }
@@ -50,7 +50,7 @@ pub(crate) fn write_back(words: &mut RawEnds, list: xor_list::List)
     words.set(list.first(), list.last());
 }
 
-// Returns why a place is not inserted between two members: the first fault of the three places, or else [`BROKEN`].
+// Returns why `place` is not inserted between the members `one` and `other`: the first fault of the three places, or else [`BROKEN`].
 #[cold]
 #[inline(never)]
 fn refusal_with_both(links: &RawTable<'_, RawOne>, one: u32, other: u32, place: u32) -> u32
@@ -67,7 +67,8 @@ fn refusal_with_both(links: &RawTable<'_, RawOne>, one: u32, other: u32, place: 
     links.refusal(other, place)
 }
 
-// Inserts the place between two neighbors, and returns whether it did. The function is always inlined, as the edit itself is.
+// Inserts `place` between the neighbors `before` and `after`, and returns whether it has made this edit. Like `xor_list::insert`, the function is
+// always inlined.
 #[inline(always)]
 fn put(
     table: &mut [RawOne],
@@ -98,8 +99,8 @@ fn put(
     true
 }
 
-// Returns whether `end` is a linked place with a linked neighbor, as both ends of a list of two members or more are. Calls that know this have little
-// else to test and write. The proof of a call rests on the call's own tests, and not on this function.
+// Returns whether `end` is a linked place with a linked neighbor. Both ends of a list of at least two members are such places, and a call at such an
+// end has little else to test and write. The contract of the call does not depend on this function, because the call also makes its own tests.
 #[inline(always)]
 fn has_neighbor(table: &mut [RawOne], end: Option<Place>) -> bool
     ensures kept { table.new ≡ table.old }
@@ -117,7 +118,8 @@ fn has_neighbor(table: &mut [RawOne], end: Option<Place>) -> bool
     links.is_linked(neighbor)
 }
 
-// Inserts a place between the neighbors that the words `before` and `after` name, of which one is none, or returns the status of the refusal.
+// Inserts `place` at an end of the list, or returns the status of the refusal. The words `before` and `after` name the neighbors between which the
+// place goes, and at least one of the two words names no place.
 #[cold]
 #[inline(never)]
 fn put_slow(table: &mut [RawOne], list: &mut RawEnds, place: u32, before: u64, after: u64) -> u32
@@ -137,7 +139,7 @@ fn put_slow(table: &mut [RawOne], list: &mut RawEnds, place: u32, before: u64, a
 
 /// Inserts a place at the front of the list. O(1).
 ///
-/// The place must belong to the table and must not be linked. If the first member does not belong to the table, the call returns [`BROKEN`].
+/// The place must belong to the table and must not be linked. If the first member is not linked, the call returns [`BROKEN`].
 #[inline]
 pub fn push_front(table: &mut [RawOne], list: &mut RawEnds, place: u32) -> u32
     ensures { PushCall table.old table.new list.old list.new result None (ends_of list.old).head (place_of place) }
@@ -152,7 +154,7 @@ pub fn push_front(table: &mut [RawOne], list: &mut RawEnds, place: u32) -> u32
 
 /// Inserts a place at the back of the list. O(1).
 ///
-/// The place must belong to the table and must not be linked. If the last member does not belong to the table, the call returns [`BROKEN`].
+/// The place must belong to the table and must not be linked. If the last member is not linked, the call returns [`BROKEN`].
 #[inline]
 pub fn push_back(table: &mut [RawOne], list: &mut RawEnds, place: u32) -> u32
     ensures { PushCall table.old table.new list.old list.new result (ends_of list.old).tail None (place_of place) }
@@ -165,7 +167,7 @@ pub fn push_back(table: &mut [RawOne], list: &mut RawEnds, place: u32) -> u32
     put_slow(table, list, place, word, 0)
 }
 
-// Removes the member after `before`, and returns whether it did.
+// Removes `member`, which is after `before`, and returns whether it has made this edit.
 #[inline]
 fn take(table: &mut [RawOne], list: &mut RawEnds, before: Option<Place>, member: Place) -> bool
     ensures removed { (front back : List Place) → before ≡ last front → RepresentsList table.old list.old (front ++ member ∷ back)
@@ -189,7 +191,7 @@ fn take(table: &mut [RawOne], list: &mut RawEnds, before: Option<Place>, member:
     true
 }
 
-// Removes the last member, and returns whether it did.
+// Removes `member`, which is the last member, and returns whether it has made this edit.
 #[inline]
 fn take_last(table: &mut [RawOne], list: &mut RawEnds, member: Place) -> bool
     ensures removed { (front : List Place) → RepresentsList table.old list.old (front ++ member ∷ [])
@@ -212,7 +214,7 @@ fn take_last(table: &mut [RawOne], list: &mut RawEnds, member: Place) -> bool
     true
 }
 
-// Removes the first member of any list, or returns the status of the refusal.
+// Makes the removal of `pop_front` from any list, or returns the status of the refusal.
 #[cold]
 #[inline(never)]
 fn pop_front_slow(table: &mut [RawOne], list: &mut RawEnds, popped: &mut u32) -> u32
@@ -262,7 +264,8 @@ pub fn pop_back(table: &mut [RawOne], list: &mut RawEnds, popped: &mut u32) -> u
     OK
 }
 
-/// Inserts a place between the neighbors `before` and `after`. One of them is [`NONE`] if the place goes to an end of the list. O(1).
+/// Inserts a place between the neighbors `before` and `after`. At the front of the list `before` is [`NONE`], and at the back `after` is [`NONE`].
+/// O(1).
 ///
 /// The place must belong to the table and must not be linked. If `before` and `after` are not neighbors by their links, the call returns [`BROKEN`].
 #[inline]
@@ -282,7 +285,7 @@ pub fn insert_between(
     OK
 }
 
-/// Removes the member `at`, whose previous member is `before`, or returns [`NULL`] if `at` is [`NONE`]. O(1).
+/// Removes the member `at`, whose previous member is `before`. The call returns [`NULL`] if `at` is [`NONE`]. O(1).
 ///
 /// If the links beside the member do not lead back to it, the call returns [`BROKEN`].
 #[inline]
@@ -319,7 +322,7 @@ pub fn replace(table: &mut [RawOne], list: &mut RawEnds, before: u32, at: u32, p
     OK
 }
 
-// Moves all members of the list `given` between two neighbors, and returns whether it did.
+// Moves all members of the list `given` between the neighbors `before` and `after`, and returns whether the call is accepted.
 #[inline]
 fn splice(
     table: &mut [RawOne],
@@ -377,8 +380,8 @@ pub fn splice_between(
 
 /// Moves all members of `given` to the back of the list, and leaves `given` empty. O(1).
 ///
-/// If both lists begin with the same member, for example if `given` is the list itself, the call returns [`BROKEN`]. It also returns [`BROKEN`] if an
-/// end of one list does not belong to the table.
+/// If both lists begin with the same member, for example if `given` is the list itself, the call returns [`BROKEN`]. It also returns [`BROKEN`] if
+/// the last member of the list, or the first or the last member of `given`, is not linked.
 #[inline]
 pub fn append(table: &mut [RawOne], list: &mut RawEnds, given: &mut RawEnds) -> u32
     ensures { AppendCall table.old table.new list.old list.new result given.old given.new }

@@ -1,4 +1,4 @@
-//! This module has what the calls of XOR linked lists test, and their edits over a view of the table.
+//! This module has the tests and the edits of the calls of XOR linked lists, over a view of the table.
 //!
 //! ```text
 //! let made = insert(&mut links, &mut list, before, place, after);
@@ -27,7 +27,7 @@ use ic_xor_linked_list::XorLinkedList;
 /// An XOR linked list that belongs to the caller.
 pub(crate) type List = XorLinkedList<()>;
 
-// Returns whether the place `beyond` is linked. If `beyond` is `None`, the function returns whether `place` is the end of the list.
+// Returns whether the place `beyond` is linked. If `beyond` is `None`, the function returns whether `place` is `end`, an end of the list.
 #[inline]
 fn goes_on(
     links: &RawTable<'_, RawOne>,
@@ -43,8 +43,8 @@ fn goes_on(
     }
 }
 
-// Returns whether `place` is linked and the list goes on beyond it, on the side opposite to `neighbor`. If `place` is `None`, the function returns
-// whether `neighbor` is the end of the list.
+// Returns whether `place` is linked, and `goes_on` returns `true` for the neighbor of `place` on the side opposite to `neighbor`. If `place` is
+// `None`, the function returns whether `neighbor` is `end`, an end of the list.
 #[inline]
 fn faces(
     links: &RawTable<'_, RawOne>,
@@ -64,7 +64,8 @@ fn faces(
     goes_on(links, end, place, links.next(place, neighbor))
 }
 
-// Returns whether the places `before` and `after` are neighbors by their links. One of them is `None` at an end of the list.
+// Returns whether the places `before` and `after` are neighbors by their links. At the front of the list `before` is `None`, and at the back `after`
+// is `None`.
 #[inline]
 pub(crate) fn is_gap(
     links: &RawTable<'_, RawOne>,
@@ -81,7 +82,8 @@ pub(crate) fn is_gap(
     faces(links, list.first(), before, after) && faces(links, list.last(), after, before)
 }
 
-// Returns whether the place `member` is between `before` and `after` by their links. One of them is `None` if the member is at an end of the list.
+// Returns whether the place `member` is between `before` and `after` by their links. For the first member `before` is `None`, and for the last member
+// `after` is `None`.
 #[inline]
 fn is_between(
     links: &RawTable<'_, RawOne>,
@@ -100,8 +102,8 @@ fn is_between(
     faces(links, list.first(), before, at) && faces(links, list.last(), after, at)
 }
 
-// Inserts the place into the gap between `before` and `after`, and returns whether it did. The function is always inlined, because a call would make
-// an insertion between neighbors some 40 instructions longer.
+// Inserts `place` into the gap between `before` and `after`, and returns whether it has made this edit. The function is always inlined, because a
+// call of it would add some 40 instructions to an insertion between neighbors.
 #[inline(always)]
 pub(crate) fn insert(
     links: &mut RawTable<'_, RawOne>,
@@ -133,7 +135,7 @@ pub(crate) fn insert(
     true
 }
 
-// Removes the member between two places, and returns whether it did.
+// Removes `member`, which is between `before` and `after`, and returns whether it has made this edit.
 #[inline]
 fn take_out(
     links: &mut RawTable<'_, RawOne>,
@@ -163,7 +165,7 @@ fn take_out(
     true
 }
 
-// Removes the member after `before`, and returns whether it did.
+// Removes `member`, which is after `before`, and returns whether it has made this edit.
 #[inline]
 pub(crate) fn remove(
     links: &mut RawTable<'_, RawOne>,
@@ -190,7 +192,8 @@ pub(crate) fn remove(
     take_out(links, list, before, member, after)
 }
 
-// Removes the first member, if two members are after it. Otherwise the function changes nothing and returns `None`.
+// Removes the first member and returns it, if the links lead from it to two more linked places. Otherwise the function changes nothing and returns
+// `None`.
 #[inline]
 pub(crate) fn pop_before_others(links: &mut RawTable<'_, RawOne>, list: &mut List) -> Option<Place>
     ensures removed { (p q : Place) (s : List Place) → result ≡ Some q → Represents (lent_table links.old) list.old (p ∷ s)
@@ -229,7 +232,7 @@ pub(crate) fn pop_before_others(links: &mut RawTable<'_, RawOne>, list: &mut Lis
     Some(first)
 }
 
-// Removes the last member, and returns whether it did.
+// Removes `member`, which is the last member, and returns whether it has made this edit.
 #[inline]
 pub(crate) fn remove_last(links: &mut RawTable<'_, RawOne>, list: &mut List, member: Place) -> bool
     ensures removed { (front : List Place) → Represents (lent_table links.old) list.old (front ++ member ∷ [])
@@ -250,7 +253,7 @@ pub(crate) fn remove_last(links: &mut RawTable<'_, RawOne>, list: &mut List, mem
     take_out(links, list, before, member, None)
 }
 
-// Inserts the place at the position of the member after `before`, removes this member, and returns whether it did.
+// Inserts `place` at the position of `member`, which is after `before`, and removes `member`. The function returns whether it has made this edit.
 #[inline]
 pub(crate) fn replace(
     links: &mut RawTable<'_, RawOne>,
@@ -301,7 +304,7 @@ fn has_ends(links: &RawTable<'_, RawOne>, list: &List) -> bool
     faces(links, last, first, None) && faces(links, first, last, None)
 }
 
-// Moves all members of the list `given` into the gap between two places, and returns whether it did.
+// Moves all members of the list `given` into the gap between `before` and `after`, and returns whether the call is accepted.
 #[inline]
 pub(crate) fn splice(
     links: &mut RawTable<'_, RawOne>,
@@ -340,8 +343,8 @@ pub(crate) fn splice(
     true
 }
 
-// Cuts the list at the gap between two places, and returns whether it did. The list keeps the members before the gap, and `rest` becomes the list of
-// the members after the gap.
+// Cuts the list at the gap between `before` and `after`, and returns whether it has made this edit. The list keeps the members before the gap, and
+// `rest` becomes the list of the members after the gap.
 #[inline]
 pub(crate) fn split(
     links: &mut RawTable<'_, RawOne>,
@@ -392,7 +395,7 @@ fn leads_to_last(links: &RawTable<'_, RawOne>, list: &List) -> bool
     false
 }
 
-// Unlinks the place. The word of the place is then the word of a place that no call has linked.
+// Unlinks `place`, and gives it the word of a place that no call has linked.
 #[inline]
 fn unlink(links: &mut RawTable<'_, RawOne>, place: Place)
     requires linked { IsLinked is_linked_one (lent_table links.old) place }
@@ -402,7 +405,7 @@ fn unlink(links: &mut RawTable<'_, RawOne>, place: Place)
     links.entries[place.index()] = RawOne::unlinked();
 }
 
-// Unlinks the places one after the other, beginning with the first member.
+// Unlinks the members one after the other, beginning with the first member.
 fn release_all(links: &mut RawTable<'_, RawOne>, list: &List)
     ensures cleared { (s : List Place) → Represents (lent_table links.old) list.now s → Clears is_linked_one (lent_table links.old) (lent_table links.new) s }
     ensures marks { OnlyUnlinks (lent_table links.old) (lent_table links.new) }
@@ -425,7 +428,8 @@ fn release_all(links: &mut RawTable<'_, RawOne>, list: &List)
     }
 }
 
-// Removes all members, if the links lead from the first to the last, and returns whether it did.
+// Removes all members and returns `true`, if the links lead from the first member to the last. Otherwise the function changes nothing and returns
+// `false`.
 pub(crate) fn clear(links: &mut RawTable<'_, RawOne>, list: &List) -> bool
     ensures cleared { (s : List Place) → Represents (lent_table links.old) list.now s
         → (result ≡ true) × Clears is_linked_one (lent_table links.old) (lent_table links.new) s }

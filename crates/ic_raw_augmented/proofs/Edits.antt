@@ -1,4 +1,4 @@
--- How edits of a tree change which sums are right, if each place whose children were written is recorded.
+-- Lemmas on the sums that stay right in an edit of a tree that records each place whose children it writes.
 use Rattle.std.proofs.Common.{◌≡◌, ◌≢◌, ◌≤◌, ℕ, Bool, true, false, cond, length, Option, Some, None, List, refl, sym, ap, ◌∙◌, subst}
 use Rattle.std.proofs.lemmas.Bool.{le-ltb}
 use Rattle.ic_link_ops.specs.Prelude.{Place, IsMember, Table, ChangesOnly}
@@ -18,7 +18,7 @@ use Rattle.ic_raw_augmented.specs.Sums.{IsSummedBut, combined, joined_at, sum_be
 use Rattle.ic_raw_augmented.specs.Written.{KeepsChildren, Notes, is_noted}
 use Rattle.ic_raw_augmented.proofs.Viewed.{but_viewed}
 
--- if a place keeps its two children, its value combined with the sums of its children stays as it is
+-- if a place keeps its two children, the value of the place combined with the sums of its children stays the same
 joined_same : (kind : Kind) (t u : Table RawThree) (sums : List RawSum) (q : Place) → KeepsChildren t u q → joined_at kind u sums q ≡ joined_at kind t sums q
 joined_same kind t u sums q kept = λ i. combined kind (sum_below sums (kept.left i)) (combined kind (value_at sums q) (sum_below sums (kept.right i)))
 
@@ -29,7 +29,7 @@ beside t u p q only apart =
     record { left = ap (λ (e : Seen). (seen_node e).left) same; right = ap (λ (e : Seen). (seen_node e).right) same }
 
 module _ (kind : Kind) (sums : List RawSum) (s : List Place) (w w' : Written) where
-  -- A PLACE WAS INSERTED and recorded: afterwards the sums are right except at recorded places, if they were right before except at the inserted place
+  -- if the place p was inserted and recorded, and the sums were right before except at p, they are right afterwards except at recorded places
   after_insertion : (p : Place) → is_noted w p ≡ true → (old new : Table RawThree) → ReportsInsertion Notes w w' old new p → IsSummedBut kind old sums s (is_end (Some p))
       → IsSummedBut kind new sums s (is_noted w')
   after_insertion p here old new told right q m off =
@@ -38,7 +38,7 @@ module _ (kind : Kind) (sums : List RawSum) (s : List Place) (w w' : Written) wh
       right q m (is_end_not (Some p) q (λ e. apart (sym (some_same e))))
       ∙ (sym (joined_same kind old told.0 sums q (beside old told.0 p q told.1 apart)) ∙ sym (joined_same kind told.0 new sums q (notes.children q off)))
 
-  -- A PLACE WAS REMOVED and is no member now: afterwards the sums are right except at recorded places, if they were all right before
+  -- if the place p was removed and is no member of s, and all sums were right before, they are right afterwards except at recorded places
   after_removal : (p : Place) → (IsMember p s → ⊥) → (old new : Table RawThree) → ReportsRemoval Notes w w' old new p → IsSummedBut kind old sums s (is_end None)
       → IsSummedBut kind new sums s (is_noted w')
   after_removal p out old new told right q m off =
@@ -64,7 +64,7 @@ module _ (kind : Kind) (sums : List RawSum) (s : List Place) (w w' : Written) wh
       → IsSummedBut kind (table_of old) sums s (is_end None) → IsSummedBut kind (table_of new) sums s (is_noted w')
   removed {old} {new} p out told right = of_views {old = old} {new = new} {P = λ t u. ReportsRemoval Notes w w' t u p} (is_end None) (after_removal p out) told right
 
-  -- a call names the inserted place by an end, and if this end is not none, the statement about insertion holds for its place
+  -- a call names the inserted or removed place by `o`, a place or none. If `o` is a place, the lemmas on an inserted or removed place hold for this place
   pub put_in : {old new : List RawThree} (o : Option Place) → (o ≡ None → ⊥) → ((p : Place) → o ≡ Some p → is_noted w p ≡ true)
       → ((p : Place) → o ≡ Some p → HoldsOfViews old new (λ t u. ReportsInsertion Notes w w' t u p))
       → IsSummedBut kind (table_of old) sums s (is_end o) → IsSummedBut kind (table_of new) sums s (is_noted w')

@@ -1,4 +1,4 @@
--- If a search by sums ends in a view of the words, it ends in the words.
+-- If a search by sums finds no member in a view of the words (`FindEnds`), it finds no member in the words.
 use Rattle.std.proofs.Common.{◌≡◌, ℕ, List, [], ◌∷◌, Option, Some, None, inl, inr}
 use Rattle.ic_link_ops.specs.Prelude.{Place}
 use Rattle.ic_raw.specs.declared.table.RawTable.{RawTable}
@@ -8,7 +8,7 @@ use Rattle.ic_raw.specs.Tree.{lent_table, table_of}
 use Rattle.ic_raw_augmented.specs.declared.sums.RawSum.{RawSum}
 use Rattle.ic_raw_augmented.specs.Ends.{EndsAbove, FindEnds, LeadsUp, OverlapEnds}
 
--- if parents lead up to a place without a parent in a view of the words, they do so in the words
+-- if w has the places above p in a view of the words, w has the places above p in the words
 up_through : (t : RawTable RawThree) (p : Place) (w : List Place) → LeadsUp (lent_table t) p w → LeadsUp (table_of (raw_entries t)) p w
 up_through t p [] h = h
 up_through t p (x ∷ w) h = (h.0, up_through t x w h.1)
@@ -20,7 +20,7 @@ above_words t (Some p) h = (h.0, up_through t p h.0 h.1)
 pub above_back : (t : RawTable RawThree) {es : List RawThree} (at : Option Place) → raw_entries t ≡ es → EndsAbove (lent_table t) at → EndsAbove (table_of es) at
 above_back t at view h = let back : EndsAbove (table_of (raw_entries t)) at = above_words t at h in rw (← view) back
 
--- if a search by sums ends in a view of the words, the search ends in the words
+-- if a search by sums finds no member in a view of the words, it finds no member in the words
 find_words : (t : RawTable RawThree) (sums : List RawSum) (root at : Option Place) (bound : ℕ) → FindEnds (lent_table t) sums root at bound
     → FindEnds (table_of (raw_entries t)) sums root at bound
 find_words t sums root None bound h = h

@@ -1,4 +1,4 @@
--- How places are recorded one after the other, and how children are written between these records.
+-- Lemmas on how a place is recorded, and on when a record stays complete while children are written.
 use Rattle.std.proofs.Common.{◌≡◌, ◌≢◌, ◌≤◌, ◌<◌, ◌||◌, ℕ, zero, suc, Bool, true, false, cond, Option, Some, None, List, [], ◌∷◌, length, drop, slice_index_or, slice_set, refl, sym, ap, ◌∙◌, subst, inl, inr, arith, eq-eqb}
 use Rattle.ic_link_ops.specs.Prelude.{Place, index_of, word_of, Table, ChangesOnly}
 use Rattle.ic_link_ops.specs.Walk.{is_end}
@@ -11,7 +11,7 @@ use Rattle.ic_raw.proofs.Entries.{place_kept}
 use Rattle.ic_raw_augmented.specs.declared.written.Written.{Written}
 use Rattle.ic_raw_augmented.specs.Written.{KeepsChildren, Notes, is_among, is_noted}
 
--- if each place of the set S is in T, a place of S with one more place is in T with this place
+-- let q be in T if q is in S. Then q is in T or is the place o, if q is in S or is the place o
 also_still : (o : Option Place) (S T : Place → Bool) (q : Place) → (S q ≡ true → T q ≡ true) → also o S q ≡ true → also o T q ≡ true
 also_still o S T q more = pick (is_end o q) where
   pick : (b : Bool) → cond b true (S q) ≡ true → cond b true (T q) ≡ true
@@ -27,13 +27,13 @@ also_there o S q h = pick (is_end o q) where
 also_one : (o : Option Place) (S : Place → Bool) (p : Place) → o ≡ Some p → also o S p ≡ true
 also_one o S p e = ap (λ (b : Bool). cond b true (S p)) (ap (λ (x : Option Place). is_end x p) e ∙ eq-eqb (index_of p) (index_of p) refl)
 
--- A WORD IS WRITTEN into the record: its place is among the recorded places afterwards
+-- after a word is written into the record, the place of this word is among the recorded places
 pub among_here : (ws : List ℕ) (i w : ℕ) (p : Place) → i < length ws → w ≡ word_of (Some p) → is_among (slice_set ws i w) p ≡ true
 among_here [] i w p less is = absurd (omega (arith, less))
 among_here (x ∷ ws) zero w p less is = also_one (place_in w) (is_among ws) p (ap place_in is ∙ place_kept (Some p))
 among_here (x ∷ ws) (suc i) w p less is = also_there (place_in x) (is_among (slice_set ws i w)) p (among_here ws i w p (omega (arith, less)) is)
 
--- if a word is written where there was 0, each place that was recorded is still recorded
+-- if a word is written where the record had the word 0, each place that was recorded is still recorded
 pub among_still : (ws : List ℕ) (i w : ℕ) → slice_index_or ws i 0 ≡ 0 → (q : Place) → is_among ws q ≡ true → is_among (slice_set ws i w) q ≡ true
 among_still [] i w none q h = h
 among_still (x ∷ ws) zero w none q h =
@@ -49,20 +49,20 @@ pub or_there : (b x : Bool) → x ≡ true → b || x ≡ true
 or_there true x e = refl
 or_there false x e = e
 
--- THE RECORDED PLACES FROM AN INDEX ON are the place of the word at this index and the places of the words after it
+-- the places of the words from the index i on are the place of the word at i and the places of the words after i
 pub among_drop : (ws : List ℕ) (i : ℕ) → i < length ws → (q : Place) → is_among (drop i ws) q ≡ also (place_in (slice_index_or ws i 0)) (is_among (drop (suc i) ws)) q
 among_drop [] i less q = absurd (omega (arith, less))
 among_drop (x ∷ ws) zero less q = refl
 among_drop (x ∷ ws) (suc i) less q = among_drop ws i (omega (arith, less)) q
 
--- no place is recorded from an index on that is at least the number of words
+-- if the index i is at least the number of words, no place is recorded from i on
 pub among_past : (ws : List ℕ) (i : ℕ) → length ws ≤ i → (q : Place) → is_among (drop i ws) q ≡ false
 among_past [] zero less q = refl
 among_past [] (suc i) less q = refl
 among_past (x ∷ ws) zero less q = absurd (omega (arith, less))
 among_past (x ∷ ws) (suc i) less q = among_past ws i (omega (arith, less)) q
 
--- A WRITE AT A RECORDED PLACE: if only the recorded place p changes, the record stays complete
+-- if only the place p changes, and p is recorded, the record is complete
 pub write_noted : (was is : Written) (old new : Table RawThree) (p : Place) → is_noted is p ≡ true → ((q : Place) → is_noted was q ≡ true → is_noted is q ≡ true)
     → ChangesOnly (seen old) (seen new) p → Notes was is old new
 write_noted was is old new p here noted only = record {
@@ -73,7 +73,7 @@ write_noted was is old new p here noted only = record {
       record { left = ap (λ (e : Seen). (seen_node e).left) same; right = ap (λ (e : Seen). (seen_node e).right) same };
 }
 
--- if only the place p changes and keeps its children, the record stays complete
+-- if only the place p changes, and p keeps its children, the record stays complete
 pub write_beside : (w : Written) (old new : Table RawThree) (p : Place) → KeepsChildren old new p → ChangesOnly (seen old) (seen new) p → Notes w w old new
 write_beside w old new p kept only = record {
   noted = λ q h. h;

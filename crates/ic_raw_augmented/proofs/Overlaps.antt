@@ -1,4 +1,5 @@
--- The first interval that overlaps a given interval follows from the first interval that ends late enough.
+-- A search by sums finds the first interval that ends after `from`. If this interval starts before `to`, it is the first that overlaps [from, to), and
+-- otherwise no interval overlaps.
 use Rattle.std.proofs.Common.{◌≡◌, ◌≢◌, ◌≤◌, ◌<◌, ◌&&◌, nat_lt, ℕ, Bool, true, false, cond, Some, None, List, [], ◌∷◌, ◌++◌, map, max, refl, sym, ap, ◌∙◌, subst, arith, inl, inr}
 use Rattle.std.proofs.Math.Nat.{le-max_left, le-max_right, max-le}
 use Rattle.std.proofs.lemmas.Bool.{lt-ltb, le-ltb}
@@ -45,7 +46,8 @@ module _ (start end : Place → ℕ) (from to : ℕ) where
   sorted_after [] g h = h
   sorted_after (x ∷ f) g h = sorted_after f g (sorted_tail x (f ++ g) h)
 
-  -- Intervals that end too early do not overlap the given interval. Intervals after one that starts too late do not overlap the given interval either
+  -- no interval that ends at `from` or earlier overlaps [from, to). If the starts are sorted and one interval starts at `to` or later, neither this interval
+  -- nor a later one overlaps
   all_early : (s : List Place) → total Greatest end s ≤ from → filter test s ≡ []
   all_early [] h = refl
   all_early (q ∷ s) h =

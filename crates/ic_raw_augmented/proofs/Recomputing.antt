@@ -1,4 +1,4 @@
--- Sums that are computed again, one after the other, from a place up.
+-- Lemmas on sums that are computed again, first at a place, and then at each member above.
 use Rattle.std.proofs.Common.{◌≡◌, ◌≢◌, ◌≤◌, ◌<◌, ◌+◌, ◌-◌, ◌||◌, ℕ, suc, Bool, true, false, cond, Option, Some, None, List, ◌∷◌, refl, sym, ap, ◌∙◌, subst, inl, inr, arith}
 use Rattle.std.proofs.lemmas.Bool.{lt-ltb, le-ltb, ltb-false}
 use Rattle.ic_link_ops.specs.Prelude.{Place, index_of, place_at, word_of, IsMember, Table}
@@ -24,7 +24,7 @@ use Rattle.ic_raw_augmented.specs.declared.sums.RawSum.{RawSum}
 use Rattle.ic_raw_augmented.specs.Sums.{IsNear, IsRightAt, IsSummedBut, combined, is_child_of, is_from, joined_at, sum_at, sum_below, value_at}
 use Rattle.ic_raw_augmented.proofs.Totals.{apart_left, apart_right, times_top}
 
--- a place that is not in a set with one more place is not in the set, and is not this place
+-- if the place q is not in the set of `up` and the places of `but`, q is not `up` and not in `but`
 pub also_off : (up : Option Place) (but : Place → Bool) (q : Place) → also up but q ≡ false → (is_end up q ≡ false) × (but q ≡ false)
 also_off up but q e = pick (is_end up q) refl where
   pick : (b : Bool) → is_end up q ≡ b → (is_end up q ≡ false) × (but q ≡ false)
@@ -44,7 +44,7 @@ module _ (t : Table RawThree) where
   parent_is up (fork c a x b) p h e = subst (λ (y : Place). (seen_node ((seen t).entry y)).parent ≡ up) (some_same e) h.0.parent
 
   module _ {root : Option Place} {s : List Place} (h : IsSeen t root s) where
-    -- THE CHILD OF A MEMBER names this member as its parent, and is another place
+    -- a child of the member q names q as its parent, and is another place than q
     pub child_names : (q c : Place) (side : Side) → IsMember q s → child_on side (seen_node ((seen t).entry q)) ≡ Some c → ((seen_node ((seen t).entry c)).parent ≡ Some q) × (c ≢ q)
     child_names q c Left m is =
         let x = member_at seen_node (seen t) root s q h m in
@@ -59,11 +59,11 @@ module _ (t : Table RawThree) where
           apart_right c q x.c x.a x.b (λ z. omega (arith, x.subtree.once z, times_plug z x.fs (fork x.c x.a q x.b))) (times_top c x.b tops),
         )
 
-    -- a place that no tree can have, because fewer than 0 members would be above it, is no member
+    -- p is no member if `IsNear` says that fewer than 0 members are above p
     pub far : (p : Place) → IsNear t 0 p → IsMember p s → ⊥
     far p near m = let x = member_at seen_node (seen t) root s p h m in let less = near x.fs (fork x.c x.a p x.b) x.subtree refl in omega (arith, less)
 
-  -- in any tree that has the place p, fewer than 67 members are above p
+  -- in each tree with the member p, fewer than 67 members are above p
   pub near_all : (p : Place) → IsNear t 67 p
   near_all p fs u k e = omega (arith, no_longer fs u, k.low)
 
@@ -93,7 +93,7 @@ module _ (t : Table RawThree) where
         let right : is_end (seen_node ((seen t).entry above)).right p ≡ true = sym (ap (λ (b : Bool). b || is_end (seen_node ((seen t).entry above)).right p) k) ∙ is in
         near_above Right turns p above (is_end_yes (seen_node ((seen t).entry above)).right p right) near
 
--- THE SUM AT p WAS WRITTEN: it is the value of p combined with the sums of the two children of p, and no other sum has changed
+-- the sum at p was computed again: it is the value of p combined with the sums of the two children of p, and no other sum has changed
 module _ (kind : Kind) (t : Table RawThree) (sums new : List RawSum) (p : Place) (set : sum_at new p ≡ joined_at kind t sums p)
     (others : (q : Place) → q ≢ p → sum_at new q ≡ sum_at sums q) (values : (q : Place) → value_at new q ≡ value_at sums q) where
   below_kept : (o : Option Place) → ((c : Place) → o ≡ Some c → c ≢ p) → sum_below new o ≡ sum_below sums o
@@ -106,7 +106,7 @@ module _ (kind : Kind) (t : Table RawThree) (sums new : List RawSum) (p : Place)
       let right = below_kept (seen_node ((seen t).entry q)).right (λ c e. f c Right e) in
       λ i. combined kind (left i) (combined kind (values q i) (right i))
 
-  -- each sum that was right is still right, except at the place that has p as its child
+  -- if the sums were right except at p and in `but`, they are right in `new` except at `up` and in `but`. Only `up` may have p as a child
   pub recomputed : {root : Option Place} {s : List Place} (up : Option Place) (but : Place → Bool) → IsSeen t root s
       → ((q : Place) (side : Side) → IsMember q s → child_on side (seen_node ((seen t).entry q)) ≡ Some p → up ≡ Some q)
       → IsSummedBut kind t sums s (also (Some p) but) → IsSummedBut kind t new s (also up but)
@@ -125,18 +125,18 @@ module _ (kind : Kind) (t : Table RawThree) (sums : List RawSum) (p : Place) {ro
   elsewhere : (q : Place) → IsMember q s → but q ≡ false → q ≢ p → IsRightAt kind t sums q
   elsewhere q m off n = right q m (off_also (Some p) but q (is_end_not (Some p) q (λ k. n (sym (some_same k)))) off)
 
-  -- if no turn of the loop is left, p is no member, so the sums are right at all members that are required
+  -- if no turn of the loop is left, p is no member, so the sums are right at all members of s that are not in `but`
   pub spent : IsNear t 0 p → IsSummedBut kind t sums s but
   spent near q m off = elsewhere q m off (λ e. far t shown p near (subst (λ (z : Place). IsMember z s) e m))
 
-  -- if the sum at p is right, no sum has to be written
+  -- if the sum at p is right, the sums are right at all members of s that are not in `but`
   pub stopped : IsRightAt kind t sums p → IsSummedBut kind t sums s but
   stopped here q m off = elim (same_or_not q p) [
     | inl e ↦ subst (λ (z : Place). IsRightAt kind t sums z) (sym e) here
     | inr n ↦ elsewhere q m off n
   ]
 
--- WHICH MEMBERS HAVE p AS A CHILD: if p names no parent, no member has p as a child, and otherwise only the parent of p can have it
+-- if p names no parent, no member has p as a child. Otherwise only the parent that p names can have p as a child
 module _ (t : Table RawThree) {root : Option Place} {s : List Place} (shown : IsSeen t root s) (p : Place) where
   pub no_parent : (seen_node ((seen t).entry p)).parent ≡ None → (q : Place) (side : Side) → IsMember q s → child_on side (seen_node ((seen t).entry q)) ≡ Some p → None ≡ Some q
   no_parent none q side m is = sym none ∙ (child_names t shown q p side m is).0
@@ -155,7 +155,7 @@ module _ (t : Table RawThree) {root : Option Place} {s : List Place} (shown : Is
     not_there Left is = is_end_no (seen_node ((seen t).entry above)).left p both.0 is
     not_there Right is = is_end_no (seen_node ((seen t).entry above)).right p both.1 is
 
--- PLACES FROM AN INDEX ON: the index of each place is at least 0
+-- lemmas on the places whose index is at least a given number (`is_from`)
 pub from_first : (q : Place) → is_from 0 q ≡ true
 from_first q = lt-ltb 0 (suc (index_of q)) (omega arith)
 

@@ -1,4 +1,4 @@
--- Searches by sums: in the subtree below a place, in the tree above a place, and in a whole tree.
+-- Lemmas on searches by sums: in the subtree at a place, among the members after this subtree, and in a whole tree.
 use Rattle.std.proofs.Common.{◌≡◌, ◌≤◌, ◌<◌, ◌-◌, ℕ, Bool, true, false, Option, Some, None, List, [], ◌∷◌, ◌++◌, length, refl, sym, ap, ◌∙◌, subst, arith, append_assoc, append-nil}
 use Rattle.std.proofs.Math.Nat.{le-max_left, le-max_right}
 use Rattle.ic_link_ops.specs.Prelude.{Place, Cut, join, but_last, IsAfter, Table}
@@ -26,7 +26,8 @@ use Rattle.ic_raw_augmented.specs.Find.{IsFirstBeyond}
 use Rattle.ic_raw_augmented.specs.Sums.{IsSummed, IsSummedTree, combined, next_end, sum_below, total, value_at}
 use Rattle.ic_raw_augmented.proofs.Totals.{sum_is, summed_all, summed_part, times_top, total_append, total_push}
 
--- THE FIRST MEMBER BEYOND A BOUND stays the first if more members follow, and if members before it are counted in advance
+-- the first member beyond a bound stays the first if more members follow it. It also stays the first if the members `mid` before it move from `done` into the
+-- searched members
 module _ (kind : Kind) (value : Place → ℕ) where
   pub beyond_more : (done : List Place) (bound : ℕ) (s rest : List Place) (m : Place) → IsFirstBeyond kind value done bound s (Some m) → IsFirstBeyond kind value done bound (s ++ rest) (Some m)
   beyond_more done bound s rest m h = (h.0, h.1 ++ rest, ap (λ (y : List Place). y ++ rest) h.2 ∙ append_assoc h.0 (m ∷ h.1) rest, h.3, h.4)
@@ -48,7 +49,7 @@ module _ (kind : Kind) (t : Table RawThree) (sums : List RawSum) where
   abbrev value : Place → ℕ
   value = value_at sums
 
-  -- a search in the subtree with the members u finds the first member beyond the bound, if the values of s come before u
+  -- a search among the members u found the first one beyond the bound, if the values of s come before those of u
   abbrev pub Found : List Place → ℕ → List Place → Option Place → Type 0
   Found s bound u result = (m : Place) × (result ≡ Some m) × IsFirstBeyond kind value s bound u (Some m)
 
@@ -60,7 +61,7 @@ module _ (kind : Kind) (t : Table RawThree) (sums : List RawSum) where
   FindsBelow o done bound turns result = (up : Option Place) (u : Tree) (s : List Place) → IsTree seen_node (seen t).entry up u → top u ≡ o → IsSummedTree kind t sums u → height u ≤ turns
       → done ≡ total kind value s → done ≤ bound → bound < total kind value (s ++ in_order u) → Found s bound (in_order u) result
 
-  -- the search below the place p: its left subtree, then p itself, and then its right subtree are searched
+  -- the search in the subtree at p: the left subtree of p is searched first, then p itself, and then the right subtree of p
   module _ (p : Place) (left right : Option Place) (el : left ≡ (seen_node ((seen t).entry p)).left) (er : right ≡ (seen_node ((seen t).entry p)).right) (done bound turns : ℕ)
       (before_it with_it : ℕ) (eb : before_it ≡ combined kind done (sum_below sums left)) (ew : with_it ≡ combined kind before_it (value p)) where
     at_place : (up : Option Place) (result : Option Place) → ((c : Color) (a b : Tree) → FindsIn up (fork c a p b) done bound turns result) → (u : Tree) → top u ≡ Some p
@@ -125,7 +126,7 @@ module _ (kind : Kind) (t : Table RawThree) (sums : List RawSum) where
   below_spent p done bound turns result none up leaf s h e r low ed lo hi = absurd (none_not p e)
   below_spent p done bound turns result none up (fork c a q b) s h e r low ed lo hi = absurd (omega (arith, none, low))
 
-  -- A SEARCH ABOVE A PLACE finds the first member beyond the bound among the members after the subtree at p
+  -- a search up from p finds the first member beyond the bound among the members after the subtree at p
   abbrev pub FindsAbove : Place → (done bound turns : ℕ) → Option (Option Place) → Type 0
   FindsAbove p done bound turns result = (fs : List Frame) (u : Tree) (s : List Place) → IsSubtree seen_node (seen t) fs u → top u ≡ Some p → IsSummedTree kind t sums (plug fs u) → length fs < turns
       → done ≡ total kind value s → done ≤ bound → (position : Option Place) × (result ≡ Some position) × IsFirstBeyond kind value s bound (after fs) position
@@ -153,7 +154,7 @@ module _ (kind : Kind) (t : Table RawThree) (sums : List RawSum) where
   sums_none p done turns none (frame d c q b ∷ fs) u s k e r less ed = absurd (none_not q (sym none ∙ subtree_parent seen_node (seen t) (frame d c q b ∷ fs) u p k e))
 
   module _ (p up : Place) (named : (seen_node ((seen t).entry p)).parent ≡ Some up) (turns : ℕ) where
-    -- ON WHICH SIDE OF ITS PARENT a place is: the subtree at p is the left subtree of its parent `up`
+    -- the subtree at p is the left subtree of `up`, the parent of p
     record IsLeft (fs : List Frame) (u : Tree) : Type 0 where
       c : Color
       b : Tree
@@ -255,7 +256,7 @@ module _ (kind : Kind) (t : Table RawThree) (sums : List RawSum) where
             let f = found gs (fork c u up b) ((s ++ up ∷ []) ++ in_order b) (subtree_left seen_node (seen t) c up b gs u k) refl r (omega (arith, less)) (through s c u b gs k r ed) low in
             (f.0, f.1, beyond_past kind value s (up ∷ []) bound (in_order b ++ after gs) f.0 (beyond_past kind value (s ++ up ∷ []) (in_order b) bound (after gs) f.0 f.2)))
 
-    -- THE VALUES BEFORE A PLACE: the result is the values of all members before the subtree at p, combined with `done`
+    -- `result` combines the values of all members before the subtree at p with `done`
     module _ (done : ℕ) where
       abbrev SumsAt : List Frame → Option ℕ → Type 0
       SumsAt fs result = (u : Tree) (s : List Place) → IsSubtree seen_node (seen t) fs u → top u ≡ Some p → IsSummedTree kind t sums (plug fs u) → length fs < turns → done ≡ total kind value s
@@ -281,7 +282,7 @@ module _ (kind : Kind) (t : Table RawThree) (sums : List RawSum) where
           found x.gs (fork x.c x.b up u) (in_order x.b ++ up ∷ s) (subtree_right seen_node (seen t) x.c up x.b x.gs u k) refl r (omega (arith, less)) all
           ∙ ap (λ (y : List Place). Some (total kind value y)) (sym parts)) u s k e
 
-  -- IN A WHOLE TREE: if the sums are right at each member of the sequence, they are right in the tree
+  -- if the sums are right at each member of the represented sequence s, they are right in the represented tree
   module _ {root : Option Place} where
     whole_summed : (s : List Place) (h : IsSeen t root s) → IsSummed kind t sums s → IsSummedTree kind t sums h.tree
     whole_summed s h r = summed_all kind t sums s h.tree (λ q. sym (times_order q h.tree) ∙ ap (times_in q) h.held.order) r
@@ -344,7 +345,7 @@ module _ (kind : Kind) (t : Table RawThree) (sums : List RawSum) where
           found there.fs (fork there.c there.a p there.b) (in_order there.a) k refl there_summed (let low = there.low in omega (arith, low)) sum
           ∙ ap (λ (y : List Place). Some (total kind value y)) there.front_is
 
-    -- WHEREVER A SEARCH BEGINS, at the root or at a member, it finds the first member beyond the bound among the members from there on
+    -- a search after the member `at`, or from the root if `at` is none, finds the first member beyond the bound among the members `cut.back`
     module _ (cut : Cut) where
       pub found_next : (at below : Option Place) → below ≡ next_end t root at → (bound : ℕ) (next : Place) (result : Option Place) → below ≡ Some next → bound < sum_below sums below
           → FindsBelow (Some next) 0 bound 67 result → IsSeen t root (join cut) → IsAfter cut at → IsSummed kind t sums (join cut) → Found [] bound cut.back result
@@ -365,12 +366,13 @@ module _ (kind : Kind) (t : Table RawThree) (sums : List RawSum) where
           → IsFirstBeyond kind value [] bound cut.back None
       none_on below eb bound less h at r = none_from_root cut h at r bound (subst (λ (o : Option Place). sum_below sums o ≤ bound) eb less)
 
-  -- the member that a search below a place has found is the position that the search returns
+  -- the member m that a search in a subtree has found is the position that the whole search returns
   pub is_position : (bound : ℕ) (s : List Place) (result : Option Place) (m : Place) → Found [] bound s result → result ≡ Some m
       → (position : Option Place) × (Some (Some m) ≡ Some position) × IsFirstBeyond kind value [] bound s position
   is_position bound s result m f em = let one : f.0 ≡ m = some_same (sym f.1 ∙ em) in (Some f.0, ap (λ (y : Place). Some (Some y)) (sym one), f.2)
 
--- A SET OUT OF WHICH NO LINK LEADS stays such a set if the root is not required in it. The set contains the end at which a search from its member `at` begins
+-- a closed set S, out of which no link leads, is also closed if the root need not be in S. The place at which a search after the member `at` of S begins is in
+-- S
 unfoldable pub unrooted : {t : Table RawThree} {root : Option Place} {S : Place → Bool} → IsClosed seen_node (seen t) root S → IsClosed seen_node (seen t) None S
 unrooted h = record { linked = h.linked; left = h.left; right = h.right; parent = h.parent; starts = tt }
 

@@ -1,4 +1,4 @@
--- A subtree of a represented tree: how it is found from the sequence, what its root's entry contains, and the next larger subtree around it.
+-- Lemmas on a subtree of a represented tree: the subtree at a member of the sequence, the entry of the subtree's root, and the next larger subtree.
 use Rattle.std.proofs.Common.{◌≡◌, ◌≤◌, ◌+◌, Option, Some, None, List, [], ◌∷◌, ◌++◌, length, sym, ap, ◌∙◌, subst, arith, append-nil}
 use Rattle.std.proofs.Math.Nat.{le-max_left, le-max_right}
 use Rattle.ic_link_ops.specs.Prelude.{Place, IsMember, Table}
@@ -17,7 +17,7 @@ use Rattle.ic_rbtree.specs.Height.{height}
 use Rattle.ic_rbtree.proofs.Climbed.{path_few}
 use Rattle.ic_raw_augmented.specs.Subtrees.{IsSubtree}
 
--- the length of a way down and the height of the subtree below it together are at most the height of the tree
+-- the number of steps down to a subtree plus the height of the subtree is at most the height of the whole tree
 pub no_longer : (fs : List Frame) (t : Tree) → length fs + height t ≤ height (plug fs t)
 no_longer [] t = omega arith
 no_longer (frame Left c p b ∷ fs) t = omega (arith, no_longer fs (fork c t p b), le-max_left (height t) (height b))
@@ -30,13 +30,13 @@ lower (frame Left c p b ∷ fs) t = omega (arith, lower fs (fork c t p b), le-ma
 lower (frame Right c p b ∷ fs) t = omega (arith, lower fs (fork c b p t), le-max_right (height b) (height t))
 
 module _ {E : Type 0} (n : E → Node) where
-  -- the entries of a whole tree are the entries around a subtree and the entries of the subtree
+  -- if the entries represent a whole tree, they represent the tree around a subtree, and the subtree itself
   entries_below : (e : Place → E) (fs : List Frame) (t : Tree) → IsTree n e None (plug fs t) → IsAround n e fs (top t) × IsTree n e (above fs) t
   entries_below e [] t h = (tt, h)
   entries_below e (frame Left c p b ∷ fs) t h = let r = entries_below e fs (fork c t p b) h in ((r.1.0, r.1.2, r.0), r.1.1)
   entries_below e (frame Right c p b ∷ fs) t h = let r = entries_below e fs (fork c b p t) h in ((r.1.0, r.1.1, r.0), r.1.2)
 
-  -- THE SUBTREE AT A MEMBER: its root is the member p, which is between `front` and `back` in the sequence of the tree
+  -- the subtree of `tree` whose root is the member p. In the sequence of `tree`, p is between `front` and `back`
   pub record MemberSubtree (v : Table E) (tree : Tree) (front : List Place) (p : Place) (back : List Place) : Type 0 where
     pub fs : List Frame
     pub c : Color
@@ -102,7 +102,7 @@ module _ {E : Type 0} (n : E → Node) where
     subtree_parent fs leaf p h e = absurd (none_not p e)
     subtree_parent fs (fork c a q b) p h e = subst (λ (y : Place). (n (v.entry y)).parent ≡ above fs) (some_same e) h.tree.0.parent
 
-    -- ONE STEP UP: a subtree, its parent, and the parent's other subtree together are a subtree
+    -- if p is the parent of a subtree's root, the subtree, p, and the other subtree of p together are a subtree
     pub subtree_left : (c : Color) (p : Place) (b : Tree) (fs : List Frame) (t : Tree) → IsSubtree n v (frame Left c p b ∷ fs) t → IsSubtree n v fs (fork c t p b)
     subtree_left c p b fs t h = record { around = h.around.2; tree = (h.around.0, h.tree, h.around.1); once = h.once; low = h.low; few = h.few }
 

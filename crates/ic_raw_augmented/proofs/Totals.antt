@@ -1,4 +1,4 @@
--- How values are combined: in parts of a list, and in the subtrees of a tree with sums.
+-- Lemmas on combined values: of parts of a list, and of the subtrees of a tree with sums.
 use Rattle.std.proofs.Common.{◌≡◌, ◌≢◌, ◌≤◌, ◌<◌, ◌+◌, ◌-◌, ◌^◌, ◌⊎◌, ℕ, Bool, true, false, nat_lt, Option, Some, List, [], ◌∷◌, ◌++◌, min, max, refl, sym, ap, ◌∙◌, inl, inr, arith}
 use Rattle.std.proofs.Math.Nat.{min-eq_left, min-eq_right, min-le_right, le-max_left, le-max_right, max-le, max-zero, zero-max}
 use Rattle.std.proofs.lemmas.Bool.{ltb-true, ltb-false}
@@ -24,7 +24,7 @@ below_or_not a b = pick (nat_lt a b) refl where
   pick true e = inl (ltb-true a b e)
   pick false e = inr (ltb-false a b e)
 
--- THE ROOT OF A TREE is in the tree, and in neither of the root's subtrees
+-- the root of a tree is in the tree, and in neither of the root's subtrees
 pub times_top : (p : Place) (t : Tree) → top t ≡ Some p → 1 ≤ times p t
 times_top p leaf e = absurd (none_not p e)
 times_top p (fork c a q b) e = let h : one_at p q ≡ 1 = rw (some_same e) (one_at_self p) in omega arith
@@ -35,7 +35,7 @@ apart_left q p c a b once m e = let k : one_at q p ≡ 1 = rw e (one_at_self p) 
 pub apart_right : (q p : Place) (c : Color) (a b : Tree) → ((x : Place) → times x (fork c a p b) ≤ 1) → 1 ≤ times q b → q ≢ p
 apart_right q p c a b once m e = let k : one_at q p ≡ 1 = rw e (one_at_self p) in omega (arith, k, m, once q)
 
--- A SUM STAYS AT THE GREATEST NUMBER: it does not matter at which addition the sum reaches this number
+-- sums that stop at the greatest number m: it does not matter at which addition the sum reaches m
 module _ (m : ℕ) where
   add_capped : (a z : ℕ) → min (a + min z m) m ≡ min (a + z) m
   add_capped a z = elim (below_or_not z m) [
@@ -73,7 +73,7 @@ max_on a b c =
     let down : y ≤ x = max-le (max-le u (omega (arith, s, v))) (omega (arith, t, v)) in
     omega (arith, up, down)
 
--- VALUES COMBINED IN PARTS: it does not matter which of three neighboring values are combined first
+-- it does not matter which two of three neighboring values are combined first
 pub combined_on : (kind : Kind) (a b c : ℕ) → combined kind a (combined kind b c) ≡ combined kind (combined kind a b) c
 combined_on Sum a b c =
     let m : ℕ = 2 ^ 64 - 1 in
@@ -104,7 +104,7 @@ module _ (kind : Kind) (value : Place → ℕ) where
   pub total_push : (s : List Place) (p : Place) → total kind value (s ++ p ∷ []) ≡ combined kind (total kind value s) (value p)
   total_push s p = total_append s (p ∷ []) ∙ one_alone kind (total kind value s) (value p)
 
--- VALUES COMBINED IN SUBTREES: if the sums are right in a tree, the sum at the root is the values of all members of the tree combined
+-- if the sums are right in a tree, the sum at the root combines the values of all members of the tree
 module _ (kind : Kind) (t : Table RawThree) (sums : List RawSum) where
   pub sum_is : (up : Option Place) (u : Tree) → IsTree seen_node (seen t).entry up u → IsSummedTree kind t sums u → sum_below sums (top u) ≡ total kind (value_at sums) (in_order u)
   sum_is up leaf h r = refl

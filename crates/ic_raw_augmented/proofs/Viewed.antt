@@ -1,4 +1,4 @@
--- Statements about sums hold for the words exactly if they hold for a view of the words. What a search finds is linked.
+-- Statements about sums hold for the words exactly if they hold for a view of the words. A place that a search finds is linked.
 use Rattle.std.proofs.Common.{◌≡◌, ℕ, true, false, cond, List, [], ◌∷◌, ◌++◌, Bool, Option, Some, refl, sym, ap, ◌∙◌, subst, append_assoc}
 use Rattle.std.specs.List.{filter}
 use Rattle.ic_link_ops.specs.Prelude.{Place, Cut, join, first, IsMember}
@@ -37,7 +37,7 @@ beside_back t old new p view h =
     h S (record { linked = closed.linked; left = closed.left; right = closed.right; parent = closed.parent; starts = tt }) here q off in
     subst (λ (ws : List RawThree). StaysBeside (table_of ws) old new p) view back
 
--- The place m is in the list s. For example, the first place of a list that satisfies a test is in the list.
+-- the place m is in the list s, between `front` and `back`. For example, the first place of s that satisfies a test is in s
 record IsAmong (m : Place) (s : List Place) : Type 0 where
   front : List Place
   back : List Place
@@ -54,7 +54,7 @@ among test m (q ∷ s) e = pick (test q) refl (λ later. among test m s later) w
       let x = rest (e ∙ ap (λ (b : Bool). first (cond b (q ∷ filter test s) (filter test s))) k) in
       record { front = q ∷ x.front; back = x.back; is = ap (λ (y : List Place). q ∷ y) x.is }
 
--- WHAT A SEARCH FINDS is a member of the tree, so the found place is linked
+-- a place that a search finds is a member of the tree, so this place is linked
 module _ (t : RawTable RawThree) (root : Option Place) (cut : Cut) (shown : Represents (lent_table t) root (join cut)) where
   part_stands : (front : List Place) (m : Place) (back : List Place) → cut.back ≡ front ++ m ∷ back → is_linked_three ((lent_table t).entry m) ≡ true
   part_stands front m back is =

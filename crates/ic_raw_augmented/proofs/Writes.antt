@@ -1,4 +1,4 @@
--- What changes if one sum is written.
+-- A lemma on what changes if one sum is written.
 use Rattle.std.proofs.Common.{◌≡◌, ◌≢◌, ℕ, List, slice_set, ap}
 use Rattle.ic_link_ops.specs.Prelude.{Place, index_of}
 use Rattle.ic_link_ops.proofs.EntryLemmas.{others_same}

@@ -1,5 +1,5 @@
--- WHAT THE CALLS DO THAT EDIT A TREE AND KEEP ITS SUMS: each record is the whole contract of a call. The field `call` of a record says: if there is a sum for
--- each place, the words are edited as by the call for trees without sums. The other fields of the record say what becomes of the sums.
+-- The contracts of the calls that edit a tree and keep its sums right. Each record is the whole contract of a call. The field `call` says that the call edits
+-- the words as the call for trees without sums does, if there is a sum for each place. The other fields say what becomes of the sums.
 use Rattle.std.specs.Prelude.{◌≡◌, ◌≢◌, ◌⊎◌, ◌≤◌, ◌∷◌, ℕ, List, [], Option, None, length}
 use Rattle.ic_link_ops.specs.Prelude.{Place}
 use Rattle.ic_link_ops.specs.Walk.{is_end}
@@ -19,15 +19,15 @@ use Rattle.ic_raw_augmented.specs.Sums.{IsSummed, IsSummedBut, KeepsValues, sums
 -- `sums` and `sums'` are the sums before and after the call. `old` and `new` are the words of the table before and after the call. `status` is the status that
 -- the call returns
 module _ (kind : Kind) (sums sums' : List RawSum) (old new : List RawThree) (status : ℕ) where
-  -- THE SUMS STAY RIGHT: after an accepted call the sums are right in each tree that the new words represent. The condition is that before the call they were
-  -- right at all members of this tree except `came`
+  -- if the call was accepted, the sums are right in each tree that the new words represent, provided that they were right before the call at all members of
+  -- this tree except `came`
   abbrev pub KeepsSums : (came : Option Place) → Type 0
   KeepsSums came = status ≡ OK → (root : Option Place) (s : List Place) → Represents (table_of new) root s → IsSummedBut kind (table_of old) sums s (is_end came)
       → IsSummed kind (table_of new) sums' s
 
 -- `tree` and `tree'` are the word of the tree before and after the call
 module _ (kind : Kind) (keys : List ℕ) (sums sums' : List RawSum) (old new : List RawThree) (status : ℕ) where
-  -- A PLACE IS INSERTED BY ITS KEY: the call inserts `place` after all members whose key is not greater than the key of `place`, and keeps the sums right
+  -- the call inserts `place` after all members whose key is not greater than the key of `place`, and keeps the sums right
   pub record SumsPutCall (tree tree' : RawRoot) (place : Option Place) : Type 0 where
     pub call : length old ≤ length sums → PutCall keys old new status tree tree' place
     pub summed : KeepsSums kind sums sums' old new status place
@@ -37,7 +37,7 @@ module _ (kind : Kind) (keys : List ℕ) (sums sums' : List RawSum) (old new : L
     pub why : status ≢ OK → status ≡ refusal (sums_fault sums (length old) ∷ keys_fault keys (length old) ∷ fault_of old place ∷ [])
 
 module _ (kind : Kind) (sums sums' : List RawSum) (old new : List RawThree) (tree tree' : RawRoot) (status : ℕ) where
-  -- A PLACE IS INSERTED AS A CHILD: `place` becomes the child of the member `at` on the side `side`, or the only member if `at` is none. The sums stay right
+  -- the call inserts `place` as the child of the member `at` on the side `side`, or as the only member if `at` is none, and keeps the sums right
   pub record SumsInsertCall (side : Side) (at place : Option Place) : Type 0 where
     pub call : length old ≤ length sums → InsertCall old new tree tree' status side at place
     pub summed : KeepsSums kind sums sums' old new status place
@@ -46,7 +46,7 @@ module _ (kind : Kind) (sums sums' : List RawSum) (old new : List RawThree) (tre
     pub refused : status ≢ OK → (new ≡ old) × (tree' ≡ tree) × (sums' ≡ sums)
     pub why : status ≢ OK → status ≡ refusal (sums_fault sums (length old) ∷ fault_at old at ∷ fault_of old place ∷ [])
 
-  -- A MEMBER IS REMOVED: the call removes the member `at` from a tree and keeps the sums of the tree right
+  -- the call removes the member `at` from a tree, and keeps the sums of the tree right
   pub record SumsRemoveCall (at : Option Place) : Type 0 where
     pub call : length old ≤ length sums → RemoveCall old new tree tree' status at
     pub summed : KeepsSums kind sums sums' old new status None

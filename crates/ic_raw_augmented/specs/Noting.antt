@@ -1,4 +1,4 @@
--- A table of tree nodes with a record of the nodes whose children were written.
+-- A table of tree links with a record of the places whose children were written.
 use Rattle.std.specs.Prelude.{◌≡◌, Bool, true, false, refl}
 use Rattle.std.proofs.Common.{◌∙◌, sym}
 use Rattle.ic_link_ops.specs.Prelude.{Place, Table}
@@ -16,8 +16,7 @@ links_in t = t.links.now
 abbrev pub written_in : Noting → Written
 written_in t = t.written.now
 
--- From `old` to `new` the same words stay borrowed, and the links change only as edits of trees change links. Each place whose children were written is
--- recorded
+-- the views `old` and `new` borrow the same words, the links change only as edits of trees change them, and each place whose children were written is recorded
 pub record NotesWrites (old new : Noting) : Type 0 where
   pub links_name : new.links.ghost_name ≡ old.links.ghost_name
   pub written_name : new.written.ghost_name ≡ old.written.ghost_name
@@ -32,7 +31,7 @@ notes_still t = record {
   notes = record { noted = λ q h. h; children = λ q off. record { left = refl; right = refl } };
 }
 
--- a place that is not recorded in the later state was not recorded in the earlier state
+-- a place that is not recorded in `is`, the later state of the record, was not recorded in `was`, the earlier state
 before : {was is : Written} {old new : Table RawThree} → Notes was is old new → (q : Place) → is_noted is q ≡ false → is_noted was q ≡ false
 before {was} {is} h q off = pick (is_noted was q) refl where
   pick : (b : Bool) → is_noted was q ≡ b → is_noted was q ≡ false

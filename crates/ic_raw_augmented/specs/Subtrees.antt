@@ -8,8 +8,8 @@ use Rattle.ic_link_ops.specs.Trees.{Tree, top, in_order}
 use Rattle.ic_rbtree.specs.Height.{height}
 
 module _ {E : Type 0} (n : E → Node) where
-  -- THE SUBTREE t IS PART OF A TREE: the frames `fs` are the steps down from the root of the whole tree to t, the lowest first. The whole tree has no place
-  -- twice, has at most 66 levels as a red-black tree has, and has no more members than there are places
+  -- t is a subtree of a larger tree: the frames `fs` are the steps down from the root of the larger tree to t, the lowest first. No place occurs twice in the
+  -- larger tree. It has at most 66 levels, as each red-black tree has, and no more members than there are places
   pub record IsSubtree (v : Table E) (fs : List Frame) (t : Tree) : Type 0 where
     pub around : IsAround n v.entry fs (top t)
     pub tree : IsTree n v.entry (above fs) t

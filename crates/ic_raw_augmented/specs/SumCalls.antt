@@ -1,5 +1,5 @@
--- WHAT THE CALLS OF TREES WITH SUMS DO: each record is the whole contract of a call. The first fields of a record say what the call does to a tree that the
--- table represents, if the sums of the tree are right. The other fields of a record hold whatever the words contain.
+-- The contracts of the calls of trees with sums. Each record is the whole contract of a call. The first fields of a record say what the call does if the table
+-- represents a tree and the sums of this tree are right. The other fields hold whatever the words contain.
 use Rattle.std.specs.Prelude.{◌≡◌, ◌≢◌, ◌↔◌, ◌⊎◌, ◌≤◌, ◌∷◌, ◌++◌, ℕ, List, [], Option, Some, None, length, map, filter}
 use Rattle.std.specs.Ordering.{nat_cmp}
 use Rattle.ic_link_ops.specs.Prelude.{Place, Cut, join, first, IsAfter}
@@ -20,8 +20,8 @@ use Rattle.ic_raw_augmented.specs.Sums.{IsSummed, IsSummedBut, KeepsValues, Stay
 
 -- `old` and `new` are the words of the table before and after the call. `status` is the status that the call returns
 module _ (kind : Kind) (sums : List RawSum) (old new : List RawThree) (status : ℕ) where
-  -- THE FIRST MEMBER BEYOND A BOUND IS FOUND: the call searches the members after `at`, or all members if `at` is none. The call finds the first member at
-  -- which the combined values exceed `bound`. The number of the found member replaces `was`
+  -- the call searches the members after `at`, or all members if `at` is none, for the first one at which the combined values exceed `bound`. The number of the
+  -- found member replaces `was`
   pub record FindCall (tree : RawRoot) (at : Option Place) (bound was number : ℕ) : Type 0 where
     pub found : (cut : Cut) → length old ≤ length sums → IsAfter cut at → RepresentsTree old tree (join cut) → IsSummed kind (table_of old) sums (join cut)
         → HandsOut (IsFirstBeyond kind (value_at sums) [] bound cut.back) status number
@@ -33,7 +33,7 @@ module _ (kind : Kind) (sums : List RawSum) (old new : List RawThree) (status : 
     pub why : status ≢ OK → status ≢ NULL → status ≡ refusal (fault_at old at ∷ sums_fault sums (length old) ∷ [])
     pub is_status : IsStatus status
 
-  -- THE VALUES BEFORE A MEMBER ARE COMBINED: the call combines the values of all members before the member `at`, and the result replaces `was`
+  -- the call combines the values of all members before the member `at`, and the result replaces `was`
   pub record BeforeCall (at : Option Place) (was sum : ℕ) : Type 0 where
     pub links_back : (root : Option Place) (front back : List Place) (p : Place) → at ≡ Some p → length old ≤ length sums → Represents (table_of old) root (front ++ p ∷ back)
         → IsSummed kind (table_of old) sums (front ++ p ∷ back) → IsAccepted status (sum ≡ total kind (value_at sums) front)
@@ -45,8 +45,8 @@ module _ (kind : Kind) (sums : List RawSum) (old new : List RawThree) (status : 
     pub why : status ≢ OK → status ≢ NULL → status ≡ refusal (fault_at old at ∷ sums_fault sums (length old) ∷ [])
     pub is_status : IsStatus status
 
--- THE FIRST INTERVAL THAT OVERLAPS [from, to) IS FOUND: the call searches the members after `at`, or all members if `at` is none. The number of the found
--- member replaces `was`. The interval of a place begins at the number that `starts` has for the place, and ends at the value of the place
+-- the call searches the members after `at`, or all members if `at` is none, for the first interval that overlaps [from, to). The number of the found member
+-- replaces `was`. The interval of a place begins at the number that `starts` has for the place, and ends at the value of the place
 module _ (starts : List ℕ) (sums : List RawSum) (old new : List RawThree) (status : ℕ) where
   pub record OverlapCall (tree : RawRoot) (at : Option Place) (from to was number : ℕ) : Type 0 where
     pub found : (cut : Cut) → length old ≤ length starts → length old ≤ length sums → IsAfter cut at → RepresentsTree old tree (join cut)
@@ -62,9 +62,8 @@ module _ (starts : List ℕ) (sums : List RawSum) (old new : List RawThree) (sta
 
 -- `sums` and `sums'` are the sums before and after the call
 module _ (kind : Kind) (sums sums' : List RawSum) (old new : List RawThree) (status : ℕ) where
-  -- THE SUMS ARE COMPUTED AGAIN: the call computes the sums of the member `at` and of all members above it, or of the whole table if `at` is none. Afterwards
-  -- the sums of a tree are right if before the call they were right at all members of this tree except `at`. If `at` is none, the sums before the call do not
-  -- matter
+  -- the call computes the sums of the member `at` and of all members above `at`, or of the whole table if `at` is none. The sums of a tree are right after the
+  -- call if they were right before the call at all members of the tree except `at`. If `at` is none, the sums before the call do not matter
   pub record RenewCall (at : Option Place) : Type 0 where
     pub recomputed : (root : Option Place) (s : List Place) → length old ≤ length sums → IsNoneOrLinkedIn old at → Represents (table_of old) root s
         → IsSummedBut kind (table_of old) sums s (is_there at) → IsAccepted status (IsSummed kind (table_of old) sums' s)

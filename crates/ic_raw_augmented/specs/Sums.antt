@@ -22,12 +22,12 @@ abbrev pub combined : Kind → ℕ → ℕ → ℕ
 combined Sum a b = min (a + b) (2 ^ 64 - 1)
 combined Greatest a b = max a b
 
--- THE VALUES OF s COMBINED: the values of all places in s are combined, and the result is 0 if s is empty
+-- the values of all places in s combined, or 0 if s is empty
 abbrev pub total : Kind → (value : Place → ℕ) → List Place → ℕ
 total kind value [] = 0
 total kind value (p ∷ s) = combined kind (value p) (total kind value s)
 
--- the value and the sum that `sums` has for the place p. Both are 0 if p is beyond the last place
+-- the value and the sum that `sums` has for the place p. Both are 0 if `sums` has no entry for p
 abbrev pub kept_at : List RawSum → Place → RawSum
 kept_at sums p = slice_index_or sums (index_of p) (record { value = 0; sum = 0 })
 
@@ -42,17 +42,17 @@ abbrev pub sum_below : List RawSum → Option Place → ℕ
 sum_below sums None = 0
 sum_below sums (Some p) = sum_at sums p
 
--- the value of p combined with the sums of its two children, where the children are those that the words of p name within the table
+-- the value of p combined with the sums of the two children that the words of p name. A child outside of the table does not count
 abbrev pub joined_at : Kind → Table RawThree → List RawSum → Place → ℕ
 joined_at kind t sums p =
     combined kind (sum_below sums (seen_node ((seen t).entry p)).left)
     (combined kind (value_at sums p) (sum_below sums (seen_node ((seen t).entry p)).right))
 
--- THE SUM AT p IS RIGHT: it is the value of p combined with the sums of the two children of p
+-- the sum at p is right: it is the value of p combined with the sums of the two children of p
 abbrev pub IsRightAt : Kind → Table RawThree → List RawSum → Place → Type 0
 IsRightAt kind t sums p = sum_at sums p ≡ joined_at kind t sums p
 
--- THE SUMS ARE RIGHT at each member of s, so that the sum of a member combines all values of the subtree below this member
+-- the sums are right at each member of s
 abbrev pub IsSummed : Kind → Table RawThree → List RawSum → List Place → Type 0
 IsSummed kind t sums s = (q : Place) → IsMember q s → IsRightAt kind t sums q
 
@@ -60,21 +60,21 @@ IsSummed kind t sums s = (q : Place) → IsMember q s → IsRightAt kind t sums 
 abbrev pub IsSummedBut : Kind → Table RawThree → List RawSum → List Place → (but : Place → Bool) → Type 0
 IsSummedBut kind t sums s but = (q : Place) → IsMember q s → but q ≡ false → IsRightAt kind t sums q
 
--- whether q is the given place. If no place is given, the result is true for every q
+-- whether the place q is the given place. If no place is given, the result is true for every q
 abbrev pub is_there : Option Place → Place → Bool
 is_there None q = true
 is_there (Some p) q = is_end (Some p) q
 
--- ONLY SUMS ARE WRITTEN: `new` has as many entries as `old`, and the value of each place is as in `old`
+-- only sums may have changed: `new` has as many entries as `old`, and each place has the same value in `new` as in `old`
 pub record KeepsValues (old new : List RawSum) : Type 0 where
   pub count : length new ≡ length old
   pub values : (q : Place) → value_at new q ≡ value_at old q
 
--- A place may get another sum only if links lead to it from p. If a set S contains p and no link leads out of S, each place outside of S keeps its sum
+-- a place may get another sum only if links lead from p to this place: if a set S contains p and no link leads out of S, each place outside of S keeps its sum
 abbrev pub StaysBeside : Table RawThree → List RawSum → List RawSum → Place → Type 0
 StaysBeside t old new p = (S : Place → Bool) → IsClosed seen_node (seen t) None S → S p ≡ true → (q : Place) → S q ≡ false → sum_at new q ≡ sum_at old q
 
--- THE FAULT OF SUMS: the status is `OUT_OF_RANGE` if there are fewer sums than places, and otherwise `OK`
+-- the fault of the sums as a status: `OUT_OF_RANGE` if there are fewer sums than places, and otherwise `OK`
 abbrev pub sums_fault : (sums : List RawSum) → (places : ℕ) → ℕ
 sums_fault sums places = cond (nat_lt (length sums) places) OUT_OF_RANGE OK
 
@@ -83,7 +83,7 @@ abbrev pub IsSummedTree : Kind → Table RawThree → List RawSum → Tree → T
 IsSummedTree kind t sums leaf = Unit {0}
 IsSummedTree kind t sums (fork c a p b) = IsRightAt kind t sums p × IsSummedTree kind t sums a × IsSummedTree kind t sums b
 
--- in any tree that has the place p, fewer than `turns` members are above p
+-- in each tree of the table with the member p, fewer than `turns` members are above p
 abbrev pub IsNear : Table RawThree → (turns : ℕ) → Place → Type 0
 IsNear t turns p = (fs : List Frame) (u : Tree) → IsSubtree seen_node (seen t) fs u → top u ≡ Some p → length fs < turns
 
@@ -95,7 +95,7 @@ is_child_of t above p = is_end (seen_node ((seen t).entry above)).left p || is_e
 abbrev pub is_from : ℕ → Place → Bool
 is_from i q = nat_lt i (suc (index_of q))
 
--- the root of the subtree whose members come right after `at`: the right child that its words name, or the root of the whole tree if `at` is none
+-- the root of the subtree whose members come right after `at`: the right child that the words of `at` name, or the root of the whole tree if `at` is none
 abbrev pub next_end : Table RawThree → (root at : Option Place) → Option Place
 next_end t root None = root
 next_end t root (Some p) = (seen_node ((seen t).entry p)).right

@@ -11,7 +11,7 @@ abbrev pub is_among : List ℕ → Place → Bool
 is_among [] q = false
 is_among (w ∷ ws) q = also (place_in w) (is_among ws) q
 
--- A PLACE COUNTS AS RECORDED: a word of the record names the place q, or the record is full, so that there may have been no room for q
+-- whether the place q counts as recorded: a word of the record names q, or the record is full, so that there may have been no room for q
 abbrev pub is_noted : Written → Place → Bool
 is_noted w q = w.is_full || is_among w.words q
 
@@ -20,7 +20,8 @@ pub record KeepsChildren (old new : Table RawThree) (q : Place) : Type 0 where
   pub left : (seen_node ((seen new).entry q)).left ≡ (seen_node ((seen old).entry q)).left
   pub right : (seen_node ((seen new).entry q)).right ≡ (seen_node ((seen old).entry q)).right
 
--- THE RECORD IS COMPLETE: each place that was recorded is still recorded, and each place that is not recorded has the same children in `old` and in `new`
+-- the record is complete for the changes from `old` to `new`: each place that is recorded in `was` is recorded in `is`, and each place that is not recorded in
+-- `is` has the same children in both tables
 pub record Notes (was is : Written) (old new : Table RawThree) : Type 0 where
   pub noted : (q : Place) → is_noted was q ≡ true → is_noted is q ≡ true
   pub children : (q : Place) → is_noted is q ≡ false → KeepsChildren old new q

@@ -20,7 +20,7 @@ use crate::written::Written;
 use ic_link_ops::Side;
 use ic_raw::{OK, OUT_OF_RANGE, RawRoot, RawTable, RawThree, place_of, search_calls, tree_calls};
 
-// Makes the sums right again at the places whose children an edit has written, and above them, if the edit was accepted.
+// If an edit was accepted, makes the sums right again at the places whose children the edit has written, and at all members above these places.
 fn settle(table: &mut [RawThree], sums: &mut [RawSum], kind: Kind, written: &Written, status: u32)
     requires enough { length table.old ≤ length sums.old }
     ensures right { status ≡ OK → (root : Option Place) (s : List Place) → Represents (table_of table.old) root s
@@ -36,11 +36,11 @@ fn settle(table: &mut [RawThree], sums: &mut [RawSum], kind: Kind, written: &Wri
     recompute_written(&links, sums, kind, written);
 }
 
-/// Inserts a place by its key, after all members whose key is not greater than its own, and updates the sums that the insertion changes. O(log n). The tree is
-/// edited as by [`search_calls::insert`].
+/// Inserts a place by its key, and updates the sums that the insertion changes. The place comes after all members whose key is not greater than the key of the
+/// place. O(log n). The tree is edited as by [`search_calls::insert`].
 ///
-/// The place must belong to the table and must not be linked, and there must be a key and a sum for each place of the table. If the sums of the tree were right
-/// at all its members, the sums are right after the call. If there are fewer sums than places, the call returns [`OUT_OF_RANGE`].
+/// The place must belong to the table and must not be linked, and there must be a key and a sum for each place of the table. If the sums were right at all
+/// members of the tree before the call, they are right after the call. If there are fewer sums than places, the call returns [`OUT_OF_RANGE`].
 pub fn insert(
     table: &mut [RawThree],
     keys: &[u64],
@@ -60,11 +60,11 @@ pub fn insert(
     status
 }
 
-/// Inserts a place as the child on the given side of the member `at`, or as the only member if `at` is [`NONE`](ic_raw::NONE), and updates the sums. O(log n).
-/// The tree is edited as by [`tree_calls::insert_at`].
+/// Inserts a place as the child of the member `at` on the side `side`, and updates the sums. If `at` is [`NONE`](ic_raw::NONE), the place becomes the only
+/// member. O(log n). The tree is edited as by [`tree_calls::insert_at`].
 ///
-/// The place must belong to the table and must not be linked, and there must be a sum for each place of the table. If the sums of the tree were right at all
-/// its members, the sums are right after the call. If there are fewer sums than places, the call returns [`OUT_OF_RANGE`].
+/// The place must belong to the table and must not be linked, and there must be a sum for each place of the table. If the sums were right at all members of the
+/// tree before the call, they are right after the call. If there are fewer sums than places, the call returns [`OUT_OF_RANGE`].
 pub fn insert_at(
     table: &mut [RawThree],
     sums: &mut [RawSum],
@@ -88,8 +88,8 @@ pub fn insert_at(
 /// Removes the member `at` as [`tree_calls::remove`] does, and updates the sums that the removal changes. If `at` is [`NONE`](ic_raw::NONE), the call returns
 /// [`NULL`](ic_raw::NULL). O(log n).
 ///
-/// There must be a sum for each place of the table. If the sums of the tree were right at all its members, the sums are right after the call. If there are
-/// fewer sums than places, the call returns [`OUT_OF_RANGE`].
+/// There must be a sum for each place of the table. If the sums were right at all members of the tree before the call, they are right after the call. If there
+/// are fewer sums than places, the call returns [`OUT_OF_RANGE`].
 pub fn remove(
     table: &mut [RawThree],
     sums: &mut [RawSum],

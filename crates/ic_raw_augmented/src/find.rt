@@ -31,9 +31,9 @@ use ic_raw::{RawTable, RawThree};
 use ic_rbtree::NodeStore;
 use ic_unsafe_ref::Place;
 
-// Returns the first member of the subtree at `place` at which the combined values exceed the bound. The combined values are those of the members up to the
-// result, and `done`, which is for the members before the subtree. The result is `None` if the sums are wrong, or if the way down is longer than in any valid
-// tree.
+// Returns the first member of the subtree at `place` at which the combined values exceed `bound`. The values of the subtree's members up to and including the
+// result are combined with `done`, which combines the values before the subtree. The result is `None` if the sums are wrong, or if the way down is longer than
+// in any valid tree.
 fn first_below(
     links: &RawTable<'_, RawThree>,
     sums: &[RawSum],
@@ -68,8 +68,9 @@ fn first_below(
     None
 }
 
-// Returns the first member after the subtree at `place` at which the combined values exceed the bound. The combined values are `done`, which is for the members
-// that the search has passed, and those of the members after the subtree. The result is `Some(None)` if all values together do not exceed the bound.
+// Returns the first member after the subtree at `place` at which the combined values exceed `bound`. The values of the members after the subtree, up to and
+// including the result, are combined with `done`, which combines the values that the search has passed. The result is `Some(None)` if all these values together
+// do not exceed `bound`.
 fn first_above(
     links: &RawTable<'_, RawThree>,
     sums: &[RawSum],
@@ -122,8 +123,8 @@ fn next_end(links: &RawTable<'_, RawThree>, root: Option<Place>, at: Option<Plac
     }
 }
 
-// Returns the first member after `at`, or of all members if `at` is `None`, at which the combined values of the members after `at` exceed the bound. The result
-// is `Some(None)` if there is no such member, and `None` if the sums or the links are wrong.
+// Returns the first member after `at` such that the combined values of the members after `at`, up to and including this member, exceed `bound`. If `at` is
+// `None`, the search begins at the first member. The result is `Some(None)` if there is no such member, and `None` if the sums or the links are wrong.
 pub(crate) fn find(
     links: &RawTable<'_, RawThree>,
     sums: &[RawSum],
@@ -152,7 +153,8 @@ pub(crate) fn find(
     first_above(links, sums, kind, place, done, bound)
 }
 
-// Returns the first member after `at` whose interval overlaps `[from, to)`. The end of each interval is the value at its place.
+// Returns the first member after `at` whose interval overlaps `[from, to)`. The interval of a place begins at the number in `starts` and ends at the value of
+// the place.
 pub(crate) fn overlap(
     links: &RawTable<'_, RawThree>,
     sums: &[RawSum],
@@ -211,7 +213,7 @@ fn sum_above(
     None
 }
 
-// Returns the combined values of the members before `member`, or `None` if the parents lead to no end.
+// Returns the combined values of the members before `member`, or `None` if the parents above `member` lead to no root.
 pub(crate) fn sum_before(
     links: &RawTable<'_, RawThree>,
     sums: &[RawSum],

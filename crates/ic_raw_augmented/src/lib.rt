@@ -1,4 +1,5 @@
-//! Calls for C of trees with sums: the member at a position and the position of a member, sums before a member, and intervals that overlap.
+//! Calls for C of trees with sums. They find the member at a position, the position of a member, the sum of the values before a member, and intervals that
+//! overlap.
 //!
 //! ```text
 //! struct ic_sum counts[100] = {0};                                    // each value is 1

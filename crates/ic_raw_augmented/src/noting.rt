@@ -1,4 +1,4 @@
-//! A view of a table through which an edit runs, and which records the nodes whose children the edit writes.
+//! A view of a table through which an edit runs. The view records the places whose children the edit writes.
 //!
 //! ```text
 //! let mut written = Written::new();

@@ -20,7 +20,7 @@ use ic_raw::{RawTable, RawThree, place_in};
 use ic_rbtree::NodeStore;
 use ic_unsafe_ref::Place;
 
-/// The greatest number of turns of a loop that goes up or down a tree. This number is enough for each valid red-black tree.
+/// The greatest number of turns of a loop that goes up or down a tree. No way up or down a valid red-black tree needs more turns.
 pub(crate) const TURNS: u32 = 67;
 
 // Returns whether the words of the place `above` name `place` as a child.
@@ -33,8 +33,8 @@ fn is_below(links: &RawTable<'_, RawThree>, place: Place, above: Place) -> bool
     links.is_child(place, above, Side::Left) || links.is_child(place, above, Side::Right)
 }
 
-// Computes the sum at a place again, and then the sums of the members above it, until a sum doesn't change. If the words represent no tree, some sums may stay
-// wrong.
+// Computes the sum at `place` again, and then the sums of the members above, one after the other, until a sum does not change. If the words represent no tree,
+// some sums may stay wrong.
 pub(crate) fn recompute_up(
     links: &RawTable<'_, RawThree>,
     sums: &mut [RawSum],
@@ -86,7 +86,7 @@ fn place_at(index: usize) -> Option<Place>
     place_in((index as u64).wrapping_add(1).wrapping_mul(8))
 }
 
-// Computes the sums again from a place up. If the place is `None` or not in the table, the call does nothing.
+// Computes the sums again at `place` and at the members above. If `place` is `None` or not in the table, the call does nothing.
 fn recompute_from(
     links: &RawTable<'_, RawThree>,
     sums: &mut [RawSum],
@@ -107,7 +107,7 @@ fn recompute_from(
     recompute_up(links, sums, kind, place);
 }
 
-// Computes the sums again from the place with the given index up.
+// Computes the sums again at the place with the index `index`, and at the members above.
 fn recompute_index(links: &RawTable<'_, RawThree>, sums: &mut [RawSum], kind: Kind, index: usize)
     requires enough { (lent_table links.now).extent.places ≤ length sums.old }
     ensures right { (root : Option Place) (s : List Place) → IsSeen (lent_table links.now) root s
@@ -117,7 +117,7 @@ fn recompute_index(links: &RawTable<'_, RawThree>, sums: &mut [RawSum], kind: Ki
     recompute_from(links, sums, kind, place_at(index));
 }
 
-// Computes the sums again from each place up whose children an edit has written.
+// Computes the sums again at each place whose children an edit has written, and at the members above.
 pub(crate) fn recompute_written(
     links: &RawTable<'_, RawThree>,
     sums: &mut [RawSum],

@@ -1,4 +1,4 @@
-//! The calls of trees with sums that search a tree, and the calls that compute its sums again.
+//! The calls that search a tree with sums, and the calls that compute the sums of a tree again.
 //!
 //! ```text
 //! find(table, sums, Kind::Sum, tree, NONE, 3, &mut found)      // OK: the member at position 3, if each value is 1
@@ -52,7 +52,7 @@ fn is_searchable(
     links.stands(at) && links.stands(root)
 }
 
-// Returns why a tree is not searched: the fault of the member, else the fault of the sums if there are fewer of them than places, or else [`BROKEN`].
+// Returns why a tree is not searched: the fault of the member `at`, else [`OUT_OF_RANGE`] if there are fewer sums than places, or else [`BROKEN`].
 #[cold]
 #[inline(never)]
 fn refusal(links: &RawTable<'_, RawThree>, sums: &[RawSum], at: u32) -> u32
@@ -70,8 +70,8 @@ fn refusal(links: &RawTable<'_, RawThree>, sums: &[RawSum], at: u32) -> u32
     BROKEN
 }
 
-// Returns why a tree is not searched for an interval: the fault of the member, else [`OUT_OF_RANGE`] if there are fewer starts or sums than places, or else
-// [`BROKEN`].
+// Returns why a tree is not searched for an interval: the fault of the member `at`, else [`OUT_OF_RANGE`] if there are fewer starts or sums than places, or
+// else [`BROKEN`].
 #[cold]
 #[inline(never)]
 fn refusal_of_starts(
@@ -97,7 +97,7 @@ fn refusal_of_starts(
     BROKEN
 }
 
-// Stores the number of the first member after `at` at which the combined values exceed a bound.
+// Stores in `found` the number of the first member after `at` at which the combined values exceed `bound`.
 #[inline]
 fn store_found(
     links: &RawTable<'_, RawThree>,
@@ -137,7 +137,7 @@ fn store_found(
     OK
 }
 
-// Stores the number of the first member after `at` whose interval overlaps `[from, to)`.
+// Stores in `found` the number of the first member after `at` whose interval overlaps `[from, to)`.
 #[inline]
 fn store_overlap(
     links: &RawTable<'_, RawThree>,
@@ -183,7 +183,7 @@ fn store_overlap(
     OK
 }
 
-// Stores the combined values of the members before the member `at`.
+// Stores in `sum` the combined values of the members before the member `at`.
 #[inline]
 fn look_before(
     links: &RawTable<'_, RawThree>,
@@ -217,9 +217,9 @@ fn look_before(
     OK
 }
 
-/// Stores in `found` the number of the first member after `at`, or of all members if `at` is [`NONE`](ic_raw::NONE), at which the combined values exceed
-/// `bound`. The values are those of the members after `at` up to this member. The call returns [`NULL`] if there is no such member. The call writes nothing
-/// else. O(log n).
+/// Stores in `found` the number of the first member after `at` at which the combined values exceed `bound`. These are the values of the members after `at` up
+/// to and including the found one. If `at` is [`NONE`](ic_raw::NONE), the search and the values begin at the first member. The call returns [`NULL`] if there
+/// is no such member. The call writes nothing except `found`. O(log n).
 ///
 /// There must be a sum for each place of the table. If the sums of the tree are not right, the call may find another member, or return [`BROKEN`].
 #[inline]
@@ -238,8 +238,8 @@ pub fn find(
     store_found(&links, sums, kind, tree, at, bound, found)
 }
 
-/// Stores the combined values of the members before `at` in `sum`, or returns [`NULL`] if `at` is [`NONE`](ic_raw::NONE). The call writes nothing else. O(log
-/// n).
+/// Stores in `sum` the combined values of the members before `at`, or returns [`NULL`] if `at` is [`NONE`](ic_raw::NONE). The call writes nothing except `sum`.
+/// O(log n).
 ///
 /// There must be a sum for each place of the table. If the links lead from the member to no root, the call returns [`BROKEN`].
 #[inline]
@@ -250,9 +250,9 @@ pub fn before(table: &mut [RawThree], sums: &[RawSum], kind: Kind, at: u32, sum:
     look_before(&links, sums, kind, at, sum)
 }
 
-/// Stores in `found` the number of the first member after `at`, or of all members if `at` is [`NONE`](ic_raw::NONE), whose interval overlaps `[from, to)`. If
-/// there is none, the call returns [`NULL`]. The interval of a place begins at its start and ends at its value, which the interval does not contain. The call
-/// writes nothing else. O(log n).
+/// Stores in `found` the number of the first member after `at` whose interval overlaps `[from, to)`. If `at` is [`NONE`](ic_raw::NONE), the search begins at
+/// the first member. If there is no such member, the call returns [`NULL`]. The interval of a place begins at the number in `starts`, ends at the value of the
+/// place, and does not contain this value. The call writes nothing except `found`. O(log n).
 ///
 /// There must be a start and a sum for each place of the table. The sums must be those of [`Kind::Greatest`], and the starts must not decrease from
 /// one member to the next.
@@ -274,7 +274,7 @@ pub fn overlap(
 }
 
 /// Computes the sum at the member `at` and the sums of the members above it again, after the value of `at` has changed. If `at` is [`NONE`](ic_raw::NONE), the
-/// call computes all sums of the table. O(log n), and for all sums O(p log p) for p places.
+/// call computes all sums of the table. O(log n), and O(p log p) if all sums of p places are computed.
 ///
 /// There must be a sum for each place of the table.
 pub fn renew(table: &mut [RawThree], sums: &mut [RawSum], kind: Kind, at: u32) -> u32

@@ -14,8 +14,8 @@ use ic_raw::{RawTable, RawThree};
 use ic_rbtree::NodeStore;
 use ic_unsafe_ref::Place;
 
-/// What a caller keeps for each place beside its link: a value and a sum. The caller writes the value. The calls write the sum, which combines the values of
-/// the place and of all members below it.
+/// What a caller keeps for each place in addition to the link of the place: a value and a sum. The caller writes the value. The calls write the sum, which
+/// combines the values of the place and of all members below it.
 #[repr(C)]
 #[derive(Clone, Copy)]
 pub struct RawSum {
@@ -67,7 +67,7 @@ fn greater(a: u64, b: u64) -> u64
     if a < b { b } else { a }
 }
 
-// Returns the value at a place, or 0 if the place is beyond the last entry.
+// Returns the value of `place`, or 0 if `sums` has no entry for `place`.
 #[inline]
 pub(crate) fn value_at(sums: &[RawSum], place: Place) -> u64
     ensures { result ≡ value_at sums.now place }
@@ -80,7 +80,7 @@ pub(crate) fn value_at(sums: &[RawSum], place: Place) -> u64
     }
 }
 
-// Returns the sum at the root of a subtree, or 0 if the subtree is empty.
+// Returns the sum at `end`, the root of a subtree, or 0 if `end` is `None`, so that the subtree is empty.
 #[inline]
 pub(crate) fn sum_below(sums: &[RawSum], end: Option<Place>) -> u64
     ensures { result ≡ sum_below sums.now end }

@@ -12,8 +12,8 @@ ghost use Rattle.ic_raw_augmented.specs.Written.{is_noted};
 
 use ic_unsafe_ref::Place;
 
-// The number of places for which the record has room. An edit of a tree writes the children of at most 10 places at an insertion and 13 at a removal. One of
-// these places may occur more than once.
+// The number of places for which the record has room. An edit of a tree writes the children of at most 10 places at an insertion and 13 at a removal. The
+// record may contain one of these places more than once.
 const ROOM: usize = 14;
 
 /// Places whose children were written, in the order of the writes.

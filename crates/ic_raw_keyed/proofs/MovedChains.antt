@@ -1,4 +1,4 @@
--- How the members of a chain are reversed and then moved to other buckets.
+-- Lemmas on the members of a chain that are reversed and then moved to other buckets.
 use Rattle.std.proofs.Common.{◌≡◌, ◌<◌, ◌≤◌, ◌-◌, ◌%◌, ℕ, true, inl, inr, Option, Some, None, List, [], ◌∷◌, ◌++◌, drop, reverse, length, slice_set, refl, sym, ap, ◌∙◌, subst, arith, append_assoc, append-nil}
 use Rattle.std.specs.List.{AllByRecursion}
 use Rattle.std.proofs.Math.Nat.{mod-lt}
@@ -29,7 +29,7 @@ use Rattle.ic_raw.proofs.Views.{frame_back, represented_back, viewed}
 use Rattle.ic_raw_keyed.specs.Growth.{LeadsToLinked, StaysOrGets, leading_to, slot_for}
 use Rattle.ic_raw_keyed.specs.Spreading.{Spreads, spread_over}
 
--- A PLACE IS PUT AT THE FRONT: the place p is linked to the first member of a list, and p is the first member now
+-- only the entry of p changes from u to v: p is linked to the first member of a list, and becomes the first member itself
 module _ {u v : Table RawOne} {p : Place} (only : ChangesOnly u v p) where
   same_chain : (s : List Place) → IsAbsent p s → IsChain (IsFollowed successor) u.entry None s None → IsChain (IsFollowed successor) v.entry None s None
   same_chain s out chain =
@@ -47,7 +47,7 @@ module _ {u v : Table RawOne} {p : Place} (only : ChangesOnly u v p) where
     tail = refl;
   }
 
-  -- the members that were after the place p are still a list
+  -- the members after p in a list are still a list in v
   pub turned_rest : (r : List Place) → Represents u (list_from (Some p)) (p ∷ r) → Represents v (list_from (successor_at successor u p).next) r
   turned_rest r shown =
       let rest = represented_after [] p r shown in record { distinct = rest.distinct; chain = same_chain r shown.distinct.0 rest.chain; head = rest.head; tail = refl }
@@ -57,7 +57,7 @@ none_left : (w : List Place) → length w ≤ 0 → first w ≡ None
 none_left [] few = refl
 none_left (x ∷ w) few = absurd (omega (arith, few))
 
--- THE MEMBERS OF s ARE REVERSED UP TO `at`: the members before `at` are a list from `back` on, the last of them first
+-- the members of s before `at` are reversed: they are a list that begins at `back`, the last of them first. The members from `at` on are still a list
 pub record Reverses (t u : Table RawOne) (s : List Place) (back at : Option Place) (left : ℕ) : Type 0 where
   pub ahead : List Place
   pub rest : List Place
@@ -112,13 +112,13 @@ reverse_done {u = u} {s} {back} k none =
     let all : s ≡ reverse k.ahead = k.parts ∙ ap (λ (l : List Place). reverse k.ahead ++ l) nothing ∙ append-nil (reverse k.ahead) in
     subst (λ (l : List Place). Represents u (list_from back) l) (sym (reverse-reverse k.ahead) ∙ ap (λ (l : List Place). reverse l) (sym all)) k.turned
 
--- if one more member is moved after the members of d, it comes to the front of the chain to which its hash leads
+-- if p is moved after the members of d, p comes to the front of the chain to which the hash of p leads
 spread_push : (hashes : List ℕ) (n : ℕ) (chains : ℕ → List Place) (d : List Place) (p : Place)
     → spread_over hashes n chains (d ++ p ∷ []) ≡ with_at (spread_over hashes n chains d) (slot_for hashes n p) (p ∷ spread_over hashes n chains d (slot_for hashes n p))
 spread_push hashes n chains [] p = refl
 spread_push hashes n chains (x ∷ d) p = spread_push hashes n (with_at chains (slot_for hashes n x) (x ∷ chains (slot_for hashes n x))) d p
 
--- THE MEMBERS OF A REVERSED SEQUENCE come, one after the other, to the front of their chains, so that they have the order of the sequence there
+-- if the members of the reversed sequence move to the front of their chains, one after the other, they have the order of the sequence s in each chain
 pub spread_reversed : (hashes : List ℕ) (n : ℕ) (chains : ℕ → List Place) (s : List Place) (i : ℕ)
     → spread_over hashes n chains (reverse s) i ≡ leading_to hashes n i s ++ chains i
 spread_reversed hashes n chains [] i = refl
@@ -131,14 +131,14 @@ spread_reversed hashes n chains (p ∷ s) i =
       | inr m ↦ rw m.0 (spread_reversed hashes n chains s i)
     ]
 
--- if two functions give the same chain for each number, buckets that hold the chains of one hold the chains of the other
+-- if c and d give the same chain for each number, buckets that hold the chains of c also hold the chains of d
 pub holds_as : {words : List RawOne} {buckets : List RawFront} {c d : ℕ → List Place} → ((i : ℕ) → c i ≡ d i) → HoldsChains words buckets c → HoldsChains words buckets d
 holds_as {words} {buckets} {c} {d} same h = record {
   shown = λ i fits. subst (RepresentsList words (bucket_at buckets i)) (same i) (h.shown i fits);
   apart = λ i j fits fits' differ. subst (IsDisjoint (d i)) (same j) (subst (λ (l : List Place). IsDisjoint l (c j)) (same i) (h.apart i j fits fits' differ));
 }
 
--- if only entries of places change that are members of no chain, the buckets hold the same chains as before
+-- if only entries of places of s change, and no place of s is a member of a chain, the buckets hold the same chains as before
 pub holds_beside : {es fs : List RawOne} {buckets : List RawFront} {chains : ℕ → List Place} (s : List Place) → HoldsChains es buckets chains
     → ChangesOnlyIn (table_of es) (table_of fs) s → ((i : ℕ) → i < length buckets → IsDisjoint (chains i) s) → HoldsChains fs buckets chains
 holds_beside s h frame away = record { shown = λ i fits. represents_frame s (h.shown i fits) (away i fits) frame.others; apart = h.apart }
@@ -146,7 +146,7 @@ holds_beside s h frame away = record { shown = λ i fits. represents_frame s (h.
 pub apart_reversed : (s t : List Place) → IsDisjoint s t → IsDisjoint s (reverse t)
 apart_reversed s t apart = absent_swap s t apart (reverse t) (λ q out. absent_reverse q t out)
 
--- THE MEMBERS OF r ARE SPREAD UP TO `at`: the members before `at` are in their buckets, and the members from `at` on are still a list
+-- the members of r before `at` were moved to their buckets, and the members from `at` on are still a list
 pub record SpreadsTo (hashes : List ℕ) (t u : RawTable RawOne) (b c : List RawFront) (r : List Place) (at : Option Place) (left : ℕ) : Type 0 where
   pub done : List Place
   pub rest : List Place
@@ -241,7 +241,7 @@ module _ {hashes : List ℕ} {t u : RawTable RawOne} (v : RawTable RawOne) {b c 
         elim (k.own j) [ inl same ↦ inl (stays ∙ same) | inr gets ↦ inr (gets.0, gets.1, gets.2, stays ∙ gets.3) ]
   ]
 
-  -- ONE MEMBER MORE: after the next member was moved to its bucket, the members up to the member after it are spread
+  -- after the next member p was moved to its bucket, the members of r before `next` are in their buckets
   pub spread_more : SpreadsTo hashes t v b (slice_set c i (word_of_front (Some p))) r next (left - 1)
   spread_more =
       let less = fewer k.rest p k.after.head in
@@ -282,7 +282,7 @@ spread_done {hashes} {t} {u} {b} {c} {r} k none =
       own = k.own;
     }
 
--- the member to which the walk has come is linked
+-- if the members `rest` are a list that begins at p, p is linked
 pub represented_linked : {u : Table RawOne} {p : Place} (rest : List Place) → Represents u (list_from (Some p)) rest → is_linked_one (u.entry p) ≡ true
 represented_linked {u} {p} rest after = (subst (λ (l : List Place). Represents u (list_from (Some p)) l) (first_is rest after.head) after).chain.0.linked
 
@@ -303,7 +303,7 @@ all_stand hashes t {buckets} {chains} holds any (p ∷ s) =
 pub both_frames : {t u v : Table RawOne} (s : List Place) → ChangesOnlyIn t u s → ChangesOnlyIn u v (reverse s) → ChangesOnlyIn t v s
 both_frames s one other = record { extent = other.extent ∙ one.extent; others = λ q out. other.others q (absent_reverse q s out) ∙ one.others q out }
 
--- what holds for a bucket's word after the reversed members were moved holds after the members were moved
+-- if `StaysOrGets` holds for the members of s in reverse order, it holds for the members of s
 pub own_reversed : (hashes : List ℕ) (buckets buckets' : List RawFront) (s : List Place) (i : ℕ) → StaysOrGets hashes buckets buckets' (reverse s) i
     → StaysOrGets hashes buckets buckets' s i
 own_reversed hashes buckets buckets' s i k = elim k [ inl same ↦ inl same | inr gets ↦ inr (gets.0, (λ out. gets.1 (absent_reverse gets.0 s out)), gets.2, gets.3) ]

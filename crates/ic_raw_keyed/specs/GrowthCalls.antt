@@ -1,4 +1,4 @@
--- WHAT THE CALLS DO BY WHICH A HASH TABLE GROWS: each record is the whole contract of a call.
+-- The contract of the call by which a hash table grows. The record is the whole contract.
 use Rattle.std.specs.Prelude.{◌≡◌, ◌≢◌, ◌≤◌, ◌<◌, ◌∷◌, ◌++◌, ℕ, List, [], None, length}
 use Rattle.std.specs.List.{AllByRecursion}
 use Rattle.ic_link_ops.specs.Prelude.{Place, IsDisjoint, ChangesOnlyIn, KeepsLinked}
@@ -13,10 +13,11 @@ use Rattle.ic_raw.specs.Words.{is_linked_one}
 use Rattle.ic_raw_keyed.specs.Growth.{LeadsToLinked, StaysOrGets, leading_to}
 
 -- `hashes` has the hash of each place. `old` and `new` are the words of the table before and after the call. `chain` and `chain'` are the words of the chain
--- before and after it, and `buckets` and `buckets'` the words of the buckets to which the members of the chain move. `status` is the status that the call
+-- before and after the call, and `buckets` and `buckets'` the words of the buckets to which the members of the chain move. `status` is the status that the call
 -- returns
 module _ (hashes : List ℕ) (old new : List RawOne) (chain chain' : RawFront) (buckets buckets' : List RawFront) (status : ℕ) where
-  -- ALL MEMBERS OF A CHAIN MOVE: each member moves to the front of the bucket to which its hash leads. Members that come into one bucket keep their order
+  -- the call moves each member of the chain to the front of the bucket to which the hash of the member leads. Members that come into one bucket keep their
+  -- order
   pub record MoveChainCall : Type 0 where
     pub moved : (s : List Place) (chains : ℕ → List Place) → length old ≤ length hashes → 1 ≤ length buckets → RepresentsList old chain s
         → HoldsChains old buckets chains → ((i : ℕ) → i < length buckets → IsDisjoint (chains i) s)

@@ -10,13 +10,14 @@ use Rattle.ic_raw.specs.Singly.{lent_table}
 use Rattle.ic_raw.specs.Tables.{raw_entries}
 use Rattle.ic_raw_keyed.specs.Growth.{StaysOrGets, slot_for}
 
--- the chains after the members of r were moved one after the other, each to the front of the chain to which its hash leads
+-- the chains after each member of r, one after the other, was moved to the front of the chain to which the hash of the member leads
 abbrev pub spread_over : (hashes : List ℕ) → (count : ℕ) → (ℕ → List Place) → List Place → ℕ → List Place
 spread_over hashes count chains [] = chains
 spread_over hashes count chains (p ∷ r) =
     spread_over hashes count (with_at chains (slot_for hashes count p) (p ∷ chains (slot_for hashes count p))) r
 
--- THE MEMBERS OF r ARE SPREAD over the buckets: each bucket's chain now begins with the members of r that came to this bucket, the last of them first
+-- the members of r were moved to the buckets, one after the other: each bucket's chain begins with the members of r that came to this bucket, the last of them
+-- first
 pub record Spreads (hashes : List ℕ) (t u : RawTable RawOne) (buckets buckets' : List RawFront) (r : List Place) : Type 0 where
   pub holds : (chains : ℕ → List Place) → HoldsChains (raw_entries t) buckets chains → ((i : ℕ) → i < length buckets → IsDisjoint (chains i) r)
       → HoldsChains (raw_entries u) buckets' (spread_over hashes (length buckets) chains r)

@@ -34,7 +34,7 @@ pub(crate) fn is_at(end: Option<Place>, place: Place) -> bool
     Place::to_word(end) == Place::to_word(Some(place))
 }
 
-// Returns the end that was `end` after `new` has replaced the member `out`.
+// Returns an end of the tree after `new` has replaced the member `out`. Before, this end was `end`.
 #[inline]
 fn end_for(out: Place, new: Option<Place>, end: Option<Place>) -> Option<Place>
     ensures { (p : Place) → new ≡ Some p → result ≡ end_for out p end }
@@ -57,7 +57,7 @@ impl RawTreeEnds {
         }
     }
 
-    // Returns the end on the given side: the first member for the left, the last member for the right.
+    // Returns the end on the side `side`: the first member for the left, the last member for the right.
     #[inline]
     pub(crate) fn end(&self, side: Side) -> Option<Place>
         ensures { result ≡ end_in side self.now }
@@ -68,7 +68,7 @@ impl RawTreeEnds {
         }
     }
 
-    // Returns the ends of the tree after `new` was inserted on the given side of the member `at`, or as the only member if `at` is `None`.
+    // Returns the ends of the tree after `new` was inserted as the child of the member `at` on the side `side`, or as the only member if `at` is `None`.
     #[inline]
     pub(crate) fn with(&self, side: Side, at: Option<Place>, new: Option<Place>) -> RawTreeEnds
         ensures own { (p : Place) → new ≡ Some p → (d : Side) → end_in d result ≡ end_with d at side p (end_in d self.now) }

@@ -40,8 +40,8 @@ fn has(links: &RawTable<'_, RawThree>, place: Option<Place>) -> bool
     }
 }
 
-// Returns the member beside a place on the given side, as the words are read. The result is `None` if the links come to an end, or if the place or the root
-// does not belong to the table.
+// Returns the neighbor of `at` on the side `side`, to which the links lead. The result is `None` if the links come to an end, or if `at` or the root does not
+// belong to the table.
 #[inline]
 fn beside(table: &mut [RawThree], tree: &RawRoot, side: Side, at: Place) -> Option<Place>
     ensures leads { (cut : Cut) → RepresentsTree table.old tree.now (join cut) → IsBeside side cut (Some at) → IsBeside (across side) cut result }
@@ -61,10 +61,10 @@ fn beside(table: &mut [RawThree], tree: &RawRoot, side: Side, at: Place) -> Opti
     step_bounded(&links, root, Some(at), side)
 }
 
-/// Inserts a place as the child on the given side of the member `at`, or as the only member if `at` is [`NONE`](ic_raw::NONE). O(log n).
+/// Inserts a place as the child of the member `at` on the side `side`, or as the only member if `at` is [`NONE`](ic_raw::NONE). O(log n).
 ///
-/// The place must belong to the table and must not be linked. A refused edit leaves the words as they are, and returns the first fault of the two places, or
-/// else [`BROKEN`]. For example, it returns [`BROKEN`] if the member already has a child on this side, or if `at` is none and the tree has members.
+/// The place must belong to the table and must not be linked. A refused call leaves the words as they are, and returns the first fault of `at` and `place`, or
+/// else [`BROKEN`]. For example, the call returns [`BROKEN`] if the member already has a child on this side, or if `at` is none and the tree has members.
 #[inline]
 pub fn insert_at(
     table: &mut [RawThree],
@@ -84,7 +84,8 @@ pub fn insert_at(
     status
 }
 
-// Returns the end on the given side after a place was inserted: the new place if no step leads from it further to this side, and otherwise the old end.
+// Returns the end on the side `side` after `place` was inserted. The result is `place` if no step leads from `place` to this side, and otherwise the old end
+// `end`.
 #[inline]
 fn end_with(
     table: &mut [RawThree],
@@ -105,10 +106,10 @@ fn end_with(
     }
 }
 
-/// Inserts a place by its key, after all members whose key is not greater than its own. O(log n).
+/// Inserts a place by its key, after all members whose key is not greater than the key of the place. O(log n).
 ///
 /// The place must belong to the table and must not be linked, and there must be a key for each place of the table. The call makes two steps from the place to
-/// find out whether the place is now the first or the last member.
+/// find out whether the place has become the first or the last member.
 #[inline]
 pub fn insert(
     table: &mut [RawThree],
@@ -152,8 +153,8 @@ fn stands(table: &mut [RawThree], place: Option<Place>) -> bool
     RawTable::new(table).stands(place)
 }
 
-// Returns the end on the given side after a member was removed. If the member was this end, it is the place to which a step inwards leads, and otherwise the
-// old end. The result is `None` if the step leads to the member itself or to a place that is not linked.
+// Returns the end on the side `side` after `member` was removed. If `member` was this end, the new end is the place to which a step inwards from `member`
+// leads. Otherwise it is the old end `end`. The result is `None` if the step leads to `member` itself or to a place that is not linked.
 #[inline]
 fn end_without(
     table: &mut [RawThree],
@@ -182,7 +183,8 @@ fn end_without(
     Some(next)
 }
 
-// Returns the words of the ends after a member was removed. The result is `None` if the member is an end and the links lead to no other end.
+// Returns the words of the ends after a member was removed. The result is `None` if `member` is an end, and a step inwards from it leads to `member` itself or
+// to a place that is not linked.
 #[inline]
 fn ends_without(
     table: &mut [RawThree],
@@ -209,8 +211,8 @@ fn ends_without(
 
 /// Removes the member `at`, or returns [`NULL`] if `at` is [`NONE`](ic_raw::NONE). O(log n).
 ///
-/// If the member is an end, a step from it finds the next end. The call returns [`BROKEN`] if this step leads to a place that is not linked, or to the member
-/// itself.
+/// If the member is an end, a step from the member leads to the next end. The call returns [`BROKEN`] if this step leads to a place that is not linked, or to
+/// the member itself.
 #[inline]
 pub fn remove(table: &mut [RawThree], tree: &mut RawRoot, ends: &mut RawTreeEnds, at: u32) -> u32
     ensures { RemoveCall table.old table.new tree.old tree.new ends.old ends.new result (place_of at) }
@@ -229,9 +231,9 @@ pub fn remove(table: &mut [RawThree], tree: &mut RawRoot, ends: &mut RawTreeEnds
     status
 }
 
-/// Replaces the member `at` by another place, so that `at` is removed, or returns [`NULL`] if `at` is [`NONE`](ic_raw::NONE). O(1).
+/// Replaces the member `at` by `place` and unlinks `at`, or returns [`NULL`] if `at` is [`NONE`](ic_raw::NONE). O(1).
 ///
-/// The new place must belong to the table and must not be linked.
+/// The place `place` must belong to the table and must not be linked.
 #[inline]
 pub fn replace(
     table: &mut [RawThree],
@@ -253,11 +255,11 @@ pub fn replace(
     status
 }
 
-/// Removes the first member and stores its number in `popped`, or returns [`NULL`] if the word of the first member is none. O(log n), and O(1) on
+/// Removes the first member and stores its number in `popped`, or returns [`NULL`] if the word of the first member names no place. O(log n), and O(1) on
 /// average for the step to the next member.
 ///
-/// The call returns [`BROKEN`] if no 4-byte number names the first member, if the first member is not linked, or if the links lead from it to an unlinked
-/// place or back to it.
+/// The call returns [`BROKEN`] if no 4-byte number names the first member, if the first member is not linked, or if the links lead from the first member to an
+/// unlinked place or back to the first member.
 #[inline]
 pub fn pop_first(
     table: &mut [RawThree],

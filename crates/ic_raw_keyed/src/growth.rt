@@ -50,7 +50,7 @@ fn set_front(buckets: &mut [RawFront], slot: usize, first: Place)
     };
 }
 
-// Links a linked place to the place `after`, and returns the place to which it was linked before.
+// Makes `after` the next place of the linked place `place`, and returns the next place that `place` had before.
 #[inline]
 fn turn(links: &mut RawTable<'_, RawOne>, place: Place, after: Option<Place>) -> Option<Place>
     requires { IsLinked is_linked_one (lent_table links.old) place }
@@ -118,7 +118,7 @@ pub(crate) fn reverse(links: &mut RawTable<'_, RawOne>, front: Option<Place>) ->
     back
 }
 
-// Moves the members of a list, one after the other, each to the front of the bucket to which its hash leads.
+// Moves each member of a list, one after the other, to the front of the bucket to which the hash of the member leads.
 pub(crate) fn spread(
     links: &mut RawTable<'_, RawOne>,
     hashes: &[u64],

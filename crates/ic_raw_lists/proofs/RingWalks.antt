@@ -1,4 +1,5 @@
--- A walk around a ring whose words may contain anything. Each passed place leads to the next place, which leads back.
+-- Lemmas on a walk around a ring whose words may contain anything. Each place that the walk passes names the next place, and the next place names the passed
+-- place.
 use Rattle.std.proofs.Common.{◌≡◌, ◌≢◌, ℕ, ◌+◌, ◌<◌, Option, Some, None, List, [], ◌∷◌, ◌++◌, length, length-append, append_assoc, append-nil, true, refl, sym, ap, subst, ◌∙◌, arith}
 use Rattle.ic_link_ops.specs.Prelude.{Place, IsAbsent, IsDistinct, first_or, last_or, last, Table, IsCovered}
 use Rattle.ic_link_ops.specs.LinkedList.{Neighbors, neighbors_at, IsBetween, IsChain}
@@ -9,7 +10,7 @@ use Rattle.ic_ring.specs.Rings.{IsCircle}
 use Rattle.ic_raw_lists.specs.RingOrders.{IsNotAmong}
 
 module _ {E : Type 0} (n : E → Neighbors) where
-  -- a place that leads back to the last place of a chain is not among the places of the chain after the first
+  -- if y ∷ s is a chain, and the place x names the last place of this chain as its previous place, x is not in s
   next_absent : (t : Place → E) (y x : Place) (s : List Place) → IsChain n t (Some y) s (Some x) → (n (t x)).prev ≡ last_or (Some y) s → IsDistinct (y ∷ s) → IsAbsent x s
   next_absent t y x [] c back d = tt
   next_absent t y x (z ∷ s) c back d = (
@@ -17,7 +18,7 @@ module _ {E : Type 0} (n : E → Neighbors) where
     next_absent t z x s c.1 back d.1,
   )
 
-  -- THE WALK HAS PASSED `count` places, from the head on, and has come to the place `at`
+  -- the walk has passed `count` places, the first of them the head, and has come to the place `at`
   pub record Passes (t : Table E) (head at : Place) (count : ℕ) : Type 0 where
     pub passed : List Place
     pub chain : IsChain n t.entry (neighbors_at n t head).prev passed (Some at)
@@ -33,7 +34,7 @@ module _ {E : Type 0} (n : E → Neighbors) where
       (record { passed = []; chain = tt; starts = refl; comes = refl; distinct = (tt, tt); counted = refl; leads = λ s c. (s, refl) }, refl)
 
   module _ {t : Table E} {head at : Place} {count : ℕ} (k : Passes t head at count) where
-    -- THE PLACE IN ANY CIRCLE: the walk's place `at` leads to the first place of the rest of the circle, or to the head if nothing is left
+    -- in each circle with this head, the next place after `at` is the first place that the walk has not come to, or the head if there is no such place
     pub stands_there : (s : List Place) (c : IsCircle n t.entry (head ∷ s)) → (neighbors_at n t at).next ≡ first_or (k.leads s c).0 (Some head)
     stands_there s c =
         let parts = (k.leads s c).1 in
@@ -48,7 +49,7 @@ module _ {E : Type 0} (n : E → Neighbors) where
         let l = k.leads s c in
         omega (arith, few, k.counted, ap length l.1, length-append k.passed (at ∷ l.0))
 
-    -- `next` is the place to which the walk's place `at` leads, and `next` leads back to `at`
+    -- the place `at` names `next` as its next place, and `next` names `at` as its previous place
     module _ {next : Place} (linked : (neighbors_at n t at).linked ≡ true) (leads : (neighbors_at n t at).next ≡ Some next) (back : (neighbors_at n t next).prev ≡ Some at) where
       chain_on : IsChain n t.entry (neighbors_at n t head).prev (k.passed ++ at ∷ []) (Some next)
       chain_on =
@@ -65,7 +66,7 @@ module _ {E : Type 0} (n : E → Neighbors) where
       new_place [] d c e starts other = tt
       new_place (y ∷ w) d c e starts other = ((λ h. other (h ∙ sym (some_same starts))), next_absent t.entry y next w c.1 e d)
 
-      -- THE WALK GOES ON to the place `next` if this is not the head
+      -- the walk goes on to the place `next` if `next` is not the head
       pub passes_more : next ≢ head → {more : ℕ} → more ≡ count + 1 → (l : Passes t head next more) × (l.passed ≡ k.passed ++ at ∷ [])
       passes_more other {more} is = (
         record {
@@ -87,7 +88,7 @@ module _ {E : Type 0} (n : E → Neighbors) where
         goes_on s c (x ∷ rest) parts stands =
             let same : x ≡ next = some_same (sym stands ∙ leads) in (rest, parts ∙ ap (λ p. k.passed ++ at ∷ p ∷ rest) same ∙ sym (append_assoc k.passed (at ∷ []) (next ∷ rest)))
 
-      -- THE WALK COMES BACK to the head: the head and the other passed places are a circle
+      -- if `next` is the head, the head and the other passed places are a circle
       pub passes_all : next ≡ head → (s : List Place) × IsCircle n t.entry (head ∷ s) × (length s ≡ count)
       passes_all same =
           let ends : (neighbors_at n t head).prev ≡ last (k.passed ++ at ∷ []) =
@@ -104,7 +105,7 @@ module _ {E : Type 0} (n : E → Neighbors) where
                 let circle : IsCircle n t.entry (y ∷ w) = record { distinct = d; chain = chain } in
                 (w, subst (λ q. IsCircle n t.entry (q ∷ w)) first_is circle, omega (arith, long))
 
--- A PLACE THAT IS NOT AMONG THE PASSED PLACES: as long as no place is passed, the place `apart` is not among them
+-- lemmas on `IsNotAmong`, for the place `apart` and the places that a walk has passed
 pub none_of_nothing : (apart : Option Place) → IsNotAmong apart []
 none_of_nothing None = tt
 none_of_nothing (Some p) = tt
@@ -117,7 +118,7 @@ pub is_among : (apart : Option Place) (s : List Place) (at : Place) (rest : List
 is_among None s at rest same out = let no : None ≡ Some at = same in cc
 is_among (Some p) s at rest same out = (absent_right p s (at ∷ rest) out).0 (some_same same)
 
--- if one more place was passed than s has, all places are passed, and the place `apart` is not among them
+-- if w begins with s and then `at`, and w has one place more than s, w has no other place. So `apart` is not in w if it is neither in s nor `at`
 pub none_of_all : (apart : Option Place) (w s : List Place) (at : Place) (rest : List Place) → w ≡ s ++ at ∷ rest → length w ≡ length s + 1 → IsNotAmong apart (s ++ at ∷ []) → IsNotAmong apart w
 none_of_all apart w s at [] parts long out = rw parts out
 none_of_all apart w s at (x ∷ rest) parts long out = absurd (omega (arith, long, ap length parts, length-append s (at ∷ x ∷ rest)))

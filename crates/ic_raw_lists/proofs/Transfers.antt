@@ -1,4 +1,4 @@
--- How a member moves from one list into another. Of the other members of both lists, only the neighbors of the member are changed.
+-- Lemmas on a member that moves from one list into another. Of the other members, only the old and the new neighbors of this member change.
 use Rattle.std.proofs.Common.{◌≡◌, ◌≢◌, Option, Some, List, [], ◌∷◌, ◌++◌, refl, ◌∙◌}
 use Rattle.ic_link_ops.specs.Prelude.{Place, Cut, join, insert, first, last, IsAbsent, IsAfter, IsBefore, IsDisjoint, Table}
 use Rattle.ic_link_ops.specs.Chains.{Ends}
@@ -17,7 +17,7 @@ pub apart_at : (front : List Place) (p : Place) (back u : List Place) → IsDisj
 apart_at [] p back u apart = apart.0
 apart_at (x ∷ front) p back u apart = apart_at front p back u apart.1
 
--- first the neighbors of p are linked to each other, and then p is linked into the other list at the position where it is cut
+-- first the neighbors of p are linked to each other, and then p is linked into the other list at the gap `cut`
 pub transferred : {W : Type 0} (words : LinkWords W) {Names : Type 0} {old mid new : Table W} {list list' given given' : Ends} (cut : Cut) (front : List Place) (p : Place) (back : List Place)
     {b a before following : Option Place} → b ≡ last front → a ≡ first back → IsAfter cut before → IsBefore cut following
     → Represents words old list (join cut) → Represents words old given (front ++ p ∷ back) → IsDisjoint (front ++ p ∷ back) (join cut)

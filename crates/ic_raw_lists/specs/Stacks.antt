@@ -1,4 +1,4 @@
--- The words of a singly linked list, as contracts for lists of any kind use them.
+-- The words of a singly linked list, in the form that contracts for lists of any kind use.
 use Rattle.ic_link_ops.specs.SinglyLinkedList.{Front}
 use Rattle.ic_raw.specs.declared.words.RawFront.{RawFront}
 use Rattle.ic_raw.specs.Singly.{word_of_front}

@@ -1,4 +1,4 @@
--- WHAT A CALL DOES THAT MOVES A MEMBER OF ONE DOUBLY LINKED LIST INTO ANOTHER: the last record is the whole contract of the call.
+-- The contract of the call that moves a member of one doubly linked list into another list. The record `TransferCall` is the whole contract of the call.
 use Rattle.std.specs.Prelude.{◌≡◌, ◌≢◌, ◌↔◌, ◌++◌, ◌∷◌, ℕ, List, [], Option, Some, None}
 use Rattle.ic_link_ops.specs.Prelude.{Place, Cut, join, insert, IsDisjoint, Table, ChangesOnlyIn, KeepsLinked}
 use Rattle.ic_link_ops.specs.Chains.{Ends}
@@ -28,8 +28,8 @@ module _ {W : Type 0} (link : LinkWords W) (old new : List W) (list list' : RawE
       RepresentsList link old list (join cut) → RepresentsList link old given (front ++ p ∷ back) → IsDisjoint (front ++ p ∷ back) (join cut)
       → IsAccepted status (Transfers link (table_of link old) (table_of link new) (ends_of list') (ends_of given') cut front p back)
 
-  -- A MEMBER MOVES INTO A GAP OF ANOTHER LIST: the member `place` of the list `given` moves into the gap of `list` on the side `side` of the member `at`. If
-  -- `at` is none, `place` moves to an end of `list`
+  -- the member `place` of the list `given` moves into the gap of `list` on the side `side` of the member `at`. If `at` is none, `place` moves to the front of
+  -- `list` for the side `After`, and to the back for `Before`
   pub record TransferCall (side : GapSide) (at : Option Place) (given given' : RawEnds) (place : Option Place) : Type 0 where
     pub moved : (cut : Cut) (front back : List Place) (p : Place) → IsBeside side cut at → place ≡ Some p → Transferred given given' cut front p back
     pub null : (status ≡ NULL) ↔ (place ≡ None)

@@ -1,4 +1,4 @@
-//! A walk around a ring, where the words may contain anything.
+//! A walk around a ring whose words may contain anything.
 //!
 //! ```text
 //! let Some(members) = count_members(&links, head, None) else { .. }; // the links lead around no circle back to the head

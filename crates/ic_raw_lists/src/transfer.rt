@@ -1,4 +1,4 @@
-//! How a member of one doubly linked list moves into another list: what is tested of both lists, and the edit over a view of the table.
+//! How a member of one doubly linked list moves into another list: the tests of both lists, and the edit over a view of the table.
 //!
 //! ```text
 //! let Some((from, to)) = gaps_to_transfer(&links, &list, GapSide::After, at, &given, member) else { .. };
@@ -20,9 +20,9 @@ use ic_raw::list::{List, beside, gap_at};
 use ic_raw::{Gap, GapSide, ListWords, RawTable};
 use ic_unsafe_ref::Place;
 
-// Returns the places on both sides of a member of the list `given`, and the gap of the list `list` to which this member is to move. The result is `None` if the
-// neighbors of the member are not linked back to it, or if the sides of the gap are not linked to each other. The result is also `None` if the member is beside
-// the gap, or if both lists begin with the same member.
+// Returns the places on both sides of `member`, which is in the list `given`, and the gap of the list `list` into which `member` is to move. The result is
+// `None` if the neighbors of `member` do not name `member` as their neighbor, or if the places on both sides of the gap do not name each other. The result is
+// also `None` if `member` is beside the gap, or if both lists begin with the same member.
 #[inline]
 pub(crate) fn gaps_to_transfer<W: ListWords>(
     links: &RawTable<'_, W>,
@@ -62,7 +62,8 @@ pub(crate) fn gaps_to_transfer<W: ListWords>(
     Some((from, to))
 }
 
-// Moves a member of the list `given` from between its two neighbors into a gap of the list `list` that is not beside the member. The member stays linked.
+// Moves `member` from the list `given` into the gap `to` of the list `list`. `from` has the neighbors of `member` in `given`, and `to` must not be beside
+// `member`. The member stays linked.
 #[inline]
 pub(crate) fn relocate<W: ListWords>(
     links: &mut RawTable<'_, W>,

@@ -1,4 +1,4 @@
-//! The call that moves a member of one doubly linked list into another one of the same table.
+//! The call that moves a member of one doubly linked list into another list of the same table.
 //!
 //! ```text
 //! transfer_at(table, list, GapSide::After, NONE, given, 7) // OK: 7 is the first member of `list`, and no longer one of `given`
@@ -12,11 +12,11 @@ use ic_raw::list_calls::{list_of, write_back};
 use ic_raw::number::place_of;
 use ic_raw::{GapSide, ListWords, NULL, OK, RawEnds, RawTable};
 
-/// Moves the member `place` of the list `given` into the gap on the given side of the member `at` of the list `list`. If `at` is [`NONE`](ic_raw::NONE),
-/// `place` moves to the end of `list` that the side means. The member stays linked during the call. O(1).
+/// Moves the member `place` of the list `given` into the gap on the side `side` of the member `at` of the list `list`. If `at` is [`NONE`](ic_raw::NONE),
+/// `place` moves to the front of `list` for the side `After`, and to the back for `Before`. The member stays linked during the call. O(1).
 ///
-/// The call returns [`NULL`] if `place` is [`NONE`](ic_raw::NONE), else the first fault of the two places, or else [`BROKEN`](ic_raw::BROKEN). For example, it
-/// returns [`BROKEN`](ic_raw::BROKEN) if both lists begin with the same member. A refused call changes no word.
+/// The call returns [`NULL`] if `place` is [`NONE`](ic_raw::NONE), else the first fault of `at` and `place`, or else [`BROKEN`](ic_raw::BROKEN). For example,
+/// the call returns [`BROKEN`](ic_raw::BROKEN) if both lists begin with the same member. A refused call changes no word.
 #[inline]
 pub fn transfer_at<W: ListWords>(
     table: &mut [W],

@@ -1,4 +1,4 @@
--- These lemmas say what the checks of the words show.
+-- Lemmas on what the results of the checks say about the words.
 use Rattle.std.proofs.Common.{◌≡◌, ℕ, Bool, true, false, not, is_some, IsTrue, MatchOption, Option, Some, None, List, refl, sym, ◌∙◌, subst, true≢false}
 use Rattle.ic_link_ops.specs.Prelude.{Place, IsMember, Table, HasMember}
 use Rattle.ic_link_ops.specs.Walk.{is_end}
@@ -9,7 +9,7 @@ use Rattle.ic_check.specs.Subtrees.{AreApart}
 use Rattle.ic_raw.specs.declared.words.RawThree.{RawThree}
 use Rattle.ic_raw.specs.Tree.{Represents}
 
--- two trees are apart exactly if the comparison says that their roots are different places
+-- the roots `one` and `given` are apart exactly if the comparison of the two roots, `same`, is false
 pub apart_by : (one given : Option Place) (p : Place) (same : Bool) → given ≡ Some p → same ≡ is_end one p
     → (IsTrue (not same) → AreApart one given) × (AreApart one given → IsTrue (not same))
 apart_by one given p true is e = (λ never. absurd (true≢false (sym never)), λ apart. absurd (apart p (is_end_yes one p (sym e)) is))

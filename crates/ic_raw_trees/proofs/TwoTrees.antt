@@ -29,7 +29,7 @@ each_outside s (y ∷ t) none = beside s none (each_outside s t (λ p member the
       ((λ same. out x (λ absent. absent.0 refl) (λ absent. absent.0 same), apart.0), beside u (λ p member. out p (λ absent. member absent.1)) apart.1)
 
 module _ {E : Type 0} (n : E → Node) {v : Table E} {a b : Option Place} {s t : List Place} (one : Represents n v a s) (other : Represents n v b t) where
-  -- parents lead from a member to only one root: two climbs from one place end at the same root
+  -- the parents of a place lead to only one root: two climbs from the place p end at the same root
   meets : (k steps : ℕ) (p : Place) → 66 ≤ steps + k → Climbs n v a p steps → Climbs n v b p steps → a ≡ b
   meets zero steps p far x y = absurd (omega (arith, far, x.few))
   meets (suc k) steps p far x y =
@@ -39,11 +39,11 @@ module _ {E : Type 0} (n : E → Node) {v : Table E} {a b : Option Place} {s t :
       above None e further = at_root n one x e ∙ sym (at_root n other y e)
       above (Some q) e further = further q e
 
-  -- TWO TREES THAT SHARE A MEMBER HAVE ONE ROOT
+  -- two trees that share a member have the same root
   pub shared_root : (p : Place) → IsMember p s → IsMember p t → a ≡ b
   shared_root p member there = meets 66 0 p (omega arith) (starts n one member) (starts n other there)
 
-  -- TWO TREES WITH DIFFERENT ROOTS SHARE NO MEMBER
+  -- two trees with different roots share no member
   pub distinct_apart : AreApart a b → IsDistinct (s ++ t)
   distinct_apart apart =
       distinct_splice [] s t other.held.distinct one.held.distinct (each_outside s t (λ p member there. rooted a refl p member (shared_root p member there)))

@@ -1,6 +1,6 @@
--- WHAT THE CALLS DO THAT MAKE ONE RED-BLACK TREE OF TWO, AND TWO OF ONE: each record is the whole contract of one call. A call is accepted exactly if
--- the table represents the trees of the call, and the place that the caller names fits. Because of this, a call never edits links that represent no
--- tree.
+-- The contracts of the calls that make one red-black tree from two trees, and two trees from one. Each record is the whole contract of one call. A call is
+-- accepted exactly if the table represents the trees of the call, and the place that the caller names has no fault. So a call never edits links that represent
+-- no tree.
 use Rattle.std.specs.Prelude.{◌≡◌, ◌≢◌, ◌↔◌, ◌++◌, ◌∷◌, ℕ, List, [], Option, Some, None}
 use Rattle.ic_link_ops.specs.Prelude.{Place, Cut, KeepsLinked, LinksAlso, HasMember}
 use Rattle.ic_link_ops.specs.Edits.{Inserts, Splits}
@@ -12,16 +12,15 @@ use Rattle.ic_raw.specs.Answers.{IsStatus, IsAccepted, refusal}
 use Rattle.ic_raw.specs.Tree.{Represents, RepresentsTree, FreeIn, IsWritten, root_in, word_of_root, table_of, fault_at, fault_of}
 use Rattle.ic_raw.specs.Words.{is_linked_three}
 
--- THE WORDS REPRESENT TWO TREES that share no member: the tree `tree` has the members before the cut, and the tree `given` has the members after the
--- cut
+-- the words represent two trees that share no member: the tree `tree` has the members before the cut, and the tree `given` has the members after the cut
 abbrev pub RepresentsBoth : List RawThree → (tree given : RawRoot) → Cut → Type 0
 RepresentsBoth words tree given = RepresentsParts Represents (table_of words) (root_in tree) (root_in given)
 
--- `old` and `new` are the words of the table before the call and after it. `tree` and `tree'` are the word of the tree before the call and after it.
--- `status` is the status that the call returns
+-- `old` and `new` are the words of the table before and after the call. `tree` and `tree'` are the word of the tree before and after the call. `status` is the
+-- status that the call returns
 module _ (old new : List RawThree) (tree tree' : RawRoot) (status : ℕ) where
-  -- ALL MEMBERS OF THE TREE `given` MOVE AFTER all members of the tree `tree`. `given` and `given'` are the word of the given tree before the call
-  -- and after it
+  -- the call moves all members of the tree `given` after all members of the tree `tree`. `given` and `given'` are the word of the tree `given` before and after
+  -- the call
   pub record AppendCall (given given' : RawRoot) : Type 0 where
     pub appended : (gap : Cut) → RepresentsBoth old tree given gap → IsAccepted status (Appends Represents (table_of old) (table_of new) (root_in tree') gap)
     pub shown : status ≡ OK → (gap : Cut) × RepresentsBoth old tree given gap
@@ -32,7 +31,7 @@ module _ (old new : List RawThree) (tree tree' : RawRoot) (status : ℕ) where
     pub why : status ≢ OK → status ≡ BROKEN
     pub is_status : IsStatus status
 
-  -- A PLACE IS INSERTED AFTER all members of the tree `tree`, and all members of the tree `given` move after the place
+  -- the call inserts `place` after all members of the tree `tree`, and moves all members of the tree `given` after `place`
   pub record JoinCall (place : Option Place) (given given' : RawRoot) : Type 0 where
     pub joined : (gap : Cut) (p : Place) → place ≡ Some p → RepresentsBoth old tree given gap → FreeIn old p
         → IsAccepted status (Inserts Represents (table_of old) (table_of new) (root_in tree') gap p)
@@ -46,8 +45,8 @@ module _ (old new : List RawThree) (tree tree' : RawRoot) (status : ℕ) where
     pub why : status ≢ OK → status ≡ refusal (fault_of old place ∷ [])
     pub is_status : IsStatus status
 
-  -- THE TREE IS CUT before the member `at` and keeps the members before `at`. The member `at` and all members after it become the tree `rest`, which
-  -- has to be empty before the call. `rest` and `rest'` are the word of this tree before the call and after it
+  -- the call cuts the tree `tree` before the member `at`. `tree` keeps the members before `at`. The member `at` and all members after `at` become the tree
+  -- `rest`, which must be empty before the call. `rest` and `rest'` are the word of this tree before and after the call
   pub record SplitCall (at : Option Place) (rest rest' : RawRoot) : Type 0 where
     pub split : (front back : List Place) (p : Place) → at ≡ Some p → RepresentsTree old tree (front ++ p ∷ back) → root_in rest ≡ None
         → IsAccepted status (Splits Represents (table_of old) (table_of new) (root_in tree') (root_in rest') front (p ∷ back))

@@ -1,4 +1,4 @@
-//! This module says why a place does not fit, by the words of the table alone.
+//! Functions that return the fault of a place. They read only the words of the table.
 //!
 //! ```text
 //! place_fault(table, place)  // OK: it is one of the table, and not linked

@@ -1,4 +1,4 @@
-//! Calls for C that are built on `ic_raw` and make one red-black tree of two, or two of one.
+//! Calls for C that are built on `ic_raw`. They make one red-black tree from two trees, or two trees from one.
 //!
 //! ```text
 //! tree_move_calls::append(table, tree, given)  // OK: the members of `given` come after those of `tree`, and `given` is empty

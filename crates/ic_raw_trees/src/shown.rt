@@ -43,10 +43,10 @@ impl KeyAdapter for Unkeyed {
     }
 }
 
-/// A tree that belongs to the caller.
+/// A tree whose words belong to the caller.
 pub(crate) type Tree = RBTree<Unkeyed>;
 
-// Returns the tree that its word represents.
+// Returns the tree whose root the word in `words` names.
 #[inline]
 pub(crate) fn tree_of(words: &RawRoot) -> Tree
     ensures { root_of result ≡ root_in words.now }
@@ -54,7 +54,7 @@ pub(crate) fn tree_of(words: &RawRoot) -> Tree
     RBTree::from_root(Unkeyed, place_in(words.root))
 }
 
-// Writes the word of a tree's root.
+// Writes the word of the root of `tree` into `words`.
 #[inline]
 #[tactic(auto, using(ic_raw::proofs::Entries::place_kept))]
 pub(crate) fn write_back(words: &mut RawRoot, tree: &Tree)

@@ -1,4 +1,4 @@
-//! This module has the calls that make one red-black tree of two, and two of one. All members stay linked.
+//! This module has the calls that make one red-black tree from two trees, and two trees from one. All members stay linked.
 //!
 //! ```text
 //! append(table, tree, given)  // OK: the members of `given` come after those of `tree`, and `given` is empty
@@ -14,8 +14,8 @@ use crate::shown::{has_member, represents_both, tree_of, write_back};
 use ic_raw::{BROKEN, MarkedTree, NULL, OK, OUT_OF_RANGE, RawRoot, RawThree, place_of};
 use ic_unsafe_ref::UnsafeRef;
 
-/// Moves all members of `given` after those of `tree`, in their order, and leaves `given` empty. O(n), because the call checks both trees first. The
-/// same edit in Rattle needs no check and takes O(log n), because types guarantee the links there.
+/// Moves all members of `given` after the members of `tree`, in their order, and leaves `given` empty. O(n), because the call checks both trees first. The same
+/// edit in Rattle needs no check and takes O(log n), because types guarantee the links there.
 ///
 /// The call compares no keys. If the words do not represent two trees that share no member, the call returns [`BROKEN`](ic_raw::BROKEN).
 pub fn append(table: &mut [RawThree], tree: &mut RawRoot, given: &mut RawRoot) -> u32
@@ -33,8 +33,8 @@ pub fn append(table: &mut [RawThree], tree: &mut RawRoot, given: &mut RawRoot) -
     OK
 }
 
-/// Inserts a place after all members of `tree`, and moves all members of `given` after this place, so that `given` is empty. O(n), because the call
-/// checks both trees first. The same edit in Rattle needs no check and takes O(log n), because types guarantee the links there.
+/// Inserts a place after all members of `tree`, moves all members of `given` after the inserted place, and leaves `given` empty. O(n), because the call checks
+/// both trees first. The same edit in Rattle needs no check and takes O(log n), because types guarantee the links there.
 ///
 /// The call compares no keys. The place must belong to the table and must not be linked. If the words do not represent two trees that share no
 /// member, the call returns [`BROKEN`](ic_raw::BROKEN).
@@ -60,9 +60,9 @@ pub fn join(table: &mut [RawThree], tree: &mut RawRoot, place: u32, given: &mut 
     OK
 }
 
-/// Keeps the members before the member `at`, and moves `at` and all members after it to `rest`, which has to be empty. The call returns
-/// [`NULL`](ic_raw::NULL) if `at` is [`NONE`](ic_raw::NONE). O(n), because the call checks the tree first. The same edit in Rattle needs no check and
-/// takes O(log n), because types guarantee the links there.
+/// Keeps the members before the member `at` in `tree`, and moves `at` and all members after `at` to `rest`, which must be empty. The call returns
+/// [`NULL`](ic_raw::NULL) if `at` is [`NONE`](ic_raw::NONE). O(n), because the call checks the tree first. The same edit in Rattle needs no check and takes
+/// O(log n), because types guarantee the links there.
 ///
 /// The call compares no keys. If the words do not represent a tree of which `at` is a member, or if `rest` has a root, the call returns
 /// [`BROKEN`](ic_raw::BROKEN).

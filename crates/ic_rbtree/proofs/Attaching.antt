@@ -41,8 +41,8 @@ ends o (x ∷ z ∷ s) p e h = let r = ends_on x z s p e in (x ∷ r.0, ap (λ (
   ends_on x z (y ∷ s) p e = let r = ends_on z y s p e in (z ∷ r.0, ap (λ (k : List Place). z ∷ k) r.1)
 
 module _ {E : Type 0} (n : E → Node) where
-  -- THE INSERT POSITION IN THE TREE: the member q has no child on side d. The tree around this insert position has the members `front` before the insert
-  -- position and `back` after the insert position
+  -- THE INSERT POSITION IN THE TREE: the member q has no child on side d. The tree has the members `front` before this insert position, and the members `back`
+  -- after it
   pub record InsertPos (base v : Table E) (root : Option Place) (d : Side) (q : Place) (front back : List Place) (ps : List Piece) : Type 0 where
     pub c : Color
     pub b : Tree
@@ -103,7 +103,7 @@ module _ {E : Type 0} (n : E → Node) where
         shape = record { black_root = refl; no_red_pair = (red_not_black, tt, tt); even = (refl, tt, tt) };
       }
 
-  -- a place that is inserted as a red child below the parent q becomes the red member from which the repair starts
+  -- a place that is inserted as a red child below the parent q is the red member at which the repair begins
   pub attached_red : {base v v4 v5 : Table E} {root : Option Place} (q : Place) (d : Side) (front back : List Place) (p : Place) {ps : List Piece}
       → n (v4.entry p) ≡ record (n (v.entry p)) { left = None; right = None; parent = Some q; color = Red } → ChangesOnly v v4 p → n (v5.entry q) ≡ with_child d (n (v4.entry q)) (Some p) → ChangesOnly v4 v5 q
       → (x : InsertPos base v root d q front back (loose p ∷ ps)) → RedAt n v5 root p (record { base = base; sequence = front ++ p ∷ back; frames = frame d x.c q x.b ∷ x.fs; subtree = fork Red leaf p leaf; pieces = ps })
@@ -148,7 +148,7 @@ module _ {E : Type 0} (n : E → Node) where
         | inr k ↦ omega (arith, one_at_other q p k, all q)
       ]
 
-  -- THE WHOLE INSERT: if p is linked and then put into the tree at the gap, the edit inserts p at this gap, as `Inserts` states
+  -- THE WHOLE INSERT: if p is linked and then inserted into the tree, the two changes together insert p at the gap, as `Inserts` states
   pub inserts : (old v w : Table E) (root new_root : Option Place) (p : Place) (gap : Cut)
       → ChangesOnly old v p → Represented n v w new_root (gap.front ++ p ∷ gap.back) []
       → Inserts (Represents n) old w new_root gap p

@@ -29,7 +29,7 @@ nearest_twice Left s = refl
 nearest_twice Right s = refl
 
 module _ {E : Type 0} (n : E → Node) where
-  -- if y is the outermost member on a side in any tree, it is the outermost member in a tree that is not too high
+  -- `IsOutermost`, which speaks of every tree, implies `IsOutermostWithin`, which speaks only of trees whose height is less than `turns`
   pub outermost_here : (v : Table E) {p : Place} {d : Side} {y : Place} → IsOutermost n v p d y → IsOutermostWithin n v p d y
   outermost_here v h base root fs t ps s e low = h base root fs t ps s e
 
@@ -37,7 +37,7 @@ module _ {E : Type 0} (n : E → Node) where
   nearest_here v d h base root fs t ps s e low = h base root fs t ps s e
 
   module _ {v : Table E} {root : Option Place} where
-    -- the root of a represented tree is the root of a subtree of a tree in the table
+    -- the root of a represented tree is the root of a subtree of a tree in the table, namely of the whole tree
     pub root_can : {s : List Place} {r : Place} → Represents n v root s → root ≡ Some r → IsInTree n v r
     root_can h is = let k = represented_of n h in (v, root, [], k.tree, [], k.stands, sym k.stands.are.0.1 ∙ is)
 
@@ -70,8 +70,8 @@ module _ {E : Type 0} (n : E → Node) where
       pub below_can : (d : Side) {q : Place} → child_on d (n (v.entry p)) ≡ Some q → IsInTree n v q
       below_can d is = (v, root, frame d x.c p (choose (across d) x.a x.b) ∷ x.fs, choose d x.a x.b, [], below_stands d, sym (child_is d) ∙ is)
 
-      -- if the member p has a child q on side d, the nearest member on this side is the outermost member at or below q on the other side. This member has
-      -- no child on the other side
+      -- if the member p has a child q on side d, the neighbor of p on side d is y, the outermost member at or below q on the other side. y has no child on the
+      -- other side
       below_end : (d : Side) {q y : Place} → child_on d (n (v.entry p)) ≡ Some q → IsOutermostWithin n v q (across d) y
           → (nearest d (choose d front back) ≡ Some y) × (child_on (across d) (n (v.entry y)) ≡ None)
       below_end d {q} is outermost =
@@ -85,7 +85,7 @@ module _ {E : Type 0} (n : E → Node) where
             e.childless,
           )
 
-      -- if the member p has no child on side d, the nearest member on this side is the nearest member above p on this side
+      -- if the member p has no child on side d, its neighbor on this side is the nearest member above p on this side
       above_end : (d : Side) {r : Option Place} → child_on d (n (v.entry p)) ≡ None → IsNearestAboveWithin n v p d r → r ≡ nearest d (choose d front back)
       above_end d none nearest_above =
           let bare : choose d x.a x.b ≡ leaf = top_leaf (choose d x.a x.b) (sym (child_is d) ∙ none) in
@@ -106,8 +106,8 @@ module _ {E : Type 0} (n : E → Node) where
           subst (λ z. IsInsertPos n v (Some y) z gap) (sym other)
           (e.1, is_beside d gap (Some y) (sym (ap (nearest d) (beside_null d gap here) ∙ sym (nearest_twice d (join gap)) ∙ e.0)))
 
-      -- if the member p has a child on side d, the insert position at the gap beside p is below y. The member y is the outermost member at or below this
-      -- child, on the other side
+      -- if the member p has a child on side d, the insert position at the gap beside p is below y, the outermost member at or below this child on the other
+      -- side
       pub member_end : {k : Side} (p : Place) {q y : Place} → k ≡ across d → IsBeside d gap (Some p) → child_on d (n (v.entry p)) ≡ Some q → IsOutermostWithin n v q k y → IsInsertPos n v (Some y) k gap
       member_end {k} p {q} {y} other here is outermost =
           let m = beside_member d gap p here in

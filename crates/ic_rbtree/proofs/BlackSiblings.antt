@@ -1,4 +1,4 @@
--- The cases of a black sibling: one of its children is rotated up, or the sibling turns red.
+-- Lemmas about the cases 2, 3 and 4 of the repair after a removal, in which the sibling of the short subtree is black.
 use Rattle.std.proofs.Common.{◌≡◌, ◌⊎◌, inl, inr, Bool, true, false, ◌||◌, Option, Some, List, ◌∷◌, refl, sym, ap, ◌∙◌, subst}
 use Rattle.ic_link_ops.specs.Prelude.{Place, Table, ChangesOnly}
 use Rattle.ic_link_ops.specs.declared.color.Color.{Color}
@@ -249,7 +249,7 @@ module _ {E : Type 0} (n : E → Node) where
             shape = short_ends k.frames d q o.0 w o.1 k.subtree (subst (λ (x : Color). IsShort (frame d x q (branch d Black o.0 w o.1) ∷ k.frames) k.subtree) red (opened h).short) r.0 r.1;
           }
 
-  -- if no red sibling was rotated up, the frames below which the subtree at q is short are the old frames
+  -- if the subtree with the root q is short after the step, no red sibling was rotated above q, and the frames above q are the old frames
   pub risen : {w : Table E} {root : Option Place} {q : Place} {c : Color} (k : Focus E) {fs : List Frame} (done : Bool) → done ≡ is_red c → done ≡ false → (c ≡ Red) ⊎ (fs ≡ k.frames)
       → (t : Tree) × Rises n w root q (record k { frames = fs; subtree = t }) → (t : Tree) × Rises n w root q (record k { subtree = t })
   risen k done e off (inl red) r = let m : true ≡ false = sym (ap is_red red) ∙ (sym e ∙ off) in cc

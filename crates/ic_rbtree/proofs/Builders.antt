@@ -24,7 +24,7 @@ use Rattle.ic_rbtree.proofs.Low.{represented_low}
 use Rattle.ic_rbtree.proofs.Members.{stands_of}
 use Rattle.ic_rbtree.proofs.Vines.{nothing_black, vine_from, vine_glue, vine_beside}
 
--- if a sequence has a last member, another sequence appended after it does not change the first member
+-- if a sequence has a member, another sequence appended to it does not change its first member
 first_still : (s : List Place) (q : Place) (t : List Place) → last s ≡ Some q → first (s ++ t) ≡ first s
 first_still [] q t e = absurd (none_not q e)
 first_still (x ∷ s) q t e = refl
@@ -93,7 +93,7 @@ module _ {E : Type 0} (n : E → Node) where
           frame = record { extent = only2.extent ∙ only1.extent; others = others };
         }
 
-  -- THE FIRST MEMBER IS REMOVED from a vine: the other members stay in the vine if no entry but that of the first member is changed
+  -- THE FIRST MEMBER IS REMOVED from a vine: the other members stay in the vine if only the entry of the first member is changed
   pub front_taken : {v w : Table E} {front back next : Option Place} (s : List Place) → RepresentsVine n v (list_head front back) s → {p : Place} → front ≡ Some p
       → next ≡ (n (v.entry p)).right → ChangesOnly v w p → Removes (RepresentsVine n) v w (list_head next (end_of next None back)) (at_front s)
   front_taken [] x {p} is read only = absurd (none_not p (sym x.head ∙ is))

@@ -1,4 +1,5 @@
--- A climb along the parents tests whether a place is a member. A path down a tree is short, and the parent and the children of a member are members.
+-- Lemmas about the climb along the parents that tests whether a place is a member. A path down a tree is short, and the parent and the children of a member are
+-- members.
 use Rattle.std.proofs.Common.{◌≡◌, ℕ, ◌+◌, ◌^◌, ◌≤◌, true, Option, Some, None, List, [], ◌∷◌, length, refl, sym, ap, ◌∙◌, subst, arith, inl, inr, ◌⊎◌, eq-eqb}
 use Rattle.ic_link_ops.specs.Prelude.{Place, index_of, IsMember, Table, IsCovered}
 use Rattle.ic_link_ops.specs.declared.color.Color.{Color}
@@ -26,8 +27,7 @@ pub is_end_there : {end : Option Place} {p : Place} → end ≡ Some p → is_en
 is_end_there {end} {p} e = rw e (eq-eqb (index_of p) (index_of p) refl)
 
 module _ {E : Type 0} (n : E → Node) where
-  -- THE CLIMB: the member p is the root of a subtree below the frames fs. The number of these frames and the number of steps that were made are together at
-  -- most 65
+  -- THE CLIMB: the member p is the root of a subtree below the frames fs. The number of these frames, plus the number of steps that were made, is at most 65
   pub record Climbs (v : Table E) (root : Option Place) (p : Place) (steps : ℕ) : Type 0 where
     pub fs : List Frame
     pub t : Tree

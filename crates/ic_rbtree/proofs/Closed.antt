@@ -99,7 +99,7 @@ module _ {E : Type 0} (n : E → Node) where
       pick None b k = tt
       pick (Some x) b k = k
 
-    -- a place in the closed set S and its children are linked, so that they can be read
+    -- each place in the closed set S and its children are linked, so that a repair can read their entries
     pub closed_read : (p : Place) → S p ≡ true → AreRead n v p
     closed_read p m = record {
       here = h.linked p m;

@@ -62,7 +62,7 @@ lowest [] d p e on = absurd (none_not p (sym e))
 lowest (frame k c q b ∷ gs) d p e on = (c, b, gs, ap (λ z. frame k c z b ∷ gs) (sym (some_same e)) ∙ ap (λ z. frame z c p b ∷ gs) (sym on))
 
 module _ {E : Type 0} (n : E → Node) where
-  -- A SUBTREE IS DETACHED if one write to its root q clears the parent of q and turns q black
+  -- A SUBTREE IS DETACHED by one write to its root q, which clears the parent of q and turns q black
   pub detaches_some : {v w : Table E} {height : ℕ} {alone : Measured} (q : Place) (child : Option Place) → child ≡ Some q → alone.root ≡ child
       → alone.height ≡ height + 1 - weight (n (v.entry q)).color
       → n (w.entry q) ≡ record (n (v.entry q)) { parent = None; color = Black } → ChangesOnly v w q → Detaches n v w child height alone
@@ -79,7 +79,7 @@ module _ {E : Type 0} (n : E → Node) where
   detaches_none child is root tall base up leaf ps e high h = (regroup n (below None leaf ∷ ps) h (λ q. refl) (tt, h.are.1), record { root_is = root ∙ e; height_is = tall ∙ high })
   detaches_none child is root tall base up (fork c a p b) ps e high h = absurd (none_not p (sym is ∙ e))
 
-  -- the side of its parent on which the table has the place p is the side of the lowest frame
+  -- if the table has the place p on side i of its parent, the lowest frame is on side i
   side_there : (v : Table E) (fs : List Frame) (i : Side) (p : Place) → IsAround n v.entry fs (Some p) → times_around p fs ≡ 0
       → ((q : Place) → above fs ≡ Some q → IsSideOf n v p q i) → IsOn i fs
   side_there v [] i p a none tells = tt
@@ -90,7 +90,7 @@ module _ {E : Type 0} (n : E → Node) where
       let m : top b ≡ Some p = sym (side_far n v.entry Right q c (Some p) (top b) (above fs) a.0) ∙ tells q refl in
       absurd (omega (arith, none, times_top p b m))
 
-  -- AT THE MEMBER p above the insert position: the lowest frame is that of p, with the other subtree b of p
+  -- AT THE MEMBER p above the insert position: the lowest frame is a frame of p, and b is the subtree of p on the other side
   module _ {v : Table E} {root : Option Place} {left right : Measured} {k : CutUp E} (x : IsCutUp n v root left right k)
       (d : Side) (c : Color) (p : Place) (b : Tree) (fs : List Frame) (is : k.frames ≡ frame d c p b ∷ fs) where
     here : IsCutUp n v root left right (record k { frames = frame d c p b ∷ fs })
@@ -119,7 +119,7 @@ module _ {E : Type 0} (n : E → Node) where
     pub lowest_weighs : {w : ℕ} → w ≡ weight (n (v.entry p)).color → w ≡ weight c
     lowest_weighs e = e ∙ ap weight (side_tint n v.entry d p c k.named (top b) (above fs) here.held.are.0.0.0)
 
-    -- the other subtree b of the member p has been detached as a tree of its own
+    -- b, the subtree of p on the other side, has been detached as a tree of its own
     module _ {w : Table E} {rest : Option Place} {height : ℕ} {alone : Measured} (re : rest ≡ top b) (level : height ≡ k.count) (off : Detaches n v w rest height alone) where
       apart_is : Held n k.base w (below None (blackened b) ∷ others) × IsMeasured alone (blackened b)
       apart_is = off k.base (Some p) b others re (level ∙ sym here.even.0) opened
@@ -127,8 +127,8 @@ module _ {E : Type 0} (n : E → Node) where
       apart : Held n k.base w (below None (blackened b) ∷ others)
       apart = apart_is.0
 
-      -- the member p and its other subtree can be joined to a part. If the insert position is left of p, they can be joined to the part after the insert
-      -- position
+      -- the member p and its subtree on the other side can be joined to a part. If the insert position is left of p, they can be joined to the part after the
+      -- insert position
       abbrev pub back_pair : Pair E
       back_pair = record { base = k.base; one = k.back; two = blackened b; pieces = around root fs (Some p) ∷ below None k.front ∷ k.pieces }
 
@@ -166,8 +166,8 @@ module _ {E : Type 0} (n : E → Node) where
         two_height = x.left_is.height_is;
       }
 
-      -- THE JOIN IS MADE: if the insert position is left of p, then p and its other subtree are joined to the part after the insert position. The loop's
-      -- invariant holds again
+      -- THE JOIN IS MADE: if the insert position is left of p, then p and its subtree on the other side are joined to the part after the insert position. The
+      -- loop's invariant holds again
       pub cut_back : {u : Table E} {new : Measured} → d ≡ Left → IsJoined n k.base u new (in_order k.back ++ p ∷ in_order (blackened b)) back_pair.pieces
           → (front back : Tree) × IsCutUp n u root left new (record k { frames = fs; named = Some p; count = weight c + k.count; front = front; back = back })
       cut_back {u} {new} left_side (h, tall) = (
@@ -223,7 +223,7 @@ module _ {E : Type 0} (n : E → Node) where
     pub next_side : (i : Side) → ((q : Place) → above fs ≡ Some q → IsSideOf n v p q i) → IsOn i fs
     next_side i tells = side_there v fs i p here.held.are.0.0.2 (omega (arith, here.held.once p, one_at_self p)) tells
 
-  -- THE LOOP BEGINS at an insert position of a represented tree, with two empty parts
+  -- THE LOOP BEGINS: its invariant holds at an insert position of a represented tree, with two empty parts
   pub begins : {base v : Table E} {root : Option Place} {d : Side} {gap : Cut} {ps : List Piece} (parent : Option Place) → Represented n base v root (join gap) ps → IsInsertPos n v parent d gap
       → IsCutting n base v root parent d 0 nothing nothing gap ps turns
   begins {base} {v} {root} {d} {gap} {ps} None h at =

@@ -21,7 +21,7 @@ use Rattle.ic_rbtree.specs.EachObject.{HasEach}
 use Rattle.ic_rbtree.proofs.SortedKeys.{sorted_without}
 
 module _ {V A : Type 0} {key_of : V → ℕ} {w : TreeLinkOps A} {root : Option Place} {objects : Objects V} where
-  -- AT FIRST, no place is linked, no object is placed and the root is none, so the empty tree has each object
+  -- a tree without a root has each object if no place is linked and no object is placed
   pub each_none : ((p : Place) → IsUnlinked is_linked (plain_table w) p) → root ≡ None → ((p : Place) → object_at objects p ≡ None) → HasEach key_of w root objects []
   each_none free none vacant = record {
     sorted = has_none plain_trees nat_cmp_total objects none free;
@@ -41,7 +41,7 @@ module _ {V A : Type 0} {key_of : V → ℕ} {w : TreeLinkOps A} {root : Option 
     each_ready {more} {p} places =
         let has = has_beside plain_trees nat_cmp_total each.sorted {new = more} (vacant_free p places.vacant) (others_placed places) in record { members = has.members; shown = has.shown; placed = has.stand.placed }
 
-    -- A NEW OBJECT at p is inserted in order, so the tree has each object again, and its list of values has one value more
+    -- if a new object at p is inserted in order, the tree has each object again, and its list of values has one value more
     pub each_new : {more : Objects V} {p : Place} {r : V} {v : TreeLinkOps A} {top : Option Place} → Places objects more p r
         → ((s : List Place) → PlainRepresents w root s → InsertsInOrder RepresentsTree (compared (own_order nat_cmp key_of more p) more) (plain_table w) (plain_table v) top s p)
         → LinksAlso is_linked (plain_table w) (plain_table v) p → (all : List V) × InsertsValue nat_cmp key_of values r all × HasEach key_of v top more all
@@ -56,7 +56,7 @@ module _ {V A : Type 0} {key_of : V → ℕ} {w : TreeLinkOps A} {root : Option 
           },
         )
 
-    -- AN OBJECT AT THE PLACE p has p among the members of the tree, and its value `out` among the values
+    -- if an object with the value `out` is at the place p, then p is a member of the tree, and `out` is among the values of the tree
     module _ (p : Place) {out : V} (there : object_at objects p ≡ Some out) where
       pub each_linked : IsLinked is_linked (plain_table w) p
       each_linked = each.exact p ∙ ap is_some there
@@ -72,7 +72,7 @@ module _ {V A : Type 0} {key_of : V → ℕ} {w : TreeLinkOps A} {root : Option 
       pub at_each : (P : V → Type 0) → AllByRecursion P values → P out
       at_each P all = let m = each_member in (all_back P (values_at objects m.0) (out ∷ values_at objects m.1) (subst (AllByRecursion P) (each_value m.0 m.1 m.2) all)).0
 
-      -- AN OBJECT IS TAKEN OUT: its place p is removed from the tree and unlinked, and the tree has each of the other objects
+      -- if the object at p is removed, and the place p is removed from the tree and unlinked, the tree has each of the other objects
       module _ {new : Objects V} {v : TreeLinkOps A} {top : Option Place} (removed : (front back : List Place) → PlainRepresents w root (front ++ p ∷ back) → PlainRepresents v top (front ++ back))
           (off : Unlinks is_linked (plain_table w) (plain_table v) p) (frees : Frees objects new p) where
         pub each_taken : (front : List V) × (back : List V) × (values ≡ front ++ out ∷ back) × HasEach key_of v top new (front ++ back)

@@ -43,8 +43,8 @@ above_nearest Left (frame Right c p b ∷ fs) on = cc
 above_nearest Right (frame Left c p b ∷ fs) on = cc
 above_nearest Right (frame Right c p b ∷ fs) on = sym (nearest_frame Left c p b fs)
 
--- if no member is beyond the subtree t on side d, the end of the whole tree is the end of t. If t is empty, the end is the nearest member beyond t on the
--- other side
+-- if no member is beyond the subtree t on side d, the end of the whole tree on side d is the end of t. If t is empty, the end is the nearest member beyond t on
+-- the other side
 end_around : (d : Side) (fs : List Frame) (t : Tree) → beyond d fs ≡ []
     → end_on d (in_order (plug fs t)) ≡ nearest_or (across d) (in_order t) (nearest (across d) (beyond (across d) fs))
 end_around Left fs t e =
@@ -53,7 +53,7 @@ end_around Right fs t e =
     ap last (in_order_parts fs t ∙ ap (λ (s : List Place). before fs ++ (in_order t ++ s)) e ∙ ap (λ (s : List Place). before fs ++ s) (append-nil (in_order t)))
     ∙ last_or-append None (before fs) (in_order t)
 
--- if a list has no member at its end, the list without this end is the list itself
+-- if a list has no member at its end on side d, it is empty, and the list without this end is the same list
 pub none_others : (d : Side) (w : List Place) → end_on d w ≡ None → others_on d w ≡ w
 none_others Left [] e = refl
 none_others Left (x ∷ w) e = absurd (none_not x (sym e))
@@ -90,14 +90,14 @@ module _ {E : Type 0} (n : E → Node) where
   hangs_none v parent to d is base root [] was x ps e on ex h = regroup n (around x [] x ∷ ps) h (λ q. refl) ((tt, refl), h.are.1)
   hangs_none v parent to d is base root (frame k c p b ∷ fs) was x ps e on ex h = absurd (none_not p (sym is ∙ e))
 
-  -- THE NEXT END of a tree is the outermost member at or below the child q, if there is a child
+  -- if the child `child` is the place q, the new end of the tree on side d is y, the outermost member at or below q
   pub outer_below : (v : Table E) (q y : Place) (child parent : Option Place) (d : Side) → child ≡ Some q → IsOutermost n v q d y → IsOuter n v child parent d (Some y)
   outer_below v q y child parent d is out base root fs t ps st ec ep bare =
       let here : top t ≡ Some q = sym ec ∙ is in
       sym (out base root fs t ps st here).nearest_is ∙ nearest_plain (across d) (in_order t)
       ∙ nearest_there (across d) t q None (nearest (across d) (beyond (across d) fs)) here ∙ sym (end_around d fs t bare)
 
-  -- if there is no child, the next end of a tree is the parent
+  -- if `child` is none, the new end of the tree on side d is `parent`
   pub outer_above : (v : Table E) (child parent : Option Place) (d : Side) → child ≡ None → IsOuter n v child parent d parent
   outer_above v child parent d none base root fs t ps st ec ep bare =
       let empty : in_order t ≡ [] = ap in_order (top_leaf t (sym ec ∙ none)) in
@@ -181,7 +181,7 @@ module _ {E : Type 0} (n : E → Node) where
     pub parent_linked : (parent : Option Place) → parent ≡ above x.fs → (q : Place) → parent ≡ Some q → (n (v.entry q)).linked ≡ true
     parent_linked parent ep q is = around_linked n v.entry x.fs (Some p) q open_end.are.1.1.1.0.0 (sym ep ∙ is)
 
-    -- THE WRITES that remove the member at an end: its child gets the parent of the member, and the parent gets this child
+    -- THE MEMBER AT AN END IS REMOVED by two writes: its child gets the parent of the member, and this parent gets the child
     module _ {v1 v2 : Table E} {child parent : Option Place} (ec : child ≡ top x.b) (ep : parent ≡ above x.fs) (f1 : Adopts n v v1 child parent) (f2 : Hangs n v1 v2 parent d child) where
       pub off : ClimbState n v v2 (topmost x.fs (top x.b)) x.fs x.b (loose p ∷ [])
       off =

@@ -110,8 +110,8 @@ last_replaced front (y ∷ back) out p {end} d e =
     let gone : IsAbsent out (y ∷ back) = (distinct_right front (out ∷ y ∷ back) d).0 in
     for_other p (λ k. last_not (Some y) back out (λ same. gone.0 (sym (some_same same))) gone.1 (sym there ∙ k)) ∙ (there ∙ sym (last_or-append None front (p ∷ y ∷ back)))
 
--- TWO SEQUENCES ARE JOINED with the member p between them: the first member is that of the first sequence, and the last member is that of the second. If
--- one of the two is empty, p is the end there
+-- TWO SEQUENCES ARE JOINED with the member p between them. The first member is that of the first sequence, or p if the first sequence is empty. The last member
+-- is that of the second sequence, or p if the second sequence is empty
 pub first_around : (s t : List Place) (p : Place) {a : Option Place} → a ≡ first s → option_or a (Some p) ≡ first (s ++ p ∷ t)
 first_around [] t p e = ap (λ z. option_or z (Some p)) e
 first_around (x ∷ s) t p e = ap (λ z. option_or z (Some p)) e
@@ -127,7 +127,8 @@ pub last_around : (s t : List Place) (p : Place) {a : Option Place} → a ≡ la
 last_around s [] p e = ap (λ z. option_or z (Some p)) e ∙ sym (last_of_push s p)
 last_around s (y ∷ t) p e = ap (λ z. option_or z (Some p)) e ∙ (or_last y t (Some p) ∙ sym (last_or-append None s (p ∷ y ∷ t)))
 
--- A SEQUENCE IS SPLIT before the member p: the first part has the old first member, if it is not empty, and the second part has the old last member
+-- A SEQUENCE IS SPLIT before the member p: the first part begins with the old first member, unless this part is empty. The second part ends with the old last
+-- member
 first_kept : (s t : List Place) (p : Place) → option_and (last s) (first (s ++ p ∷ t)) ≡ first s
 first_kept [] t p = refl
 first_kept (x ∷ s) t p = by (last (x ∷ s)) refl where

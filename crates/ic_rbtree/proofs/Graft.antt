@@ -1,4 +1,4 @@
--- A place is inserted into a tree with another tree below the place. The lemmas follow the order of the writes.
+-- A place is inserted into a tree together with a second tree, which becomes a subtree of the place. The lemmas follow the order of the writes.
 use Rattle.std.proofs.Common.{◌≡◌, ◌+◌, Bool, true, Option, Some, None, List, [], ◌∷◌, ◌++◌, refl, sym, ap, ◌∙◌, subst, arith}
 use Rattle.ic_link_ops.specs.Prelude.{Place, Table, ChangesOnly}
 use Rattle.ic_link_ops.specs.declared.color.Color.{Color}

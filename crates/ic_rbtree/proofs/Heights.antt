@@ -56,7 +56,7 @@ height_few t r =
     let b = mul-le-mul few few in
     omega (arith, a, b, pow-add 2 (blacks t) (blacks t), square (length (in_order t) + 1))
 
--- a tree with a red root has two subtrees of its own black height b, so it has at least twice 2 ^ b members, less one
+-- a tree with a red root has two subtrees, and both have the black height b of the tree. So the tree has at least 2 * 2 ^ b - 1 members
 red_many : (t : Tree) → IsEven t → top_color t ≡ Red → 2 ^ blacks t + 2 ^ blacks t ≤ length (in_order t) + 1
 red_many leaf e r = cc
 red_many (fork Black a p b) e r = cc
@@ -94,8 +94,7 @@ twice_few h b m low many =
     let wide : (2 ^ b + 2 ^ b) * (2 ^ b + 2 ^ b) ≤ m * m = mul-le-mul many many in
     omega (arith, a, e, wide, square m, add-mul (2 ^ b) (2 ^ b) (2 ^ b + 2 ^ b), mul-add (2 ^ b) (2 ^ b) (2 ^ b))
 
--- ONE COMPARISON MORE than a longest path has members is within the bound. If a path below the root has two members for each black member, the tree has
--- half as many members again
+-- ONE COMPARISON MORE than a longest path has members is still within the bound of a descent
 pub height_fewer : (t : Tree) → IsRight t → 1 ≤ length (in_order t) → 2 ^ (height t + 1) ≤ (length (in_order t) + 1) ^ 2
 height_fewer leaf r some = absurd (omega (arith, some))
 height_fewer (fork Red a p b) r some = let k = r.black_root in cc

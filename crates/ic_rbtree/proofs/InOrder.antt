@@ -95,7 +95,7 @@ module _ {L E H : Type 0} {Represents : Table E → H → List Place → Type 0}
         λ absent. split_member m.front q m.back (subst (IsAbsent q) x.same (absent_without x.gap.front x.gap.back p q absent)) in
         stands_on (has_member (RepresentsAt Represents table new) (insert x.gap p) x.inserted.shows member) (same ∙ e)
 
-  -- an insert in order or a refusal of it gives what `InsertsAmong` states. `X` is what a refusal states besides that the head stays
+  -- if a call makes an insert in order or refuses it, its result is as `InsertsAmong` states. After a refusal the head is as it was, and X holds
   pub put_among : {Refused : L → L → Place → Type 0} → ((a b : L) (q : Place) → Refused a b q → table b ≡ table a) → Standing.IsValidCursor Represents table old → new.position ≡ old.position
       → {T : Type 0} (X : Type 0) {Trace : L → L → List LinkStep → Type 0} (b : Bool) → OnTrue b (Trace old.links new.links (acquires p ∷ [])) → OnFalse b (Refused old.links new.links p)
       → OnFalse b ((new.head ≡ old.head) × X)

@@ -53,12 +53,12 @@ not_red Black h = refl
 pub red_not_black : {A : Type 0} → Black ≡ Red → A
 red_not_black h = cc
 
--- if there is no frame, any number of black members is right for the frames, because nothing is beside the subtree
+-- if the frames fit a subtree with m black members on each path, and m equals n or there is no frame, they also fit a subtree with n black members on each path
 pub even_wanted : (fs : List Frame) (m n : ℕ) → (wanted fs ≡ Red → m ≡ n) → EvenAround fs m → EvenAround fs n
 even_wanted [] m n e h = tt
 even_wanted (f ∷ fs) m n e h = subst (λ (k : ℕ). EvenAround (f ∷ fs) k) (e refl) h
 
--- CASE 1: both children of the grandparent g are red and turn black
+-- CASE 1: both children of the grandparent g are red and turn black. g turns red unless it is the root
 pub recolored : (fs : List Frame) (d : Side) (q : Place) (b : Tree) (k : Side) (c : Color) (g : Place) (ua : Tree) (u : Place) (ub : Tree) (t : Tree) →
     IsNearlyRight (frame d Red q b ∷ frame k c g (fork Red ua u ub) ∷ fs) t →
     IsNearlyRight fs (branch k (wanted fs) (branch d Black t q b) g (fork Black ua u ub))
@@ -105,7 +105,7 @@ restored fs d q b c g u t n uncle =
     (let e : weight c + (0 + blacks t) ≡ blacks (branch d Black t q low) = omega (arith, heavy, all) in subst (λ (k : ℕ). EvenAround fs k) e ea.2.2)
     (λ r. top_color_branch d Black t q low)
 
--- CASE 2: the lower member of the red pair is an inner grandchild. A rotation makes it the parent of an outer grandchild
+-- CASE 2: the lower member x of the red pair is an inner grandchild. A rotation makes x the parent of an outer grandchild
 pub inner_rotated : (fs : List Frame) (d : Side) (q : Place) (b : Tree) (f : Frame) (ta : Tree) (x : Place) (tb : Tree) →
     IsNearlyRight (frame (across d) Red q b ∷ f ∷ fs) (branch d Red ta x tb) →
     IsNearlyRight (frame d Red x tb ∷ f ∷ fs) (branch d Red b q ta)

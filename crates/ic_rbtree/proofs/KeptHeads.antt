@@ -91,7 +91,7 @@ pub insert_pos_below : {E : Type 0} (n : E → Node) (v : Table E) (parent : Opt
 insert_pos_below n v None d gap h = h
 insert_pos_below n v (Some q) d gap h = h.1
 
--- a probe that has made no comparison can count those of an insert without an overflow
+-- a probe that has made no comparison can count the comparisons of an insert without an overflow
 pub room_new : (k : Kept) → HasRoomFor k 0
 room_new (alone root) = omega arith
 room_new (ended e) = omega arith

@@ -1,4 +1,4 @@
--- Laws for callers: in a sorted sequence, the border of a key is an end of the members that a filter keeps.
+-- Laws for callers: in a sorted sequence, the border of a key or of a bound is the first or the last of the members that a filter keeps.
 use Rattle.std.proofs.Common.{◌≡◌, ◌≢◌, Bool, true, false, cond, Option, Some, None, List, [], ◌∷◌, ◌++◌, map, IsSome, refl, sym, ap, ◌∙◌, subst, append_assoc, append-nil, true≢false}
 use Rattle.std.proofs.lemmas.Bool.{not-true, not-false}
 use Rattle.std.specs.Cmp.{IsTotalOrder, alike_right, upto}
@@ -21,7 +21,7 @@ pub record Cuts (test : Place → Bool) (s : List Place) : Type 0 where
   pub fail : AllByRecursion (λ p. test p ≡ false) front
   pub pass : AllByRecursion (λ p. test p ≡ true) back
 
--- the last member of a part at the start of a sequence is a member of the sequence, so what holds for all members holds for it
+-- what holds for all members of a sequence holds for the last member of the part at its start
 pub last_all : {P : Place → Type 0} (p : Place) (x y : List Place) → AllByRecursion P (p ∷ x ++ y) → (q : Place) × (last (p ∷ x) ≡ Some q) × P q
 last_all p [] y h = (p, refl, h.0)
 last_all p (z ∷ x) y h = last_all z x y h.1
@@ -78,7 +78,7 @@ upper_is {b} {s} {o} k x =
     x.after ∙ ap last r.0 ∙ sym (ap last (ap (filter (meets_upper b)) (sym k.same)
     ∙ filter_front (meets_upper b) k.front k.back (all_map (λ p h. not-false (meets_upper b p) h) k.front k.fail) (all_map (λ p h. not-true (meets_upper b p) h) k.back k.pass)))
 
--- IN A SEQUENCE SORTED for the searched key, two tests cut it: whether the key is at most the member, and whether the key is less than the member
+-- a sequence that is sorted for the searched key is cut by two tests: whether the key is at most the member, and whether the key is less than the member
 module _ {at : Place → Ordering} {s : List Place} (sorted : IsSortedFor at s) where
   abbrev pub cuts_at_most : Cuts (at_most_at at) s
   cuts_at_most = record {
@@ -98,7 +98,7 @@ module _ {at : Place → Ordering} {s : List Place} (sorted : IsSortedFor at s) 
     pass = all_map (λ p h. ap is_lt h) sorted.larger sorted.is_less;
   }
 
-  -- THE FIRST MEMBER that is equal to the searched key is what the search finds
+  -- THE SEARCH FINDS the first member that is equal to the searched key
   pub found_is : {o : Option Place} → Finds at s o → o ≡ first (filter (equal_at at) s)
   found_is x =
       let k = cuts_at_most in

@@ -26,7 +26,7 @@ pub end_placed : {T : Type 0} (objects : Objects T) (s : List Place) → ArePlac
 end_placed objects s placed None is = tt
 end_placed objects s placed (Some p) is = last_placed objects s placed (sym is)
 
--- if an optional place is the last member whenever it is a place, and it is the place p, then it is the last member
+-- if o is none or the last member of s, and o is the place p, then o is the last member of s
 pub last_there : (s : List Place) (o : Option Place) {p : Place} → IfSome o (λ p. last s ≡ Some p) → o ≡ Some p → o ≡ last s
 last_there s None {p} tells is = absurd (none_not p is)
 last_there s (Some q) tells is = sym tells
@@ -44,7 +44,7 @@ pub one_look : (o : Option Place) → looks_there o ≤ 1
 one_look None = omega arith
 one_look (Some p) = omega arith
 
--- if there is a member, the square of the number of members plus one is at least the square of two
+-- if s has a member, (length s + 1) ^ 2 is at least 2 ^ 2
 square : (s : List Place) → 1 ≤ length s → 2 ^ 2 ≤ (length s + 1) ^ 2
 square s some = let k : 2 ≤ length s + 1 = omega (arith, some) in pow-le-pow_left k 2
 
@@ -57,14 +57,14 @@ few_last s (Some p) is = record { few = omega (arith, square s (has_some s is));
 pub few_there : (s : List Place) (k : ℕ) → 1 ≤ length s → k ≤ 2 → 2 ^ k ≤ 2 * (length s + 1) ^ 2
 few_there s k some most = let a : 2 ^ k ≤ 2 ^ 2 = pow_mono most in let b = square s some in omega (arith, a, b)
 
--- two comparisons at a hint and those of a descent after them are together within the bound of an insert with a hint
+-- two comparisons at a hint, together with the comparisons of a descent after them, are within the bound of an insert with a hint
 pub few_after : (s : List Place) (k looks : ℕ) → k ≤ 2 → 2 ^ (looks + 1) ≤ (length s + 1) ^ 2 → 2 ^ (k + looks) ≤ 2 * (length s + 1) ^ 2
 few_after s k looks most fewer =
     let a : 2 ^ (k + looks) ≤ 2 ^ suc (looks + 1) = pow_mono (omega (arith, most)) in
     let b : 2 ^ suc (looks + 1) ≡ 2 ^ (looks + 1) * 2 = pow-suc 2 (looks + 1) in
     omega (arith, a, b, fewer)
 
--- A MEMBER IS AT THE POSITION, and the searched key is not less than the member
+-- if `after_there` is true, a member p is at the position o, and the searched key is not less than p
 pub after_some : (at : Place → Ordering) (o : Option Place) → after_there at o ≡ true → (p : Place) × (o ≡ Some p) × (less_at at p ≡ false)
 after_some at None e = cc
 after_some at (Some p) e = (p, refl, not_true (less_at at p) e) where
@@ -90,7 +90,7 @@ not_after : (at : Place → Ordering) (s : List Place) (o : Option Place) {looks
 not_after at s o is away there = absurd (true≢false (sym there ∙ (ap (after_there at) (sym is) ∙ away)))
 
 module _ {P V : Type 0} (order : P → V → Ordering) (count : P → ℕ) (objects : Objects V) where
-  -- THE COMPARISONS OF AN INSERT after the last member are as many as `InsertLooks` states
+  -- an insert after the stored last member makes as many comparisons as `InsertLooks` states
   pub looks_after : (k : Kept) (s : List Place) (o : Option Place) {old new : P} → o ≡ last_kept k → TellsEnds k s → after_there (compared (order old) objects) o ≡ true
       → count new ≡ count old + looks_there o → order new ≡ order old → InsertLooks order count k objects old new s
   looks_after (alone root) s None kept ends after counted same = cc
@@ -98,7 +98,7 @@ module _ {P V : Type 0} (order : P → V → Ordering) (count : P → ℕ) (obje
   looks_after (ended e) s None kept ends after counted same = cc
   looks_after (ended e) s (Some p) kept ends after counted same = record { looks = 1; counted = counted; few = few_last s (Some p) (kept ∙ ends.1); at_last = λ _. refl; order_is = same }
 
-  -- the comparisons of an insert that makes a descent are as many as `InsertLooks` states
+  -- an insert that makes a descent makes as many comparisons as `InsertLooks` states
   pub looks_below : (k : Kept) (s : List Place) (o : Option Place) {old mid new : P} → o ≡ last_kept k → TellsEnds k s → after_there (compared (order old) objects) o ≡ false
       → count mid ≡ count old + looks_there o → order mid ≡ order old → Looks order count mid new s → InsertLooks order count k objects old new s
   looks_below (alone root) s None kept ends away counted same x =

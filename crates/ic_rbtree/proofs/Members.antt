@@ -36,7 +36,7 @@ module _ {E : Type 0} (n : E → Node) where
     extent = refl;
   }
 
-  -- the tree that is read from the entries below the root of a tree is the tree itself
+  -- if a tree has at most k members, `tree_below` reads the same tree from the entries at and below its root
   tree_read : (entry : Place → E) (up : Option Place) (t : Tree) (k : ℕ) → IsTree n entry up t → length (in_order t) ≤ k → tree_below n entry k (top t) ≡ t
   unfolding tree_below
   tree_read entry up leaf zero h fits = refl
@@ -94,7 +94,7 @@ module _ {E : Type 0} (n : E → Node) where
         top_read t.entry f.0 (Some x) x t.extent.places st.are.1.0.0.parent st.are.0.0 fits ∙ sym st.are.0.1 in
         ap (members n t) root ∙ members_held h
 
-    -- the members of the tree in which the first of two ends is are the sequence that is represented between these ends
+    -- if the table represents s between the ends `front` and `back`, the members of the tree in which `front` is are s
     pub members_between_ends : (front back : Option Place) (s : List Place) → RepresentsEnds n t front back s → members_around n t front ≡ s
     members_between_ends front back s h = ap (members_around n t) h.starts ∙ around_held h.tree s h.held
 

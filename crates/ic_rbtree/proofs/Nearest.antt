@@ -23,7 +23,8 @@ pub is_beside : (d : Side) (gap : Cut) (o : Option Place) → o ≡ nearest d (p
 is_beside Left gap o h = h
 is_beside Right gap o h = h
 
--- the member at the end of a branch is the member at the end of its subtree there, or if this subtree is empty, the root of the branch
+-- the outermost member of a branch on side d is the outermost member of the subtree on this side. If this subtree is empty, the outermost member is the root of
+-- the branch
 pub nearest_branch : (d : Side) (c : Color) (a : Tree) (p : Place) (b : Tree)
     → nearest (across d) (in_order (branch d c a p b)) ≡ nearest_or (across d) (in_order a) (Some p)
 nearest_branch Left c a p b = first_or-append (in_order a) (p ∷ in_order b) None
@@ -44,7 +45,7 @@ pub nearest_nothing : (d : Side) (o : Option Place) → nearest_or d [] o ≡ o
 nearest_nothing Left o = refl
 nearest_nothing Right o = refl
 
--- a frame on side d adds no member beyond the subtree on side d, and a frame on the other side has the nearest member there
+-- a frame on side d has no member beyond the subtree on side d. A frame on the other side has the member that is nearest to the subtree on side d
 pub beyond_same : (d : Side) (c : Color) (p : Place) (b : Tree) (fs : List Frame) → beyond d (frame d c p b ∷ fs) ≡ beyond d fs
 beyond_same Left c p b fs = refl
 beyond_same Right c p b fs = refl
@@ -62,18 +63,19 @@ abbrev pub choose : {A : Type 0} → Side → A → A → A
 choose Left a b = a
 choose Right a b = b
 
--- the nearest member to a member on side d is that of its subtree on this side, or if this subtree is empty, the nearest member beyond the subtree
+-- the neighbor of a member on side d is the nearest member of its subtree on this side. If this subtree is empty, the neighbor is the nearest member beyond the
+-- member and its subtrees
 pub nearest_around : (d : Side) (fs : List Frame) (a b : Tree) (front back : List Place) → before fs ++ in_order a ≡ front → in_order b ++ after fs ≡ back
     → nearest d (choose d front back) ≡ nearest_or d (in_order (choose d a b)) (nearest d (beyond d fs))
 nearest_around Left fs a b front back ef eb = sym (ap last ef) ∙ last_or-append None (before fs) (in_order a)
 nearest_around Right fs a b front back ef eb = sym (ap first eb) ∙ first_or-append (in_order b) (after fs) None
 
--- two lists that are empty together are both empty
+-- if two lists together have no members, both lists are empty
 pub nothing_both : (s t : List Place) → s ++ t ≡ [] → (s ≡ []) × (t ≡ [])
 nothing_both [] t e = (refl, e)
 nothing_both (x ∷ s) t e = cc
 
--- A MEMBER p BESIDE A GAP is between two parts of the sequence. The part of the gap on side d is the part of the sequence on this side of p
+-- if the gap is beside the member p on side d, the part of the gap on side d consists of the members on this side of p
 pub beside_member : (d : Side) (gap : Cut) (p : Place) → IsBeside d gap (Some p)
     → (front : List Place) × (back : List Place) × (join gap ≡ front ++ p ∷ back) × (part d gap ≡ choose d front back)
 beside_member Left gap p h = (gap.front, drop 1 gap.back, ap (λ (s : List Place). gap.front ++ s) (first_is gap.back h), refl)
@@ -84,7 +86,7 @@ beside_member Right gap p h = (
   refl,
 )
 
--- if null is beside the gap, all members are on this side of the gap
+-- if the gap is beside null on side d, the part of the gap on side d has all members
 pub beside_null : (d : Side) (gap : Cut) → IsBeside d gap None → part d gap ≡ join gap
 beside_null Left gap h = sym (append-nil gap.front) ∙ ap (λ (s : List Place). gap.front ++ s) (sym (nothing_first gap.back h))
 beside_null Right gap h = ap (λ (s : List Place). s ++ gap.back) (sym (nothing_last gap.front h))

@@ -23,15 +23,14 @@ module _ {E : Type 0} (n : E → Node) where
       last_childless (frame Right c r a ∷ fs) (fork d x q y) (go_down n Right c r a (fork d x q y) st)
       (sym (nearest_there Left (fork d x q y) q (Some r) None refl) ∙ (sym (last_or-append None (in_order a) (r ∷ in_order (fork d x q y))) ∙ e))
 
-  -- AFTER ALL MEMBERS there is an insert position on the right side of the last member
+  -- the insert position after all members is on the right side of the last member
   pub insert_pos_after : {v : Table E} {root end : Option Place} {s : List Place} → Represents n v root s → end ≡ last s → IsInsertPos n v end Right (at_back s)
   insert_pos_after {v} {root} {end} {s} h is = by end is where
     by : (o : Option Place) → o ≡ last s → IsInsertPos n v o Right (at_back s)
     by None e = (nothing_last s e, refl)
     by (Some q) e = let x = represented_of n h in (last_childless [] x.tree x.stands (ap (λ z. last z) x.order ∙ sym e), e)
 
-  -- BEFORE A MEMBER q that has a left child, the gap is the insert position on the right side of the member before q. If q has no left child, the insert
-  -- position is on the left side of q
+  -- the insert position before a member q is on the right side of the member before q, if q has a left child. Otherwise it is on the left side of q
   pub insert_pos_of_front : {v : Table E} {root : Option Place} (gap : Cut) {q below : Place} {front : Option Place} → Represents n v root (join gap) → front ≡ last gap.front → Some q ≡ first gap.back
       → (n (v.entry q)).left ≡ Some below → IsInsertPos n v front Right gap
   insert_pos_of_front {v} gap {q} {below} {front} shown front_is back_is some =

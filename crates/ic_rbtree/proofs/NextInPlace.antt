@@ -1,4 +1,4 @@
--- The next member z takes the position of a member p with two children. The tree may be one black member short at the old position of z.
+-- The next member z takes the position of a member p with two children. The paths through the old position of z may have one black member too few.
 use Rattle.std.proofs.Common.{◌≡◌, ℕ, ◌+◌, ◌≤◌, suc, Option, Some, List, [], ◌∷◌, ◌++◌, length, refl, sym, ap, ◌∙◌, subst, arith, append_assoc}
 use Rattle.std.proofs.lemmas.List.{append_cancel_right}
 use Rattle.ic_link_ops.specs.Prelude.{Place, last, Table}
@@ -41,7 +41,7 @@ way (frame Right c q b ∷ gs) front p e =
     let is : all ≡ front = append_cancel_right all front (p ∷ []) (subst (λ (x : Place). all ++ x ∷ [] ≡ front ++ p ∷ []) same there) in
     record { low = []; c = c; a = b; high = gs; is = ap (λ (x : Place). frame Right c x b ∷ gs) same; start = λ x. glue x ∙ ap (λ (s : List Place). s ++ x ∷ []) is }
 
--- the frames in which the place z replaces p in one frame
+-- a list of frames before and after the place z replaces the member p in one of them
 module _ (fs : List Frame) (c : Color) (p z : Place) (a : Tree) where
   abbrev old : List Frame → List Frame
   old hs = hs ++ frame Right c p a ∷ fs
@@ -95,7 +95,7 @@ module _ {E : Type 0} (n : E → Node) where
   go_back [] fs t h = h
   go_back (frame d c p b ∷ hs) fs t h = go_down n d c p b t (go_back hs fs (branch d c t p b) h)
 
-  -- THE SHORTAGE STAYS at its position. If its parent was p, its parent is z after z has taken the position of p
+  -- A SHORT SUBTREE STAYS at its position. If its parent was p, its parent is z after z has taken the position of p
   pub short_placed : {base w u : Table E} {root new_root up up' : Option Place} {d : Side} {s : List Place} (gs : List Frame) (front : List Place) (p z : Place) (m : Tree) {ps : List Piece}
       → (k : PathTo gs front p) → Short n w root up d (record { base = base; sequence = s; frames = gs; subtree = m; pieces = loose z ∷ ps }) → TakesPlace n w u root new_root p z
       → (up ≡ Some p → up' ≡ Some z) → ((up ≡ Some p → ⊥) → up' ≡ up)

@@ -115,7 +115,7 @@ module _ {E : Type 0} (n : E → Node) where
       → Up base v root d p fs ps fs t
   up_starts fs t h e = record { stands = h; top_is = e; nearest_is = refl }
 
-  -- the frame right above the subtree u with the root p is that of its parent q
+  -- the frame right above the subtree u with the root p is the frame of q, the parent of p
   pub record Framed (base v : Table E) (root : Option Place) (p q : Place) (gs : List Frame) (u : Tree) (ps : List Piece) : Type 0 where
     pub k : Side
     pub c : Color
@@ -149,7 +149,7 @@ module _ {E : Type 0} (n : E → Node) where
 
   module _ {base v : Table E} {root : Option Place} {d : Side} {p q : Place} (fs gs : List Frame) (u : Tree) {ps : List Piece} (h : Up base v root d p fs ps gs u)
       (up : (n (v.entry p)).parent ≡ Some q) where
-    -- if p is not the child of q on side d, the member q above p is on side d the nearest member to the place where the climb began
+    -- if p is not the child of q on side d, then q is the nearest member beyond the subtree where the climb began, on side d
     pub up_ends : child_on d (n (v.entry q)) ≢ Some p → Some q ≡ nearest d (beyond d fs)
     up_ends other =
         let f = framed gs u h.stands h.top_is up in

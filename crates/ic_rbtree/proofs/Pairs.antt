@@ -84,7 +84,7 @@ module _ {E : Type 0} (n : E → Node) {v : Table E} {one : Measured} {p : Place
       let h = regroup n (below None k.one ∷ loose p ∷ below None k.two ∷ k.pieces) x.pair.held (λ q. omega arith) (x.pair.held.are.1.0, (x.pair.held.are.0, x.pair.held.are.1.1)) in
       omega (arith, blacks_low n k.one h x.pair.one_right.even, x.one_height)
 
-  -- the lower tree `two` is put beside the subtree u of the taller tree `one`, which has the black height of `two`
+  -- the lower tree `two` is put beside u, a subtree of the taller tree `one` with the black height of `two`
   pub pair_graft : {root near parent : Option Place} {d : Side} (x : AreHigh n v one p two k) (gs : List Frame) (u : Tree) → root ≡ one.root
       → IsSpine n k.base v one.root d k.one (loose p ∷ below None k.two ∷ k.pieces) near parent two.height gs u → top_color u ≡ Black
       → IsGraft n v root parent d near p two.root (record { base = k.base; frames = gs; near = u; far = k.two; pieces = k.pieces })
@@ -107,7 +107,7 @@ module _ {E : Type 0} (n : E → Node) where
   represented_as {base} {w} {ps = ps} e f h = record { tree = h.tree; stands = subst (λ (o : Option Place). ClimbState n base w o [] h.tree ps) (sym e) h.stands; order = h.order ∙ f; shape = h.shape }
 
 module _ {E : Type 0} (n : E → Node) {v : Table E} {left : Option Place} {p : Place} {right : Option Place} {gap : Cut} where
-  -- FROM TWO REPRESENTED SEQUENCES to pieces of the table: the two trees and the place p between them
+  -- if two trees can be joined with p between them, the two trees and p are pieces of the table
   module _ (x : CanJoin n v left p right gap) where
     abbrev pub joinable : Pair E
     joinable = record { base = v; one = x.front.tree; two = x.back.tree; pieces = [] }
@@ -140,7 +140,7 @@ module _ {E : Type 0} (n : E → Node) {v : Table E} {left : Option Place} {p : 
         ap (λ (z : List Place). z ++ p ∷ in_order x.back.tree) x.front.held.order ∙ ap (λ (z : List Place). gap.front ++ p ∷ z) x.back.held.order in
         subst (λ z. Represented n v w root z []) same h
 
-  -- A PLACE THAT HAS JUST BEEN LINKED can be put between two trees that share no member
+  -- two trees that share no member can be joined with a place between them that has just been linked
   pub can_join : {old : Table E} (linked : E → Bool) → ((e : E) → (n e).linked ≡ linked e) → IsUnlinked linked old p → IsLinked linked v p → ChangesOnly old v p
       → RepresentsParts (Represents n) old left right gap → CanJoin n v left p right gap
   can_join {old} linked alike was is only h =
@@ -175,7 +175,7 @@ module _ {E : Type 0} (n : E → Node) {v : Table E} {left right : Option Place}
         let b : times q x.back.tree ≡ times_in q gap.back = sym (times_order q x.back.tree) ∙ ap (λ z. times_in q z) x.back.held.order in
         omega (arith, a, b, distinct_times (join gap) x.distinct q, times_append q gap.front gap.back)
 
-  -- the first member p of the second tree is the member that a step from null to the right leads to
+  -- if a step from null to the right in the second tree leads to p, then p is the first member of the second tree
   pub first_there : {o : Option Place} {p : Place} → ((g : Cut) → Represents n v right (join g) → IsBeside Right g None → IsBeside Left g o) → o ≡ Some p → gap.back ≡ p ∷ drop 1 gap.back
   first_there {o} {p} leads is = first_is gap.back (sym is ∙ leads (at_front gap.back) x.back refl)
 
@@ -185,7 +185,7 @@ module _ {E : Type 0} (n : E → Node) {v : Table E} {left right : Option Place}
   pub first_represented : {p : Place} → gap.back ≡ p ∷ drop 1 gap.back → Represented n v v right (p ∷ drop 1 gap.back) (below None x.front.tree ∷ [])
   first_represented {p} is = subst (λ z. Represented n v v right z (below None x.front.tree ∷ [])) is beside_represented
 
-  -- WITHOUT THE FIRST MEMBER p, the second tree makes a pair with the first tree, and p can be put between them
+  -- after the first member p of the second tree is removed, the two trees can be joined with p between them
   module _ {w : Table E} {new_right : Option Place} {p : Place} (h : Represented n v w new_right (drop 1 gap.back) (loose p ∷ below None x.front.tree ∷ [])) where
     abbrev pub rest_joinable : Pair E
     rest_joinable = record { base = v; one = x.front.tree; two = h.tree; pieces = [] }

@@ -1,4 +1,4 @@
--- Lemmas about a climb along the parents, and about the steps of the repair after a removal, which makes this climb.
+-- Lemmas about a climb along the parents, and about the steps of the repair after a removal, which climbs along the parents.
 use Rattle.std.proofs.Common.{◌≡◌, ℕ, suc, zero, ◌+◌, ◌-◌, ◌≤◌, Bool, true, false, Option, Some, None, List, [], ◌∷◌, length, refl, sym, ap, ◌∙◌, subst, arith, length-append}
 use Rattle.ic_link_ops.specs.Prelude.{Place, Table, IsCovered}
 use Rattle.ic_link_ops.specs.declared.color.Color.{Color}
@@ -67,7 +67,7 @@ module _ {E : Type 0} (n : E → Node) where
       let rest : steps_up (v.extent.places - 1) (λ q. (n (v.entry q)).parent) (above fs) ≡ length fs = above_steps v fs (top t) (v.extent.places - 1) h.are.0.0 (omega arith) in
       (some_steps v v.extent.places p (omega arith) ∙ ap suc (ap (λ (x : Option Place). steps_up (v.extent.places - 1) (λ q. (n (v.entry q)).parent) x) up ∙ rest), fits)
 
-  -- the side of its parent p on which the table has the member q is the side of the lowest frame
+  -- if the table has the member q on side d of its parent p, the lowest frame is on side d
   pub side_found : (v : Table E) (base : Table E) (root : Option Place) (k : Side) (c : Color) (p : Place) (b : Tree) (fs : List Frame) (t : Tree) (ps : List Piece) (q : Place) (d : Side)
       → ClimbState n base v root (frame k c p b ∷ fs) t ps → top t ≡ Some q → IsSideOf n v q p d → d ≡ k
   side_found v base root Left c p b fs t ps q Left h e is = refl
@@ -95,7 +95,7 @@ module _ {E : Type 0} (n : E → Node) where
             refl,
           )
 
-    -- if the shortage has reached the root, so that there is no parent, the tree is right
+    -- if the short subtree has no parent, it is the whole tree, and the tree is right
     pub short_ended : {d : Side} {parent : Option Place} (k : Focus E) → parent ≡ None → Short n v root parent d k → IsRestored n v root k
     short_ended {d} {parent} k e h = at k.frames h where
       at : (fs : List Frame) → Short n v root parent d (record k { frames = fs }) → IsRestored n v root k

@@ -14,7 +14,7 @@ use Rattle.ic_rbtree.specs.Pieces.{Piece, cell, loose, below, around, times_piec
 use Rattle.ic_rbtree.proofs.Branches.{side_across, side_of_across, side_parent, side_color, side_upper, side_linked}
 
 module _ {E : Type 0} (n : E → Node) where
-  -- a piece stays as it is if only the entry of a place is changed that is not in the piece
+  -- a piece x stays as it is if only the entry at a place p is changed, and p is not in x
   piece_apart : (old new : Place → E) (p : Place) (x : Piece) → times_piece p x ≡ 0 → ((q : Place) → q ≢ p → new q ≡ old q)
       → IsPiece n old x → IsPiece n new x
   piece_apart old new p (cell d q c near far up) none same h =
@@ -30,7 +30,8 @@ module _ {E : Type 0} (n : E → Node) where
       (piece_apart old new p x (omega arith) same h.0, pieces_apart old new p ps (omega arith) same h.1)
 
   module _ {base v : Table E} where
-    -- a table that consists of pieces also consists of other pieces, if both have the same places, each as often
+    -- a table that consists of the pieces ps also consists of the pieces ps', if each place occurs in ps' as often as in ps, and the entries are as ps'
+    -- describes them
     pub regroup : {ps : List Piece} (ps' : List Piece) → Held n base v ps → ((q : Place) → times_all q ps' ≡ times_all q ps)
         → ArePieces n v.entry ps' → Held n base v ps'
     regroup {ps} ps' h count are = record {
@@ -84,7 +85,7 @@ module _ {E : Type 0} (n : E → Node) where
             written p (cell d p c near far up) (cell d p c' near' far' up') ps (λ q. refl) (λ q. refl) h only
             (side_linked n v.entry d p c near far up h.are.0) (side_linked n w.entry d p c' near' far' up' at) at
 
-        -- THE FUNCTIONS THAT WRITE one part of an entry are applied to the piece of a single member. Equations state which arguments they have
+        -- ONE PART OF THE ENTRY of p is written, where p alone is a piece. Equations state which arguments the writing function has
         pub set_near : (q : Place) (k : Side) (y x : Option Place) → q ≡ p → k ≡ d → y ≡ x
             → n (w.entry q) ≡ with_child k (n (v.entry q)) y → ChangesOnly v w q → Held n base w (cell d p c x far up ∷ ps)
         set_near q k y x eq ek ey set only =

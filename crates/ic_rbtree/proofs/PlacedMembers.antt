@@ -11,8 +11,7 @@ use Rattle.ic_rbtree.specs.Kept.{Kept, RepresentsFor}
 use Rattle.ic_rbtree.specs.Ordered.{InsertsInOrder}
 use Rattle.ic_rbtree.proofs.KeptHeads as kept
 
--- A TABLE THAT STORES VALUES has a value at each member. The other arguments are laws of the table: each linked place is covered, and each covered place
--- has a value
+-- A TABLE THAT STORES VALUES has a value at each member. `law` states that each linked place is covered, and `has_value` that each covered place has a value
 module _ {L E T : Type 0} (node : E → Node) {linked : E → Bool} (table : L → Table E) (values : L → Objects T) (alike : (e : E) → (node e).linked ≡ linked e)
     (law : (t : L) (p : Place) → IsLinked linked (table t) p → IsCovered (table t) p) (has_value : (t : L) (p : Place) → IsCovered (table t) p → is_placed (values t) p ≡ true) where
   have_values : (t : L) {root : Option Place} (s : List Place) → Represents node (table t) root s → ArePlaced (values t) s
@@ -24,7 +23,7 @@ module _ {L E T : Type 0} (node : E → Node) {linked : E → Bool} (table : L �
   pub kept_placed : (t : L) (k : Kept) → (s : List Place) × RepresentsFor node (table t) k s → RepresentsPlaced (RepresentsFor node (table t) k) (values t)
   kept_placed t k r = record { members = r.0; shown = r.1; placed = have_values t r.0 (kept.shown k r.1) }
 
--- each member has an object after an insert in order, made or refused. `keeps` is the law that a refusal changes no entry
+-- each member has an object after a call that makes an insert in order or refuses it. `keeps` is the law that a refusal changes no entry
 module _ {L E H C : Type 0} (head : C → H) (Represents : Table E → H → List Place → Type 0) (table : L → Table E) (at : Place → Ordering) {old new : L} {a b : C} (p : Place) {T : Type 0} (objects : Objects T)
     (Refused : L → L → Place → Type 0) (keeps : (x y : L) (q : Place) → Refused x y q → table y ≡ table x) where
   pub inserted_placed : (Q : AlreadyLinked T → Type 0) (r : Result Unit (AlreadyLinked T)) → is_placed objects p ≡ true → (was : RepresentsPlaced (Represents (table old) (head a)) objects)

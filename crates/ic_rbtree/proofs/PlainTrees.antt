@@ -10,8 +10,8 @@ use Rattle.ic_link_ops.proofs.RepresentedTrees.{red_black_trees}
 use Rattle.ic_rbtree.specs.PlainTrees.{TreeLinkOps, is_linked, plain_table, RepresentsTree, PlainRepresents, members_of}
 use Rattle.ic_rbtree.proofs.Members.{members_represented}
 
--- THE FIVE FACTS of a kind of collection. An edit elsewhere changes nothing, no unlinked place is a member, members are distinct, a new tree has no
--- members, and at most one sequence is represented
+-- THE FIVE FACTS of a kind of collection hold for trees: an edit elsewhere changes nothing, no unlinked place is a member, members are distinct, a new tree has
+-- no members, and at most one sequence is represented
 pub plain_trees : IsKind RepresentsTree is_linked None
 plain_trees = red_black_trees (λ e. refl)
 

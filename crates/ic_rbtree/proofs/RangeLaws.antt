@@ -1,4 +1,4 @@
--- Laws for callers: in a sorted sequence, a range is what a filter by both bounds keeps.
+-- Laws for callers: in a sorted sequence, a range consists of the members that a filter by both bounds keeps.
 use Rattle.std.proofs.Common.{◌≡◌, ◌⊎◌, Bool, true, false, ◌&&◌, Option, Some, None, IsSome, List, [], ◌∷◌, ◌++◌, map, refl, sym, ap, ◌∙◌, subst, append-nil, inl, inr, true≢false}
 use Rattle.std.proofs.lemmas.Bool.{not-true, not-false}
 use Rattle.std.specs.Cmp.{IsTotalOrder, tied_itself}
@@ -32,7 +32,7 @@ prefixes (a ∷ f) b (p ∷ g) c e =
       | inr r ↦ inr (r.0, ap (λ z. a ∷ z) r.1 ∙ ap (λ z. z ∷ g ++ r.0) k.0, r.2)
     ]
 
--- members that fail the first test fail both tests at once
+-- members that fail the test f also fail the test that requires f and g
 fails_left : (f g : Place → Bool) (s : List Place) → AllByRecursion (λ p. f p ≡ false) s → AllByRecursion (λ p. (f p && g p) ≡ false) s
 fails_left f g s h = all_map (λ p e. ap (λ x. x && g p) e) s h
 
@@ -60,7 +60,7 @@ one_segment {s} {low} {high} a w b v distinct same starts ends x =
           ap (between low high) (sym same) ∙ ap (λ o. between o high (a ++ (w ++ b))) starts ∙ ap (λ o. between (first w) o (a ++ (w ++ b))) ends ∙ between_ends a w b (subst IsDistinct (sym same) distinct)
 
 module _ {A V K : Type 0} {cmp : K → K → Ordering} (total : IsTotalOrder cmp) (key_of : A → V → K) (adapter : A) (objects : Objects V) where
-  -- if the key at `low` is at most the key at `high`, the place `low` cannot pass the test of the lower bound while `high` fails it
+  -- if the place `low` passes a test that rises, and the place `high` fails it, the key at `high` is less than the key at `low`
   not_down : {test : Place → Bool} {low high : Option Place} → Rises total key_of adapter objects test → ((q : Place) → low ≡ Some q → test q ≡ true) → ((q : Place) → high ≡ Some q → test q ≡ false)
       → (x : Bool) → runs_up cmp (key_of adapter) objects low high ≡ x → runs_up cmp (key_of adapter) objects low high ≡ false
   not_down rises passes fails false is = is

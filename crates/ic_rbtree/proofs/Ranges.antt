@@ -82,7 +82,7 @@ meet f g (fork c a p b) = by (f p) refl (g p) refl (meet f g a) (meet f g b) whe
     passes = x.passes;
   })
 
--- TWO KEYS on the two sides of a bound: the key of a member that doesn't meet a lower bound is less than the key of a member that does
+-- the key of a member that doesn't meet a lower bound is less than the key of a member that meets it
 module _ {K : Type 0} {cmp : K → K → Ordering} (total : IsTotalOrder cmp) where
   turned : (k x : K) → cmp k x ≡ Greater → cmp x k ≡ Less
   turned k x e = total.antisymm x k ∙ ap ordering_reverse e

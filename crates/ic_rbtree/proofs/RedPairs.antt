@@ -42,7 +42,7 @@ wanted_is : (fs : List Frame) → color_below (above fs) ≡ wanted fs
 wanted_is [] = refl
 wanted_is (frame d c p b ∷ fs) = refl
 
--- if there is a frame above the subtree, the color that the repair wants at its root is red, and red has the weight 0
+-- if there is a frame above the subtree, the color `wanted` of its root is red, and red has the weight 0
 pub red_below : (fs : List Frame) {m : ℕ} → m < length fs → weight (wanted fs) ≡ 0
 red_below [] few = absurd (omega (arith, few))
 red_below (f ∷ fs) few = refl
@@ -130,7 +130,7 @@ module _ {E : Type 0} (n : E → Node) where
     joined : ClimbState n k.base v root (frame i m.color g m.uncle ∷ k.frames) (branch m.low Red k.subtree q m.sibling) k.pieces
     joined = go_up n h.red.stands
 
-    -- the side of g on which the table has the parent q is the side i of the frame
+    -- if the table has the parent q on side r of g, then r is the side i of the frame
     pub pair_side : (r : Side) → IsSideOf n v q g r → r ≡ i
     pair_side r is =
         side_found n v k.base root i m.color g m.uncle k.frames (branch m.low Red k.subtree q m.sibling) k.pieces q r joined (top_branch m.low Red k.subtree q m.sibling) is
@@ -177,11 +177,11 @@ module _ {E : Type 0} (n : E → Node) where
                 ∙ ap (λ (z : ℕ). z + weight (wanted k.frames)) (sym (pair_blacks k.frames m.low q m.sibling i m.color g (fork Red a p b) k.subtree h.nearly)),
           )
 
-    -- if x is on the side of q on which q is below g, x is an outer grandchild already
+    -- if x is on side i of q, as q is on side i of g, then x is an outer grandchild already
     pub outer_now : m.low ≡ i → HasOuterGrandchild n v root q g i m k
     outer_now e = (x, m.sibling, k.subtree, subst (λ (y : Side). PairAt n v root x q g i (record m { low = y }) k) e h)
 
-    -- the side of q on which the table has x is the side of the frame of q
+    -- if the table has x on side r of q, then r is the side of the frame of q
     pub low_side : (r : Side) → IsSideOf n v x q r → r ≡ m.low
     low_side r is = side_found n v k.base root m.low Red q m.sibling (frame i m.color g m.uncle ∷ k.frames) k.subtree k.pieces x r h.red.stands h.red.top_is is
 

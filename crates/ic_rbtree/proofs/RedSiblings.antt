@@ -39,7 +39,7 @@ not_none None s e = cc
 not_none (Some q) s e = none_not q (sym e)
 
 module _ {E : Type 0} (n : E → Node) where
-  -- the color that is read at the root of a tree is the color of the tree's root
+  -- `red_at` reads at the root of a tree in the table whether this root is red
   pub red_tells : (v : Table E) (up o : Option Place) (t : Tree) → o ≡ top t → IsTree n v.entry up t → red_at n v o ≡ is_red (top_color t)
   red_tells v up o leaf e h = ap (λ (x : Option Place). red_at n v x) e
   red_tells v up o (fork c a p b) e h = ap (λ (x : Option Place). red_at n v x) e ∙ ap is_red h.0.color

@@ -7,7 +7,7 @@ use Rattle.ic_rbtree.specs.Members.{members_around}
 use Rattle.ic_rbtree.proofs.Members.{members_between_ends}
 
 module _ {E : Type 0} (n : E → Node) where
-  -- THE WALK IS FINISHED IN PART: the members `done` of w are removed, and the table represents the rest of w between the two ends
+  -- THE WALK IS FINISHED IN PART: the members `done` of w are removed, and the table represents the other members, `rest`, between the ends `front` and `back`
   pub record Finishes (base v : Table E) (front back : Option Place) (w : List Place) : Type 0 where
     pub done : List Place
     pub rest : List Place

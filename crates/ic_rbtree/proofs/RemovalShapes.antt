@@ -19,7 +19,7 @@ not_leaf (fork c a p b) n e h = cc
 pub short_root : (t : Tree) → IsShort [] t → IsRight t
 short_root t s = record { black_root = s.black; no_red_pair = s.pairs; even = s.even }
 
--- CASE 1: the sibling is red. The sibling is rotated above q, and after this q has a black sibling
+-- CASE 1: the sibling is red. It is rotated above its parent q, and then the short subtree has a black sibling
 pub short_lowered : (fs : List Frame) (d : Side) (c : Color) (q : Place) (a : Tree) (w : Place) (b t : Tree) →
     IsShort (frame d c q (branch d Red a w b) ∷ fs) t →
     IsShort (frame d Red q a ∷ frame d Black w b ∷ fs) t × (top_color a ≡ Black)

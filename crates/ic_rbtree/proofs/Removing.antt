@@ -50,7 +50,7 @@ module _ {E : Type 0} (n : E → Node) where
   go_into root [] t ps h = h
   go_into root (frame d c p b ∷ fs) t ps h = go_down n d c p b t (go_into root fs (branch d c t p b) ps h)
 
-  -- THE POSITION OF A MEMBER p in the tree, found from the sequence: the frames above p, its color, and its two subtrees
+  -- THE POSITION OF A MEMBER p in the tree, found from the members before p and after p: the frames above p, its color, and its two subtrees
   pub record PositionWithNext (base v : Table E) (root : Option Place) (front : List Place) (p : Place) (back : List Place) (ps : List Piece) : Type 0 where
     pub fs : List Frame
     pub c : Color
@@ -100,7 +100,7 @@ module _ {E : Type 0} (n : E → Node) where
         pick (fork c a q b) leaf e = inr refl
         pick (fork c a q b) (fork k l r m) e = absurd (none_not r (sym e))
 
-    -- what remains of the tree without p: it is right, or its paths on side d of `up` have one black member too few. p is a piece of its own
+    -- the tree without p is right, or its paths on side d of `up` have one black member too few. p is a piece of its own
     abbrev pub Remains : Table E → Option Place → Bool → Option Place → Side → Type 0
     Remains w new_root short up d =
         (fs : List Frame) × (t : Tree) × (length fs < turns)
@@ -176,7 +176,7 @@ module _ {E : Type 0} (n : E → Node) where
             subst (λ (s : List Place). Represented n base w new_root s (loose z ∷ ps)) next.order
             ((taken base next.gs (parts next.k leaf next.m) ps next.stands (inl refl) next.right).0 e)
 
-        -- the next member z takes the position of p. The parent of the gap is the old one, or z if the parent of the gap was p
+        -- the next member z takes the position of p. The parent of the short subtree stays, or it becomes z if it was p
         pub place_taken : {w u : Table E} {root1 root2 up up' : Option Place} {short : Bool} {d : Side} → SplicesOut n v w root root1 z short up d → TakesPlace n w u root1 root2 p z
             → (up ≡ Some p → up' ≡ Some z) → ((up ≡ Some p → ⊥) → up' ≡ up) → Remains u root2 short up' d
         place_taken {w} {u} {root1} {root2} {up} {up'} {short} {d} taken swapped moved kept =
@@ -229,7 +229,7 @@ module _ {E : Type 0} (n : E → Node) where
         begins [] e = absurd (none_not p e)
         begins (x ∷ s) e = (s, ap (λ (y : Place). y ∷ s) (some_same e))
 
-  -- THE WHOLE REMOVAL: if the member p is taken out of the tree and then unlinked, the edit removes p at the gap, as `Removes` states
+  -- THE WHOLE REMOVAL: if the member p is removed from the tree and then unlinked, the two changes together remove p at the gap, as `Removes` states
   pub removes : (v w z : Table E) (root new_root : Option Place) (p : Place) (gap : Cut) (rest : List Place)
       → gap.back ≡ p ∷ rest → Represented n v v root (gap.front ++ p ∷ rest) [] → Represented n v w new_root (gap.front ++ rest) (loose p ∷ [])
       → ChangesOnly w z p → Removes (Represents n) v z new_root gap

@@ -17,7 +17,7 @@ use Rattle.ic_rbtree.specs.Steps.{Turn, Adopts, ChangesChild, Rotates, IsSideOf}
 use Rattle.ic_rbtree.proofs.Branches.{top_branch, branch_open, branch_close, side_near, side_far, side_up, side_linked}
 use Rattle.ic_rbtree.proofs.Pieces.{regroup, set_near, set_far, set_up, set_parent_and_color}
 
--- a turn, which describes a rotation, is made of its parts
+-- the record `Turn`, which describes a rotation, made of its fields
 abbrev pub turn : Color → Tree → Color → Tree → Place → Tree → Turn
 turn c a k b y e = record { color = c; near = a; upper_color = k; inner = b; upper = y; outer = e }
 
@@ -82,7 +82,7 @@ module _ {E : Type 0} (n : E → Node) where
         let ring = subst (λ (x : Option Place). IsAround n v.entry fs x × (root ≡ topmost fs x)) (sym (top_branch d c a p b)) h.are.1.0 in
         regroup n (around root fs (top (branch d c a p b)) ∷ below (above fs) (branch d c a p b) ∷ ps) h (λ q. omega arith) (ring, (h.are.0, h.are.1.1))
 
-  -- if the parent is written at the root q of a tree, the tree is below this parent
+  -- if `parent` is written as the parent of the root q of a tree, the tree is below `parent`
   pub adopts_some : (v w : Table E) (q : Place) (child parent : Option Place) → child ≡ Some q
       → n (w.entry q) ≡ record (n (v.entry q)) { parent = parent } → ChangesOnly v w q → Adopts n v w child parent
   adopts_some v w q child parent is set only base up x leaf ps e ex h = absurd (none_not q (sym e ∙ is))
@@ -113,7 +113,7 @@ module _ {E : Type 0} (n : E → Node) where
   changes_child_some v w root parent to q was Right is l set only base (frame Left c p b ∷ fs) x ps e ex out h =
       absurd (l (ap (λ (z : Place). (n (v.entry z)).left) (some_same (sym is ∙ e)) ∙ side_near n v.entry Left p c (Some was) (top b) (above fs) h.are.0.0.0))
 
-  -- A ROTATION is made by six writes: the lemma states that these writes rotate p down and z up, as `Rotates` states
+  -- A ROTATION is made by six writes, which rotate p down and z above p, as `Rotates` states
   pub rotates : (v v1 v2 v3 v4 v5 v6 : Table E) (root new_root inner parent : Option Place) (z p : Place) (d far : Side) (low high : Color) → far ≡ across d
       → inner ≡ child_on d (n (v.entry z)) → parent ≡ (n (v.entry p)).parent
       → n (v1.entry p) ≡ with_child far (n (v.entry p)) inner → ChangesOnly v v1 p → Adopts n v1 v2 inner (Some p)

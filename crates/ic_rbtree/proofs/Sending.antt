@@ -48,7 +48,8 @@ right_is : (x : Bool) → Right ≡ side_of x → x ≡ false
 right_is true e = cc
 right_is false e = refl
 
--- A TEST THAT LEADS A DESCENT through the frames leads to a gap of the subtree below them, and this gap is the gap of the whole tree
+-- A DESCENT BY A TEST that goes down through all frames comes to the subtree t below them. The gap that the test reaches in t is, as a gap of the whole tree,
+-- the gap that the test reaches from the root
 pub gap_plug : (test : Place → Bool) (fs : List Frame) (t : Tree) → SendsPast test fs → gap_in test (plug fs t) ≡ gap_around fs (gap_in test t)
 gap_plug test [] t h = λ k. record { front = (gap_in test t).front; back = sym (append-nil (gap_in test t).back) k }
 gap_plug test (frame Left c p b ∷ fs) t h =
@@ -285,7 +286,7 @@ module _ {E : Type 0} (n : E → Node) where
     order_is = same;
   }
 
-  -- A DESCENT OF A PROBE IN PROGRESS: the probe compares as it did at the root, where it was `old`
+  -- A PROBE'S DESCENT has come to `here`. The probe was in the state `old` at the root, and is in the state `now`, in which it compares as in `old`
   pub record Comes {P V : Type 0} (order : P → V → Ordering) (count : P → ℕ) (objects : Objects V) (v : Table E) (root : Option Place) (equals : Side) (old now : P) (here : Option Place) (d : Descent) : Type 0 where
     pub each : (s : List Place) (h : Represents n v root s) → Sent v root (compared (order old) objects) equals h.tree here d (count old) (count now)
     pub same : order now ≡ order old
@@ -294,7 +295,7 @@ module _ {E : Type 0} (n : E → Node) where
     pub comes_first : {d : Descent} → d ≡ at_root → Comes order count objects v root equals old old root d
     comes_first is = record { each = λ s h. sent_first is (count old) h; same = refl }
 
-    -- after one more comparison of the probe, the state of the descent is right again
+    -- if the descent has come to the member p, and the probe compares p, the descent comes to the child of p on the side that the comparison selects
     pub comes_on : {now more : P} {here next : Option Place} {d d' : Descent} {p : Place} → Comes order count objects v root equals old now here d → here ≡ Some p → (left : Bool)
         → d' ≡ passed d p left (is_eq (compared (order now) objects p)) → left ≡ goes_left equals (compared (order now) objects p)
         → next ≡ child_on (side_of left) (n (v.entry p)) → count more ≡ count now + 1 → order more ≡ order now
@@ -350,7 +351,7 @@ module _ {E : Type 0} (n : E → Node) where
       pub beyond_excluded : EndsAt n v at Left h.tree d → {result : Option Place} → result ≡ d.front → result ≡ last (gap_in (is_beyond (Excluded at)) h.tree).front
       beyond_excluded x is = is ∙ x.front_is ∙ ap (λ (g : Cut). last g.front) (gap_same (λ p. is_le (at p)) (is_beyond (Excluded at)) (λ p. not_gt (at p)) h.tree)
 
-    -- if there is no lower bound, the gap of the bound is before the first member
+    -- as a lower bound, `Unbounded` leads to the gap before the first member, and as an upper bound to the gap after the last member
     pub lower_unbounded : {result : Option Place} → result ≡ first s → result ≡ first (gap_in (meets_lower Unbounded) h.tree).back
     lower_unbounded is = is ∙ ap first (sym h.held.order) ∙ sym (ap (λ (g : Cut). first g.back) (gap_all h.tree))
 
@@ -364,7 +365,8 @@ module _ {E : Type 0} (n : E → Node) where
   pub upper_border : {v : Table E} {root : Option Place} {s : List Place} (h : Represents n v root s) (b : Bound (Place → Ordering)) {result : Option Place} → result ≡ last (gap_in (is_beyond b) h.tree).front → IsUpperBorder b s result
   upper_border h b is = record { gap = gap_in (is_beyond b) h.tree; same = gap_join (is_beyond b) h.tree ∙ h.held.order; after = is; border = gap_border (is_beyond b) h.tree }
 
--- an entry is vacant if the member after the gap is not equal to the searched key. All members before this gap are smaller, and all after it are larger
+-- AN ENTRY IS VACANT if the member after the gap is not equal to the searched key. The member before the gap, if any, is then less than the key, and the member
+-- after the gap, if any, is greater
 le_lt : (o : Ordering) → is_le o ≡ false → is_lt o ≡ false
 le_lt Less e = e
 le_lt Equal e = refl

@@ -1,4 +1,4 @@
--- Laws for callers: in a sorted sequence, calls that search by keys return what filters of the sequence keep, whatever the bounds are.
+-- Laws for callers: in a sorted sequence, calls that search by keys return the members that filters of the sequence keep, whatever the bounds are.
 use Rattle.std.proofs.Common.{◌≡◌, Bool, true, false, not, cond, ◌&&◌, Option, Some, None, List, [], ◌∷◌, ◌++◌, map, refl, sym, ap, ◌∙◌, append-nil, true≢false}
 use Rattle.std.specs.Cmp.{IsTotalOrder}
 use Rattle.std.specs.List.{AllByRecursion, filter}
@@ -27,7 +27,7 @@ same_cuts same k = record {
   pass = all_map (λ p h. sym (same p) ∙ h) k.back k.pass;
 }
 
--- a test that has one fixed result for all members has this result for each of them
+-- a fixed result b equals itself for each member of a list
 all_same : {X : Type 0} (b : Bool) (s : List X) → AllByRecursion (λ p. b ≡ b) s
 all_same b [] = tt
 all_same b (p ∷ s) = (refl, all_same b s)
@@ -77,7 +77,7 @@ module _ {A V K : Type 0} {cmp : K → K → Ordering} (total : IsTotalOrder cmp
     pub for_key : (key : K) → IsSortedFor (compared (order_of cmp (key_of adapter) key) objects) s
     for_key key = sorted_for total (key_of adapter) objects key s placed sorted
 
-    -- THE FIRST MEMBER that is equal to the searched key is what the search finds
+    -- THE SEARCH FINDS the first member that is equal to the searched key
     pub found_first : (key : K) {o : Option Place} → Finds (compared (order_of cmp (key_of adapter) key) objects) s o
         → o ≡ first (filter (equal_at (compared (order_of cmp (key_of adapter) key) objects)) s)
     found_first key finds = found_is (for_key key) finds

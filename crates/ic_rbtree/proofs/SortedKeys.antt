@@ -67,7 +67,7 @@ module _ {T : Type 0} (key : T → ℕ) where
   front_is_least (q ∷ front) p back sorted =
       ((all_back (λ x. key q ≤ key x) front (p ∷ back) (first_is_least q (front ++ p ∷ back) sorted)).0, front_is_least front p back (sorted_after q (front ++ p ∷ back) sorted))
 
-  -- A SORTED LIST stays sorted if only the elements that pass a test are kept. First, what holds for all elements holds for those that are kept
+  -- A SORTED LIST stays sorted if only the elements that pass a test are kept. `all_kept` states that what holds for all elements holds for the kept ones
   all_kept : (P : T → Type 0) (test : T → Bool) (s : List T) → AllByRecursion P s → AllByRecursion P (filter test s)
   all_kept P test [] h = tt
   all_kept P test (x ∷ s) h = by (test x) (all_kept P test s h.1) where
@@ -99,7 +99,7 @@ module _ {T : Type 0} (key : T → ℕ) (objects : Objects T) where
     by None h rest = absurd (true≢false (sym h))
     by (Some v) h rest = ap (λ l. key v ∷ l) rest
 
-  -- THE SEQUENCE THAT IS REPRESENTED has an object at each member, and the keys of these objects are sorted
+  -- THE REPRESENTED SEQUENCE s has an object at each member, and the keys of these objects are sorted. `one` states that no other sequence is represented
   pub represented_sorted : {shows : List Place → Type 0} → ((s u : List Place) → shows s → shows u → s ≡ u) → RepresentsSorted key shows objects → {s : List Place} → shows s
       → ArePlaced objects s × IsSorted nat_cmp (map key (values_at objects s))
   represented_sorted one q {s} shown =

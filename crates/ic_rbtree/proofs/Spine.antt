@@ -32,7 +32,8 @@ weight_small Red = omega arith
 weight_small Black = omega arith
 
 module _ {E : Type 0} (n : E → Node) where
-  -- AT THE ROOT p OF A TREE: p is linked, and the record has its color, its left subtree, and their black heights
+  -- THE ROOT p OF THE TREE t is linked, and its entry has the color and the left child of this root. The black height of t is the black height of its left
+  -- subtree `left`, plus one if p is black
   pub record AtRoot (entry : Place → E) (p : Place) (t : Tree) : Type 0 where
     pub linked : (n (entry p)).linked ≡ true
     pub color : (n (entry p)).color ≡ top_color t
@@ -54,10 +55,10 @@ module _ {E : Type 0} (n : E → Node) where
     lower = omega (arith, le-max_left (height a) (height b));
   })
 
-  -- ONE STEP DOWN THE SIDE from the subtree u, which is below the frames gs
+  -- A DESCENT ALONG SIDE d has come to the subtree u, whose root is `at` and which is below the frames gs
   module _ {base v : Table E} {root : Option Place} {d : Side} {t : Tree} {ps : List Piece} {at parent : Option Place} {count : ℕ} (gs : List Frame) (u : Tree)
       (x : IsSpine n base v root d t ps at parent count gs u) where
-    -- if `near` equals the place to which the descent has come, and `want` is the black height of u, the state of the descent holds for both
+    -- if `near` is the same as `at`, and u has `want` black members on each path down, the state of the descent holds for `near` and `want`
     pub spine_as : {near : Option Place} {want : ℕ} → near ≡ at → blacks u ≡ want → IsSpine n base v root d t ps near parent want gs u
     spine_as same are = record { stands = x.stands; same = x.same; near_is = same ∙ x.near_is; parent_is = x.parent_is; side_is = x.side_is; nothing = x.nothing; blacks_are = are }
 

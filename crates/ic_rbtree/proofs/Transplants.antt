@@ -161,7 +161,7 @@ module _ {E : Type 0} (n : E → Node) where
       lone_times q (fork c a p b) r (inl e) = cc
       lone_times q (fork c a p b) r (inr e) = omega (arith, ap (λ (t : Tree). times q t) e)
 
-  -- the member p, its children and its parent are linked, so that they can be read
+  -- the member p, its children and its parent are linked, so that a removal can read their entries
   pub record Reads (v : Table E) (p : Place) : Type 0 where
     pub here : (n (v.entry p)).linked ≡ true
     pub left : (q : Place) → (n (v.entry p)).left ≡ Some q → (n (v.entry q)).linked ≡ true
@@ -178,7 +178,8 @@ module _ {E : Type 0} (n : E → Node) where
         parent = λ q e. around_linked n v.entry fs (Some p) q h.are.0.0 (sym at.parent ∙ e);
       }
 
-  -- THE WRITES by which the place `new` takes the position of p: the parent and the children of p get `new`, and `new` gets them
+  -- THE WRITES by which the place `new` takes the position of p: the parent of p gets the child `new`, the children of p get the parent `new`, and `new` gets
+  -- the links and the color of p
   pub taken_place : (v v1 v2 v3 w : Table E) (root new_root left right parent : Option Place) (color : Color) (p new : Place)
       → parent ≡ (n (v.entry p)).parent → left ≡ (n (v.entry p)).left → right ≡ (n (v.entry p)).right → color ≡ (n (v.entry p)).color
       → ChangesChild n v v1 root new_root parent p (Some new) → Adopts n v1 v2 left (Some new) → Adopts n v2 v3 right (Some new)

@@ -33,7 +33,7 @@ split_at zero (x ∷ s) h = ([], x, s, refl, refl)
 split_at (suc k) (x ∷ s) h =
     let r = split_at k s (omega (arith, h)) in (x ∷ r.0, r.1, r.2, ap (λ (l : List Place). x ∷ l) r.3, omega (arith, r.4))
 
--- if the places of a sequence are distinct, the member p is in neither side of the sequence, and the two sides share no place
+-- if the places of the sequence a ++ p ∷ b are distinct, then a and b have distinct places, p is in neither of them, and they share no place
 pub record Apart (a : List Place) (p : Place) (b : List Place) : Type 0 where
   pub front : IsDistinct a
   pub back : IsDistinct b
@@ -53,8 +53,8 @@ outside : (q : Place) (s t : List Place) → IsDisjoint s t → IsMember q t →
 outside q [] t d m = tt
 outside q (x ∷ s) t d m = ((λ e. m (rw e d.0)), outside q s t d.1 m)
 
--- `count` members are divided into `before` members, one middle member, and the rest. A tree of the black height `lower` can have as many members as either
--- part
+-- `count` members are divided into `before` members, one middle member, and the rest. A tree of the black height `lower` can have `before` members, and it can
+-- have as many members as the rest
 pub record Halved (count height before lower : ℕ) : Type 0 where
   pub enough : 2 ^ lower ≤ before + 1
   pub few : before + 1 ≤ 2 ^ (lower + 1)
@@ -116,7 +116,7 @@ lowest_fork c a p b less few low_a low_b =
     omega (arith, all, most, pow-add 2 1 (max (height a) (height b)))
 
 module _ {E : Type 0} (n : E → Node) where
-  -- a vine stays a vine if another place is before it
+  -- a vine stays a vine if the place before it is another one
   pub vine_from : (t : Place → E) (b b' : Option Place) (s : List Place) (a : Option Place) → IsChain (IsFollowed (along n)) t b s a → IsChain (IsFollowed (along n)) t b' s a
   vine_from t b b' [] a c = tt
   vine_from t b b' (x ∷ s) a c = (record { linked = c.0.linked; next = c.0.next }, c.1)

@@ -48,7 +48,7 @@ module _ {E : Type 0} {n : E → Node} {t : Table E} {root : Option Place} where
   pub walk_all : {head tail : Option Place} (s : List Place) → Represents n t root s → head ≡ first s → tail ≡ last s → IsWalk n t root head tail s
   walk_all s shown starts ends = record { front = []; back = []; shown = rw (append-nil s) shown; starts = starts; ends = ends }
 
-  -- a walk whose ends have met has no members left, and so has a walk without a first or a last member
+  -- if a walk has the members w, the walk without ends and without members is a walk of the same tree
   walk_none : {head tail : Option Place} {w : List Place} → IsWalk n t root head tail w → IsWalk n t root None None []
   walk_none {w = w} k = record { front = k.front ++ w; back = k.back; shown = rw (append_assoc k.front w k.back) k.shown; starts = refl; ends = refl }
 
@@ -114,7 +114,7 @@ module _ {A L O V K E : Type 0} (n : E → Node) (table : L → Table E) (values
   abbrev Reaches : Iter A L O V K → List Place → Type 0
   Reaches t w = IsWalk n (table t.links.now) t.root t.head t.tail w × ArePlaced (values t.objects.now) w
 
-  -- ONE CALL OF A WALK returns one of the members that remained. The members `others` remain after the call
+  -- ONE CALL OF A WALK returns one of the members that remained. The members `others` remain after the call, and `with_it` adds the returned member to them
   pub record Steps (old new : Iter A L O V K) (with_it : List Place → List Place) : Type 0 where
     pub others : List Place
     pub reached : Reaches old (with_it others)

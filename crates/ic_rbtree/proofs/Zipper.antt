@@ -1,4 +1,4 @@
--- A change of the subtree in focus: one step up or down a tree, or across to a sibling. Also, a member gets another color.
+-- The subtree in focus changes by one step up or down a tree, or across to a sibling. Two more lemmas are about a member that gets another color.
 use Rattle.std.proofs.Common.{◌≡◌, Option, Some, List, [], ◌∷◌, refl, sym, subst, arith}
 use Rattle.ic_link_ops.specs.Prelude.{Place, Table, ChangesOnly}
 use Rattle.ic_link_ops.specs.declared.color.Color.{Color}

@@ -38,8 +38,8 @@ module _ (at : Place → Ordering) where
   abbrev pub at_most_at : Place → Bool
   at_most_at p = is_le (at p)
 
-  -- FOUND: there is a gap whose member before, if any, is less than the searched key, and whose member after, if any, isn't. The result `position` is the
-  -- member after the gap if it is equal to the key, otherwise none
+  -- FOUND: the member before some gap of s, if any, is less than the searched key, and the member after this gap, if any, is not less. `position` is the member
+  -- after the gap if this member is equal to the key, otherwise none
   pub record Finds (s : List Place) (position : Option Place) : Type 0 where
     pub gap : Cut
     pub same : join gap ≡ s

@@ -3,7 +3,7 @@ use Rattle.std.specs.Prelude.{ℕ, suc, zero, Option, Some, None}
 use Rattle.ic_link_ops.specs.Prelude.{Place, Table}
 use Rattle.ic_link_ops.specs.RedBlackTree.{Node}
 
--- the number of steps from a place up to the root, at most the given number
+-- the number of places on the path from the place o up along the parents, both ends included, or k if the path is longer
 unfoldable pub steps_up : ℕ → (Place → Option Place) → Option Place → ℕ
 steps_up zero parent o = 0
 steps_up (suc k) parent None = 0

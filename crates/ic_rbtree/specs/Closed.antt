@@ -46,17 +46,18 @@ module _ {E : Type 0} (n : E → Node) where
   abbrev pub IsSafeBut : Table E → Option Place → Place → List (Option Place) → Type 0
   IsSafeBut v root p ends = (S : Place → Bool) × IsClosedBut v root (Some p) S × AreIn S ends
 
-  -- each set that was closed and contained the places of the list `ends` is closed after the edit, and contains the places of the list `others`
+  -- if a set is closed in the table v and contains the places of the list `ends`, it is closed in the table w, too, and contains the places of the list
+  -- `others`
   abbrev pub StaysClosed : Table E → Table E → Option Place → Option Place → List (Option Place) → List (Option Place) → Type 0
   StaysClosed v w root new_root ends others =
       (S : Place → Bool) → IsClosed v root S → AreIn S ends → IsClosed w new_root S × AreIn S others
 
-  -- each set that was closed except at one place and contained the places of the list `ends` is closed except at that place after the edit
+  -- if a set is closed in the table v except at one place, and contains the places of the list `ends`, it is closed in the table w except at the same place
   abbrev pub StaysClosedBut : Table E → Table E → Option Place → Option Place → List (Option Place) → Type 0
   StaysClosedBut v w root new_root ends =
       (but : Option Place) (S : Place → Bool) → IsClosedBut v root but S → AreIn S ends → IsClosedBut w new_root but S
 
-  -- each set that was closed except at p and contained the places of the list `ends` is closed everywhere after the edit
+  -- if a set is closed in the table v except at p, and contains the places of the list `ends`, it is closed everywhere in the table w
   abbrev pub ClosesAt : Table E → Table E → Option Place → Option Place → Place → List (Option Place) → Type 0
   ClosesAt v w root new_root p ends =
       (S : Place → Bool) → IsClosedBut v root (Some p) S → AreIn S ends → IsClosed w new_root S

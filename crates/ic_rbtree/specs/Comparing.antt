@@ -19,7 +19,7 @@ answer_at order (Some value) = order value
 abbrev pub compared : {V : Type 0} → (V → Ordering) → Objects V → Place → Ordering
 compared order objects p = answer_at order (object_at objects p)
 
--- the order of a key: how it compares with the key of each value
+-- how the key `key` compares with the key of each value
 abbrev pub order_of : {V K : Type 0} → (K → K → Ordering) → (V → K) → K → V → Ordering
 order_of cmp key_of key value = cmp key (key_of value)
 
@@ -69,19 +69,19 @@ goes_left Right o = is_lt o
 abbrev pub most_looks : ℕ
 most_looks = 66
 
--- a probe that has made `count` comparisons can count those of one more descent without an overflow
+-- a probe that has made `count` comparisons can count the comparisons of one more descent without an overflow
 abbrev pub HasRoom : ℕ → Type 0
 HasRoom count = count + most_looks ≤ 18446744073709551615
 
--- AS FEW COMPARISONS as one descent makes in a tree with the members s: `looks` is within the bound of a descent. `looks` is at least one if there is a
+-- AS FEW COMPARISONS as a descent makes: the number `looks` is within the bound of a descent in a tree with the members s. It is at least one if there is a
 -- member
 pub record WithinComparisonBound (looks : ℕ) (s : List Place) : Type 0 where
   pub few : 2 ^ looks ≤ (length s + 1) ^ 2
   pub some : 1 ≤ length s → 1 ≤ looks
 
 module _ {P V : Type 0} (order : P → V → Ordering) (count : P → ℕ) where
-  -- THE COMPARISONS OF ONE DESCENT in a tree with the members s: if there is a member, even one comparison more would keep the bound. The probe compares as
-  -- it did before the descent
+  -- THE COMPARISONS OF ONE DESCENT: between its states `old` and `new`, the probe has made the comparisons of one descent in a tree with the members s. If
+  -- there is a member, even one comparison more would be within the bound. The probe compares as it did before the descent
   pub record Looks (old new : P) (s : List Place) : Type 0 where
     pub looks : ℕ
     pub counted : count new ≡ count old + looks
@@ -89,7 +89,7 @@ module _ {P V : Type 0} (order : P → V → Ordering) (count : P → ℕ) where
     pub fewer : 1 ≤ length s → 2 ^ (looks + 1) ≤ (length s + 1) ^ 2
     pub order_is : order new ≡ order old
 
-  -- THE COMPARISONS OF ONE DESCENT by the probe in a bound. `Unbounded` has no probe, so its descent makes no comparison
+  -- the probe in a bound has made the comparisons of one descent, as `Looks` states. `Unbounded` has no probe, so no comparison is made
   abbrev pub LooksWithin : Bound P → Bound P → List Place → Type 0
   LooksWithin (Included old) (Included new) s = Looks old new s
   LooksWithin (Excluded old) (Excluded new) s = Looks old new s

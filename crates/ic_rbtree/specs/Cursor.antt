@@ -6,8 +6,8 @@ use Rattle.ic_rbtree.specs.declared.tree.RBTree.{RBTree}
 use Rattle.ic_rbtree.specs.Tree.{head_of}
 pub use Rattle.ic_cursors.specs.Cursor.{links_of}
 
--- the type of the cursors that read a tree. `A` is the type of the tree's adapter, `L` that of the table, `V` that of the objects, and `H` that of what the
--- tree stores
+-- the type of the cursors that read a tree. `A` is the type of the tree's adapter, `L` the type of the table, `V` the type of the objects, and `H` the type of
+-- the tree's head
 abbrev pub Cursor : Type 0 → Type 0 → Type 0 → Type 0 → Type 0
 Cursor A L V H = any.Cursor (RBTree A H) L V (Option Place) H
 

@@ -7,8 +7,8 @@ use Rattle.ic_rbtree.specs.declared.tree.RBTree.{RBTree}
 use Rattle.ic_rbtree.specs.Tree.{head_of, adapter_of}
 pub use Rattle.ic_cursors.specs.CursorMut.{links_of, IsBorrowed, SameBorrows, Stays}
 
--- the type of the cursors that edit a tree. `A` is the type of the tree's adapter, `L` that of the table, `V` that of the objects, and `H` that of what the
--- tree stores
+-- the type of the cursors that edit a tree. `A` is the type of the tree's adapter, `L` the type of the table, `V` the type of the objects, and `H` the type of
+-- the tree's head
 abbrev pub CursorOf : Type 0 → Type 0 → Type 0 → Type 0 → Type 0
 CursorOf A L V H = any.CursorMut (RBTree A H) L V (Option Place) H
 

@@ -5,7 +5,7 @@ use Rattle.ic_cursors.specs.declared.cursor_owning.CursorOwning as any
 use Rattle.ic_rbtree.specs.declared.tree.RBTree.{RBTree}
 use Rattle.ic_rbtree.specs.Tree.{head_of}
 
--- the type of the cursors that own their tree. `A` is the type of the tree's adapter, `V` that of the objects, and `H` that of what the tree stores
+-- the type of the cursors that own their tree. `A` is the type of the tree's adapter, `V` the type of the objects, and `H` the type of the tree's head
 abbrev pub CursorOwning : Type 0 → Type 0 → Type 0 → Type 0
 CursorOwning A V H = any.CursorOwning (RBTree A H) V (Option Place) H
 

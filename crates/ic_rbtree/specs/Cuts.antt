@@ -14,9 +14,9 @@ use Rattle.ic_rbtree.specs.Pieces.{Piece, below, around, Held}
 use Rattle.ic_rbtree.specs.Removal.{IsOn}
 use Rattle.ic_rbtree.specs.Shortage.{PairsAround, EvenAround}
 
--- THE STATE OF THE LOOP that splits a tree: the old table, the gap, and the frames above the insert position. The state also has the child that the lowest
--- frame's member still has at the insert position, and the number of black members on each path down there. `front` and `back` are the two trees made of
--- the members below, and `pieces` are the pieces beside the tree
+-- THE STATE OF THE LOOP that splits a tree: `base` is the old table, `gap` is the gap at which the tree is split, and `frames` are the frames above the insert
+-- position. `named` is the child that the lowest frame's member still has at the insert position, and `count` is the number of black members on each path down
+-- from there. `front` and `back` are the two trees made of the members below, and `pieces` are the pieces of the table beside the tree
 pub record CutUp (E : Type 0) : Type 0 where
   pub base : Table E
   pub gap : Cut
@@ -28,8 +28,8 @@ pub record CutUp (E : Type 0) : Type 0 where
   pub pieces : List Piece
 
 module _ {E : Type 0} (n : E → Node) where
-  -- THE LOOP'S INVARIANT: both parts are trees of the right shape, and `left` and `right` have their roots and black heights. Together with the frames,
-  -- `front` has the members before the gap, and `back` the members after it
+  -- THE LOOP'S INVARIANT: the trees `front` and `back` of k have the right shape, and the records `left` and `right` have their roots and black heights.
+  -- `front` and the frames of k have the members before the gap, and `back` and the frames have the members after it
   pub record IsCutUp (v : Table E) (root : Option Place) (left right : Measured) (k : CutUp E) : Type 0 where
     pub held : Held n k.base v (around root k.frames k.named ∷ below None k.front ∷ below None k.back ∷ k.pieces)
     pub left_is : IsMeasured left k.front
@@ -41,14 +41,14 @@ module _ {E : Type 0} (n : E → Node) where
     pub front_is : before k.frames ++ in_order k.front ≡ k.gap.front
     pub back_is : in_order k.back ++ after k.frames ≡ k.gap.back
 
-  -- THE LOOP'S INVARIANT AT AN INSERT POSITION: the insert position is on side d of `parent`, and each path down had `height` black members there
+  -- THE LOOP'S INVARIANT AT AN INSERT POSITION: the insert position is on side d of `parent`, and `height` is the number `count` of the state k
   pub record IsCutBelow (v : Table E) (root parent : Option Place) (d : Side) (height : ℕ) (left right : Measured) (k : CutUp E) : Type 0 where
     pub cut : IsCutUp v root left right k
     pub parent_is : parent ≡ above k.frames
     pub side_is : IsOn d k.frames
     pub height_is : height ≡ k.count
 
-  -- the loop's invariant holds at the insert position on side d of `parent`, for some two parts and fewer than m frames above the insert position
+  -- the loop's invariant holds at the insert position on side d of `parent`, for two parts and for fewer than m frames above the insert position
   abbrev pub IsCutting : Table E → Table E → Option Place → Option Place → Side → ℕ → Measured → Measured → Cut → List Piece → ℕ → Type 0
   IsCutting base v root parent d height left right gap ps m =
       (fs : List Frame) × (o : Option Place) × (count : ℕ) × (front back : Tree)
@@ -62,8 +62,8 @@ module _ {E : Type 0} (n : E → Node) where
       (base : Table E) (up : Option Place) (t : Tree) (ps : List Piece) → child ≡ top t → height ≡ blacks t → Held n base v (below up t ∷ ps)
       → Held n base w (below None (blackened t) ∷ ps) × IsMeasured alone (blackened t)
 
-  -- one turn of the loop: the member p above the insert position and the subtree on its other side are joined to one of the two parts. The insert position
-  -- is then at the old position of p
+  -- one turn of the loop: p is the member above the insert position, which is on side d of p. p and its subtree on the other side are joined to one of the two
+  -- parts. Then the insert position is at the old position of p
   abbrev pub CutsOff : Table E → Table E → Place → Side → ℕ → Measured → Measured → Measured → Measured → Type 0
   CutsOff v w p d height left right new_left new_right =
       (root : Option Place) (k : CutUp E) (c : Color) (b : Tree) (fs : List Frame) → k.frames ≡ frame d c p b ∷ fs → height ≡ k.count → IsCutUp v root left right k

@@ -1,4 +1,4 @@
--- A descent from the root. At each member a test chooses the side.
+-- A descent goes down from the root of a tree. At each member a test chooses the side.
 use Rattle.std.specs.Prelude.{◌≡◌, Bool, true, false, cond, Option, Some, None, List, [], ◌∷◌, ◌++◌}
 use Rattle.ic_link_ops.specs.Prelude.{Place, Cut, first, last, Table}
 use Rattle.ic_link_ops.specs.declared.side.Side.{Side}
@@ -49,7 +49,7 @@ abbrev pub passed : Descent → Place → Bool → Bool → Descent
 passed old p true equal = record { parent = Some p; side = Left; front = old.front; back = Some p; equal = last_equal old.equal p equal }
 passed old p false equal = record { parent = Some p; side = Right; front = Some p; back = old.back; equal = last_equal old.equal p equal }
 
--- whether there is a member after the gap, and that member is the last one that compared equal
+-- whether a member p is after the gap, and p is the last member that compared equal, `equal`
 abbrev pub is_last : Option Place → Option Place → Bool
 is_last equal None = false
 is_last equal (Some p) = is_end equal p

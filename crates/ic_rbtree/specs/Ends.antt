@@ -1,4 +1,4 @@
--- A tree is given by its first and its last member. A walk that removes the members of a tree stores only these two.
+-- A tree is given by its first and its last member. A walk that removes the members of a tree stores only these two members.
 use Rattle.std.specs.Prelude.{◌≡◌, Option, Some, List, [], ◌∷◌, drop}
 use Rattle.ic_link_ops.specs.Prelude.{Place, first, last, but_last, Table}
 use Rattle.ic_link_ops.specs.declared.side.Side.{Side}
@@ -26,7 +26,8 @@ others_on Left = drop 1
 others_on Right = but_last
 
 module _ {E : Type 0} (n : E → Node) where
-  -- the table t represents the sequence w for the tree whose first and last member are `ends`
+  -- the table t represents the sequence w for the tree whose first and last member are `ends`. `RepresentsFrom` gives the ends by sides: `near` on side d, and
+  -- `far` on the other side
   abbrev pub RepresentsWithin : Table E → Ends → List Place → Type 0
   RepresentsWithin t ends w = RepresentsEnds n t ends.head ends.tail w
 
@@ -43,8 +44,8 @@ module _ {E : Type 0} (n : E → Node) where
   abbrev pub CanDescend : Table E → Option Place → Type 0
   CanDescend v child = (p : Place) → child ≡ Some p → IsInTree n v p
 
-  -- `result` is the outermost member of a tree on side d. The subtree with the root `child` below `parent` must be at the end on this side, with no members
-  -- beyond the subtree
+  -- if a tree has the subtree with the root `child` below `parent`, and no member beyond this subtree on side d, then `result` is the outermost member of the
+  -- tree on side d
   abbrev pub IsOuter : Table E → Option Place → Option Place → Side → Option Place → Type 0
   IsOuter v child parent d result =
       (base : Table E) (root : Option Place) (fs : List Frame) (t : Tree) (ps : List Piece) → ClimbState n base v root fs t ps → child ≡ top t → parent ≡ above fs

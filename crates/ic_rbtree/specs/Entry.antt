@@ -64,7 +64,7 @@ module _ {A L H : Type 0} where
   IsLeft old v = (v.tree.ghost_name ≡ old.tree.ghost_name) × (v.links.ghost_name ≡ old.links.ghost_name) × (tree_of v ≡ tree_of old)
       × (v.parent ≡ old.parent) × (v.side ≡ old.side)
 
--- THE OBJECT IS INSERTED at the gap, and the result is a cursor on the object. If the object's link is refused, the object and the gap are returned, and
+-- THE OBJECT IS INSERTED at the gap of v, and the result is a cursor on the object. If the object's link is refused, the result has the object and the gap, and
 -- nothing has changed
 module _ {A L H T K E : Type 0} (kept : H → Kept) (node : E → Node) (table : L → Table E) (Trace : L → L → List LinkStep → Type 0) (Refused : L → L → Place → Type 0) where
   pub record InsertsInto (v : InsertCursor A L H) (object : Place) (result : Result (CursorOf A L T H) (RefusedInsert A L H T K)) : Type 0 where

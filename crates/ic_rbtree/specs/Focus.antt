@@ -1,4 +1,5 @@
--- A subtree is in focus if the tree is given by this subtree and by its surroundings.
+-- A tree is described by one of its subtrees, the subtree in focus, and by the frames above this subtree. A frame is one step down the tree: a side, the member
+-- above, the member's color, and its other subtree.
 use Rattle.std.specs.Prelude.{Option, List}
 use Rattle.ic_link_ops.specs.Prelude.{Place, Table}
 use Rattle.ic_link_ops.specs.Trees.{Tree}
@@ -6,8 +7,8 @@ use Rattle.ic_link_ops.specs.RedBlackTree.{Node}
 use Rattle.ic_link_ops.specs.Frames.{Frame}
 use Rattle.ic_rbtree.specs.Pieces.{Piece, ClimbState, Represented}
 
--- A TREE WITH A SUBTREE IN FOCUS. The record has the old table, the tree's members in order, the frames above the subtree, the subtree, and the pieces of
--- the table beside the tree
+-- A TREE WITH A SUBTREE IN FOCUS: `base` is the old table, `sequence` has the tree's members in order, `frames` are the frames above the subtree, and `pieces`
+-- are the pieces of the table beside the tree
 pub record Focus (E : Type 0) : Type 0 where
   pub base : Table E
   pub sequence : List Place

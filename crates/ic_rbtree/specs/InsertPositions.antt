@@ -41,8 +41,8 @@ pub record BelongsBefore (test : Place → Bool) (p : Place) (s : List Place) : 
   pub border : IsBorder test gap
 
 module _ {P V : Type 0} (order : P → V → Ordering) (count : P → ℕ) where
-  -- THE COMPARISONS OF ONE INSERT WITH A HINT: the insert makes at most two if the searched key belongs before the hint. Otherwise it makes at most one
-  -- more than a descent
+  -- THE COMPARISONS OF ONE INSERT WITH A HINT: their number is at most one more than the bound of a descent allows. It is at most two if the searched key
+  -- belongs directly before the hint
   pub record HintedLooks (objects : Objects V) (hint : Place) (old new : P) (s : List Place) : Type 0 where
     pub looks : ℕ
     pub counted : count new ≡ count old + looks

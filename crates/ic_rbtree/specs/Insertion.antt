@@ -35,7 +35,7 @@ pub record RedPair : Type 0 where
   pub color : Color
   pub uncle : Tree
 
--- the frames above the lower member of a red pair: its upper member q is on side i of the grandparent g
+-- the frames above the lower member of a red pair: q is the upper member of the pair, on side i of the grandparent g, and fs are the frames above g
 abbrev pub above_pair : Place → Place → Side → RedPair → List Frame → List Frame
 above_pair q g i m fs = frame m.low Red q m.sibling ∷ frame i m.color g m.uncle ∷ fs
 
@@ -45,8 +45,8 @@ blackened leaf = leaf
 blackened (fork c a p b) = fork Black a p b
 
 module _ {E : Type 0} (n : E → Node) where
-  -- THE LOOP'S INVARIANT: the tree is right, except that x, the root of the subtree, may be a red member below a red member. x is black only if it is the
-  -- root of the whole tree
+  -- THE LOOP'S INVARIANT: the tree is right, except that x, the root of the subtree in focus, may be a red member below a red member. x is black only if it is
+  -- the root of the whole tree
   pub record RedAt (v : Table E) (root : Option Place) (x : Place) (k : Focus E) : Type 0 where
     pub stands : IsInFocus n v root k
     pub top_is : top k.subtree ≡ Some x
@@ -57,8 +57,8 @@ module _ {E : Type 0} (n : E → Node) where
   abbrev pub IsRestoredWith : Table E → Option Place → Focus E → ℕ → Type 0
   IsRestoredWith w root k count = (h : IsRestored n w root k) × (blacks h.tree ≡ count)
 
-  -- THE RESULT OF ONE STEP of the repair. If the step returns a place g, the loop's invariant holds at g, below fewer than m frames. If g is the root, each
-  -- path down has one black member more. If the step returns none, the tree is right, with `count` black members on each path down
+  -- THE RESULT OF ONE STEP of the repair: if the step returns a place g, the loop's invariant holds at g, below fewer than m frames. Each path down then has
+  -- `count` black members, or one more if g is the root. If the step returns none, the tree is right, with `count` black members on each path down
   abbrev pub IsFixedOrHigher : Table E → Option Place → Focus E → ℕ → ℕ → Option Place → Type 0
   IsFixedOrHigher w root k m count None = IsRestoredWith w root k count
   IsFixedOrHigher w root k m count (Some g) =
@@ -67,14 +67,14 @@ module _ {E : Type 0} (n : E → Node) where
   abbrev pub FixesRedParent : Table E → Table E → Option Place → Option Place → Place → Option Place → Option Place → Type 0
   FixesRedParent v w root new_root x parent result = (k : Focus E) → RedAt v root x k → parent ≡ above k.frames → IsFixedOrHigher w new_root k (length k.frames) (blacks (plug k.frames k.subtree)) result
 
-  -- the repair makes the tree right, and each path down has one black member more if `grown` is true. If x was the root before the repair, the black member
-  -- x is this increase
+  -- the repair makes the tree right, and each path down has one black member more if `grown` is true. If x was the root before the repair, x itself is this
+  -- black member
   abbrev pub FixesInsertion : Table E → Table E → Option Place → Option Place → Place → Option Place → Bool → Type 0
   FixesInsertion v w root new_root x parent grown =
       (k : Focus E) → RedAt v root x k → parent ≡ above k.frames → length k.frames < turns
       → (h : IsRestored n w new_root k) × (blacks h.tree + weight (wanted k.frames) ≡ blacks (plug k.frames k.subtree) + cond grown 1 0)
 
-  -- x has the red parent q, and q is on side i of its parent g. The frames of k are those above g
+  -- x has the red parent q, and q is on side i of its parent g. The frames of k are the frames above g
   pub record PairAt (v : Table E) (root : Option Place) (x q g : Place) (i : Side) (m : RedPair) (k : Focus E) : Type 0 where
     pub red : RedAt v root x (record k { frames = above_pair q g i m k.frames })
 
@@ -85,7 +85,7 @@ module _ {E : Type 0} (n : E → Node) where
   abbrev pub FixesRedPair : Table E → Table E → Option Place → Option Place → Place → Place → Place → Option Place → Type 0
   FixesRedPair v w root new_root x q g result = (i : Side) → FixesRedPairOn v w root new_root x q g i result
 
-  -- CASE 1, a red uncle: both children of g turn black, and g turns red unless it is the root
+  -- CASE 1, a red uncle y: q and y, the children of g, turn black, and g turns red unless it is the root
   abbrev pub Recolors : Table E → Table E → Place → Place → Place → Type 0
   Recolors v w q y g =
       (root : Option Place) (i : Side) (m : RedPair) (k : Focus E) → top m.uncle ≡ Some y

@@ -1,4 +1,4 @@
--- Two trees are joined: a place is inserted into one tree, with the other tree below the place.
+-- Two trees are joined: a place is inserted into one tree, and the other tree becomes a subtree of this place.
 use Rattle.std.specs.Prelude.{◌≡◌, ℕ, ◌+◌, ◌≤◌, Bool, true, cond, Option, None, List, [], ◌∷◌}
 use Rattle.ic_link_ops.specs.Prelude.{Place, Cut, join, insert, IsDistinct, Table, ChangesOnlyIn}
 use Rattle.ic_link_ops.specs.declared.color.Color.TheVariants.{Red, Black}
@@ -12,8 +12,8 @@ use Rattle.ic_rbtree.specs.Pieces.{Piece, loose, below, around, Held, ClimbState
 use Rattle.ic_rbtree.specs.Removal.{IsOn}
 use Rattle.ic_rbtree.specs.Sides.{beyond}
 
--- TWO TREES BEFORE THEY ARE JOINED: the frames of the taller tree above its subtree `near`, and the lower tree `far`, whose black height is that of `near`.
--- `base` is the old table
+-- TWO TREES BEFORE THEY ARE JOINED: `frames` are the frames of the taller tree above its subtree `near`. The lower tree `far` has the black height of `near`.
+-- `base` is the old table, and `pieces` are the pieces of the table beside both trees
 pub record Graft (E : Type 0) : Type 0 where
   pub base : Table E
   pub frames : List Frame
@@ -43,8 +43,8 @@ module _ {E : Type 0} (n : E → Node) where
   abbrev pub IsRootOf : Table E → Option Place → Tree → Type 0
   IsRootOf v o t = (up : Option Place) × IsTree n v.entry up t × (o ≡ top t)
 
-  -- DOWN A SIDE of the tree t: `near` is the root of a subtree below `parent`. No member of t is beyond this subtree on side d, and the subtree has `count`
-  -- black members on each path down
+  -- A DESCENT ALONG A SIDE of the tree t has come to a subtree u below `parent`, whose root is `near`. No member of t is beyond this subtree on side d, and the
+  -- subtree has `count` black members on each path down
   pub record IsSpine (base v : Table E) (root : Option Place) (d : Side) (t : Tree) (ps : List Piece) (near parent : Option Place) (count : ℕ) (gs : List Frame) (u : Tree) : Type 0 where
     pub stands : ClimbState n base v root gs u ps
     pub same : plug gs u ≡ t
@@ -54,8 +54,8 @@ module _ {E : Type 0} (n : E → Node) where
     pub nothing : beyond d gs ≡ []
     pub blacks_are : blacks u ≡ count
 
-  -- DOWN A SIDE to a subtree whose root `near` is black or missing. No member of t is beyond this subtree on side d, and the subtree has `count` black
-  -- members on each path down
+  -- a descent along side d of the tree t ends at a subtree whose root `near` is black or missing. No member of t is beyond this subtree on side d, and the
+  -- subtree has `count` black members on each path down
   abbrev pub EndsBlack : Table E → Table E → Option Place → Side → Tree → List Piece → Option Place → Option Place → ℕ → Type 0
   EndsBlack base v root d t ps near parent count =
       (gs : List Frame) × (u : Tree) × IsSpine base v root d t ps near parent count gs u × (top_color u ≡ Black)
@@ -65,7 +65,7 @@ pub record IsMeasured (m : Measured) (t : Tree) : Type 0 where
   pub root_is : m.root ≡ top t
   pub height_is : m.height ≡ blacks t
 
--- the record of two trees: the old table, both trees, and the pieces of the table beside both
+-- the record of two trees: the old table `base`, the trees `one` and `two`, and the pieces of the table beside both trees
 pub record Pair (E : Type 0) : Type 0 where
   pub base : Table E
   pub one : Tree
@@ -88,7 +88,7 @@ module _ {E : Type 0} (n : E → Node) where
     pub one_height : one.height ≡ blacks k.one
     pub two_height : two.height ≡ blacks k.two
 
-  -- the black height of the tree `one` is at least that of the tree `two`
+  -- the two trees are as `AreMeasured` states, and the black height of the tree `one` is at least that of the tree `two`
   pub record AreHigh (v : Table E) (one : Measured) (p : Place) (two : Measured) (k : Pair E) : Type 0 where
     pub measured : AreMeasured v one p two k
     pub lower : two.height ≤ one.height
@@ -97,7 +97,8 @@ module _ {E : Type 0} (n : E → Node) where
   abbrev pub IsJoined : Table E → Table E → Measured → List Place → List Piece → Type 0
   IsJoined base w m s ps = (h : Represented n base w m.root s ps) × (m.height ≡ blacks h.tree)
 
-  -- TWO TREES CAN BE JOINED with p between them. The table represents the two parts of the gap, p is linked, and no place occurs twice in the parts and p
+  -- TWO TREES CAN BE JOINED with p between them: the table represents the part before the gap for the tree `left`, and the part after the gap for the tree
+  -- `right`. p is linked, and p and the members of the two parts are distinct
   pub record CanJoin (v : Table E) (left : Option Place) (p : Place) (right : Option Place) (gap : Cut) : Type 0 where
     pub front : Represents n v left gap.front
     pub back : Represents n v right gap.back
@@ -117,7 +118,8 @@ module _ {E H : Type 0} (Represents : Table E → H → List Place → Type 0) w
   abbrev pub RepresentsPartsSome : Table E → H → H → Type 0
   RepresentsPartsSome v left right = (gap : Cut) × RepresentsParts v left right gap
 
-  -- THE PARTS ARE ONE TREE: the table w represents the joined sequence for the tree with this head, and no entries are changed except those of the members
+  -- THE PARTS ARE ONE TREE: the table w represents both parts of the gap as one sequence, for the tree with the head `head`. No entries are changed except
+  -- those of the members
   pub record Appends (v w : Table E) (head : H) (gap : Cut) : Type 0 where
     pub shows : Represents w head (join gap)
     pub frame : ChangesOnlyIn v w (join gap)

@@ -58,7 +58,8 @@ module _ {E : Type 0} (n : E → Node) where
   RepresentsFor t (alone root) = Represents n t root
   RepresentsFor t (ended h) = RepresentsWithEnds t h
 
-  -- `end` is the first or the last member of the tree, by the side: the end that is stored, or otherwise the outermost member of the represented sequence
+  -- `end` is the outermost member of the tree on side d. If the tree stores its ends, `end` is the stored one. Otherwise `end` is the outermost member of the
+  -- sequence that the table represents
   abbrev pub EndIs : Side → Table E → Kept → Option Place → Type 0
   EndIs d t (alone root) end = (s : List Place) → Represents n t root s → end ≡ end_on d s
   EndIs Left t (ended h) end = end ≡ h.front
@@ -101,8 +102,8 @@ HasRoomFor (alone root) count = HasRoom count
 HasRoomFor (ended h) count = HasRoom (count + 1)
 
 module _ {P V : Type 0} (order : P → V → Ordering) (count : P → ℕ) where
-  -- THE COMPARISONS OF ONE INSERT that compares the last member first. There is one comparison if the searched key is not less, and the number is always
-  -- within the bound of one descent. The probe compares as it did before the insert
+  -- THE COMPARISONS OF ONE INSERT that compares the last member first: their number is always within the bound of one descent. It is one if the searched key is
+  -- not less than the last member. The probe compares as it did before the insert
   pub record EndLooks (objects : Objects V) (old new : P) (s : List Place) : Type 0 where
     pub looks : ℕ
     pub counted : count new ≡ count old + looks
@@ -110,7 +111,7 @@ module _ {P V : Type 0} (order : P → V → Ordering) (count : P → ℕ) where
     pub at_last : after_there (compared (order old) objects) (last s) ≡ true → looks ≡ 1
     pub order_is : order new ≡ order old
 
-  -- the comparisons of one insert: as `Looks` states if the tree stores its root alone, or as `EndLooks` states if the tree stores its ends
+  -- one insert makes as many comparisons as `Looks` states if the tree stores its root alone, and as many as `EndLooks` states if the tree stores its ends
   abbrev pub InsertLooks : Kept → Objects V → P → P → List Place → Type 0
   InsertLooks (alone root) objects = Looks order count
   InsertLooks (ended h) objects = EndLooks objects

@@ -20,7 +20,7 @@ module _ {A V K : Type 0} where
   abbrev pub looks_of : KeyProbe A V K → ℕ
   looks_of p = p.looks
 
-  -- the search for a key that an insert makes. A `KeyFirst` is the form in which the insert uses this search
+  -- the `KeyProbe` that a `KeyFirst` contains. A `KeyFirst` is the search for a key that an insert makes
   abbrev pub probe_of : KeyFirst A V K → KeyProbe A V K
   probe_of p = p.probe
 

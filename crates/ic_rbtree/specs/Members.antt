@@ -21,20 +21,20 @@ between head tail [] = []
 between head tail (x ∷ s) = cond (is_end head x) (up_to tail (x ∷ s)) (between head tail s)
 
 module _ {E : Type 0} (n : E → Node) where
-  -- the tree below a place, down to the given number of levels
+  -- the tree that the entries describe from the place o down, cut off below k levels
   unfoldable pub tree_below : (Place → E) → ℕ → Option Place → Tree
   tree_below entry zero o = leaf
   tree_below entry (suc k) None = leaf
   tree_below entry (suc k) (Some p) =
       fork (n (entry p)).color (tree_below entry k (n (entry p)).left) p (tree_below entry k (n (entry p)).right)
 
-  -- the last place on the path that leads up from a place along the parents, after at most the given number of steps
+  -- the last place on the path from the place o up along the parents, or the place after k steps if the path is longer
   unfoldable pub top_above : (Place → E) → ℕ → Option Place → Option Place
   top_above entry zero o = o
   top_above entry (suc k) None = None
   top_above entry (suc k) (Some p) = some_or (Some p) (top_above entry k (n (entry p)).parent)
 
-  -- the members of the tree with this root. No path down is longer than the number of places that the table covers
+  -- the members of the tree with this root. `tree_below` reads as many levels as the table covers places, and no tree has more levels
   abbrev pub members : Table E → Option Place → List Place
   members t root = in_order (tree_below t.entry t.extent.places root)
 

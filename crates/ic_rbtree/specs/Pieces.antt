@@ -1,4 +1,4 @@
--- A table in pieces that share no place: single members, trees, and the surroundings of a subtree.
+-- A table is described in pieces that share no place: single members, trees, and the surroundings of a subtree.
 use Rattle.std.specs.Prelude.{◌≡◌, ℕ, ◌+◌, ◌≤◌, true, Option, List, [], ◌∷◌}
 use Rattle.ic_link_ops.specs.Prelude.{Place, Table}
 use Rattle.ic_link_ops.specs.declared.color.Color.{Color}
@@ -43,7 +43,8 @@ module _ {E : Type 0} (n : E → Node) where
   ArePieces entry [] = Unit {0}
   ArePieces entry (x ∷ ps) = IsPiece entry x × ArePieces entry ps
 
-  -- THE TABLE v CONTAINS THE PIECES of the list ps, which share no place. Only the entries of their members differ from the entries of the table `base`
+  -- THE TABLE v CONTAINS THE PIECES of the list ps, which share no place. Outside these pieces, each entry is as in the table `base`. The same places are
+  -- linked in both tables
   pub record Held (base v : Table E) (ps : List Piece) : Type 0 where
     pub are : ArePieces v.entry ps
     pub once : (q : Place) → times_all q ps ≤ 1

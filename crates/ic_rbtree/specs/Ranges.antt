@@ -15,7 +15,7 @@ pub record IsSegment (s : List Place) (low high : Option Place) (w : List Place)
   pub starts : low ≡ first w
   pub ends : high ≡ last w
 
--- there are two keys, and the second is not less than the first
+-- whether both keys are given, and the second key is not less than the first
 abbrev pub not_less : {K : Type 0} → (K → K → Ordering) → Option K → Option K → Bool
 not_less cmp (Some low) (Some high) = is_ge (cmp high low)
 not_less cmp _ _ = false

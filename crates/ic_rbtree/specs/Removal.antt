@@ -50,21 +50,21 @@ module _ {E : Type 0} (n : E → Node) where
   abbrev pub FixesDeletion : Table E → Table E → Option Place → Option Place → Option Place → Side → Type 0
   FixesDeletion v w root new_root parent d = (k : Focus E) → Short v root parent d k → length k.frames < turns → IsRestored n w new_root k
 
-  -- THE LOOP'S INVARIANT below a member q of the color c: the subtree on side d of q has one black member too few on each path. `sibling` is the other
-  -- subtree of q, and the frames are those above q
+  -- THE LOOP'S INVARIANT below a member q of the color c: the subtree on side d of q has one black member too few on each path. `sibling` is the subtree of q
+  -- on the other side, and the frames of k are the frames above q
   pub record ShortAt (v : Table E) (root : Option Place) (q : Place) (d : Side) (c : Color) (sibling : Tree) (k : Focus E) : Type 0 where
     pub stands : ClimbState n k.base v root (frame d c q sibling ∷ k.frames) k.subtree k.pieces
     pub short : IsShort (frame d c q sibling ∷ k.frames) k.subtree
     pub order : in_order (plug (frame d c q sibling ∷ k.frames) k.subtree) ≡ k.sequence
 
-  -- the subtree on side d of q has one black member too few on each path, and the child of q on the other side is y, which is black
+  -- the subtree on side d of q has one black member too few on each path. y, the child of q on the opposite side, is black
   pub record Beside (v : Table E) (root : Option Place) (q : Place) (d : Side) (y : Place) (c : Color) (sibling : Tree) (k : Focus E) : Type 0 where
     pub at : ShortAt v root q d c sibling k
     pub top_is : top sibling ≡ Some y
     pub black : top_color sibling ≡ Black
 
-  -- the child of q on the other side is y, which is black. Either q is red, because a red sibling was rotated above it, or the frames above q are as they
-  -- were
+  -- y, the child of q on the side opposite to d, is black. Either q is red, because a red sibling was rotated above q, or the frames above q are the frames of
+  -- k
   pub record HasBlackSibling (v : Table E) (root : Option Place) (q : Place) (d : Side) (y : Place) (k : Focus E) : Type 0 where
     pub color : Color
     pub sibling : Tree
@@ -72,7 +72,7 @@ module _ {E : Type 0} (n : E → Node) where
     pub beside : Beside v root q d y color sibling (record k { frames = frames })
     pub red_or_same : (color ≡ Red) ⊎ (frames ≡ k.frames)
 
-  -- CASE 1, a red sibling: the red sibling is rotated above q. The result is the sibling that q has after this, and this sibling is black
+  -- CASE 1, a red sibling of the short subtree: it is rotated above q. The result is the new sibling of the short subtree, which is black
   abbrev pub BlackensSibling : Table E → Table E → Option Place → Option Place → Place → Side → Option Place → Type 0
   BlackensSibling v w root new_root q d result =
       (c : Color) (sibling : Tree) (k : Focus E) → ShortAt v root q d c sibling k → Has result (λ y. HasBlackSibling w new_root q d y k)
@@ -87,7 +87,7 @@ module _ {E : Type 0} (n : E → Node) where
     pub left : (q : Place) → (n (v.entry y)).left ≡ Some q → (n (v.entry q)).linked ≡ true
     pub right : (q : Place) → (n (v.entry y)).right ≡ Some q → (n (v.entry q)).linked ≡ true
 
-  -- the child of q on the other side is `upper`, which is black. The child of `upper` that is farther from the short subtree is red
+  -- `upper`, the child of q on the side opposite to d, is black. The child of `upper` that is farther from the short subtree is red
   pub record HasRedFarNephew (v : Table E) (root : Option Place) (q : Place) (d : Side) (upper : Place) (c : Color) (k : Focus E) : Type 0 where
     pub near : Tree
     pub left : Tree

@@ -15,7 +15,7 @@ abbrev pub IsBeside : Side → Cut → Option Place → Type 0
 IsBeside Left = IsBefore
 IsBeside Right = IsAfter
 
--- the members of the tree before the subtree below the frames, if the side is left, or after this subtree, if the side is right, in order
+-- the members of the whole tree that are before the subtree below the frames fs, for the left side, or after this subtree, for the right side, in order
 abbrev pub beyond : Side → List Frame → List Place
 beyond Left fs = before fs
 beyond Right fs = after fs
@@ -51,8 +51,8 @@ module _ {E : Type 0} (n : E → Node) where
       (base : Table E) (root : Option Place) (fs : List Frame) (t : Tree) (ps : List Piece) → ClimbState n base v root fs t ps → top t ≡ Some p
       → result ≡ nearest d (beyond d fs)
 
-  -- in a tree whose height is less than `turns`, y is the outermost member on side d, at or below p. `IsNearestAboveWithin` states for a tree of less than
-  -- this height that `result` is the nearest member
+  -- in a tree whose height is less than `turns`, y is the outermost member on side d, at or below p. `IsNearestAboveWithin` states for a tree of this height
+  -- what `IsNearestAbove` states for every tree
   abbrev pub IsOutermostWithin : Table E → Place → Side → Place → Type 0
   IsOutermostWithin v p d y =
       (base : Table E) (root : Option Place) (fs : List Frame) (t : Tree) (ps : List Piece) → ClimbState n base v root fs t ps → top t ≡ Some p

@@ -28,7 +28,7 @@ module _ {T : Type 0} (key : T → ℕ) where
     pub placed : RepresentsPlaced shows objects
     pub sorted : IsSorted nat_cmp (keys_at objects placed.members)
 
-  -- if the members that `old` states had objects in the order of their keys, the members that `new` states have them in order as well, whatever the objects
-  -- are
+  -- `old` and `new` state which sequence is represented before and after a call. If the members before the call have objects in the order of their keys, the
+  -- members after the call do, too, whatever the objects are
   abbrev pub StaysSorted : (List Place → Type 0) → (List Place → Type 0) → Type 0
   StaysSorted old new = (objects : Objects T) → RepresentsSorted old objects → RepresentsSorted new objects

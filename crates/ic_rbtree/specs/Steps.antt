@@ -49,7 +49,7 @@ module _ {E : Type 0} (n : E → Node) where
       (base : Table E) (fs : List Frame) (x : Option Place) (ps : List Piece) → parent ≡ above fs → to ≡ x
       → times_around was fs ≡ 0 → Held n base v (around old_root fs (Some was) ∷ ps) → Held n base w (around new_root fs x ∷ ps)
 
-  -- p is rotated down to side d, so that `upper`, its child on the other side, is above p. p gets the color `low`, and `upper` gets the color `high`
+  -- p is rotated down to side d, and `upper`, the child of p on the other side, is rotated above p. p gets the color `low`, and `upper` gets the color `high`
   abbrev pub Rotates : Table E → Table E → Option Place → Option Place → Place → Place → Side → Color → Color → Type 0
   Rotates v w old_root new_root p upper d low high =
       (base : Table E) (fs : List Frame) (x : Turn) (ps : List Piece) → x.upper ≡ upper → ClimbState n base v old_root fs (unturned d p x) ps

@@ -84,7 +84,7 @@ module _ {E : Type 0} (n : E → Node) where
         pieces = loose p ∷ ps;
       })
 
-  -- INSTEAD OF the member p the tree has the place `new`, with the color of p, and p is a piece of its own
+  -- THE PLACE `new` REPLACES the member p in the tree and gets the color of p. After this, p is a piece of its own
   abbrev pub TakesPlace : Table E → Table E → Option Place → Option Place → Place → Place → Type 0
   TakesPlace v w root new_root p new =
       (base : Table E) (fs : List Frame) (x : Parts) (ps : List Piece)
@@ -102,8 +102,7 @@ module _ {E : Type 0} (n : E → Node) where
       (base : Table E) (front : List Place) (back : List Place) (ps : List Piece)
       → Represented n base v root (front ++ p ∷ back) ps → Represented n base w new_root (front ++ back) (loose p ∷ ps)
 
-  -- the member p is removed from the tree, but the colors are not repaired yet. A climb of the repair has turns enough, because there are fewer than
-  -- `turns` frames
+  -- the member p is removed from the tree, but the colors are not repaired yet. There are fewer than `turns` frames, so a climb of the repair has enough turns
   abbrev pub TakesOut : Table E → Table E → Option Place → Option Place → Place → Bool → Option Place → Side → Type 0
   TakesOut v w root new_root p short parent d =
       (base : Table E) (front : List Place) (back : List Place) (ps : List Piece) → Represented n base v root (front ++ p ∷ back) ps

@@ -66,7 +66,7 @@ module _ {E : Type 0} (n : E → Node) where
 
 -- `Represents t head s` states that the table t represents the sequence s for the collection with this head
 module _ {E H : Type 0} (Represents : Table E → H → List Place → Type 0) where
-  -- THE MEMBERS ARE REARRANGED for the head `head`: they are the sequence s as before, and no entries are changed except those of the members
+  -- THE MEMBERS ARE REARRANGED, and the head is `head`: the sequence is still s, and no entries are changed except those of the members
   pub record Rearranges (v w : Table E) (head : H) (s : List Place) : Type 0 where
     pub shows : Represents w head s
     pub frame : ChangesOnlyIn v w s

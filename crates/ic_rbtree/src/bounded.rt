@@ -1,4 +1,4 @@
-//! Steps from a position in a tree to a neighbor, which end after a fixed number of turns, whatever the link words contain.
+//! Steps from a position in a tree to a neighbor. Each step ends after a fixed number of turns, whatever the link words contain.
 //!
 //! ```text
 //! step_bounded(nodes, root, None, Side::Right) // the first member
@@ -36,9 +36,9 @@ pub(crate) fn outermost_bounded<N: NodeStore>(nodes: &N, place: Place, side: Sid
     place
 }
 
-// Returns the lowest member above `place` that is on the side `side` of it, `None` if there is none. If the links are not a tree, the result is the place
-// that the last turn reached, so the result is `None` only at an end. The loop reads both link words of each member above one after the other, and counts
-// turns after the test. In this form a turn takes half as many instructions.
+// Returns the lowest member above `place` that is on the side `side` of it, `None` if there is none. If the links form no tree, the climb may use up its turns.
+// Then the result is the place that the last turn reached, and not `None`. Each turn reads the child and the parent of the member above one after the other,
+// and is counted after the test. In this form a turn takes half as many instructions.
 #[inline]
 fn above_bounded<N: NodeStore>(nodes: &N, place: Place, side: Side) -> Option<Place>
     requires { (root : Option Place) × IsSafe N.node (N.table nodes.now) root (Some place ∷ []) }
@@ -63,12 +63,12 @@ fn above_bounded<N: NodeStore>(nodes: &N, place: Place, side: Side) -> Option<Pl
     None
 }
 
-/// The position to which a step to a side leads, in the tree with this root. From a member the step leads to the next member on that side, or to null if
-/// there is none. From null it leads to the outermost member on the other side.
+/// The position to which a step to the side `side` leads from `current`, in the tree with the root `root`. From a member the step leads to the next member on
+/// this side, or to null if there is none. From null it leads to the outermost member on the other side.
 ///
-/// It requires a closed set of places, out of which no link leads, that contains the position. The call follows no link out of a closed set. The call
-/// terminates, whatever the link words contain. It returns a place only if the links lead to this place, and `None` only if the links end. O(log n), and
-/// O(1) on average over a walk. [`RBTree::step`](crate::RBTree::step) is the same call for a tree.
+/// It requires a closed set of places, out of which no link leads. The root and the position must be none or in this set, and then the result is, too. The call
+/// terminates, whatever the link words contain. It returns a place only if the links lead to this place, and `None` only if the links end. O(log n), and O(1)
+/// on average over a walk. [`RBTree::step`](crate::RBTree::step) is the same call for a tree.
 #[inline]
 pub fn step_bounded<N: NodeStore>(
     nodes: &N,

@@ -57,8 +57,8 @@ impl<A> RBTreeBuilder<A> {
         RBTreeBuilder::from_ends(adapter, None, None)
     }
 
-    /// The builder with this adapter and these two members, which [`first`](Self::first) and [`last`](Self::last) return. The call is for callers who
-    /// chained the members themselves. It reads no links. O(1).
+    /// A builder with the adapter `adapter`, whose first member is `first` and whose last member is `last`. The call is for callers who chained the members
+    /// themselves. It reads no links. O(1).
     #[inline]
     pub fn from_ends(adapter: A, first: Option<Place>, last: Option<Place>) -> RBTreeBuilder<A>
         ensures ends { ends_of result ≡ list_head first last }

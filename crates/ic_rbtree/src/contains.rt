@@ -1,7 +1,7 @@
 //! Tests whether a place is that of a member, by a climb from the place to the root.
 //!
 //! ```text
-//! tree.contains(&links, place) // at most 66 places are read, whatever stale links say
+//! tree.contains(&links, place) // at most 66 places are climbed, whatever stale links say
 //! ```
 
 ghost use Rattle.std.specs.Prelude.{◌≡◌, ◌↔◌, ◌⊎◌, IsTrue, Some, List};
@@ -24,7 +24,7 @@ use std::alloc::Allocator;
 // places.
 const LONGEST_PATH: usize = 66;
 
-// Whether `parent` is covered and linked, and has the place as a child.
+// Whether `parent` is covered and linked, and has `place` as a child.
 fn has_child<W: NodeWords, M: Allocator, V: LinkValue>(
     links: &PlainTable<W, M, V>,
     parent: Place,
@@ -39,10 +39,10 @@ fn has_child<W: NodeWords, M: Allocator, V: LinkValue>(
 }
 
 impl<A: KeyAdapter, E: TreeHead> RBTree<A, E> {
-    /// Whether the place is that of a member. It requires that the place is covered. O(log n): it reads no more than 66 places.
+    /// Whether the object at `place` is a member. It requires that the place is covered. O(log n): it climbs at most 66 places.
     ///
-    /// The call climbs along the parents, and tests at each step whether the parent has the place below it as a child. For this reason it returns false for
-    /// an object that still has the links of a tree that `fast_clear` has emptied.
+    /// The call climbs along the parents to a place without a parent. At each step it tests whether the parent has the place below it as a child, and at the
+    /// end whether the place is the root. Therefore it returns false for an object that `fast_clear` has left linked.
     pub fn contains<W: NodeWords, M: Allocator, V: LinkValue>(
         &self,
         links: &PlainTable<W, M, V>,

@@ -1,7 +1,7 @@
-//! What a tree implements for cursors: moves and edits at a position, each in O(log n), and a replacement in O(1).
+//! What a tree implements for cursors: moves, and edits at a position. A replacement takes O(1), and every other call takes O(log n).
 //!
-//! The gap "after" a position is the gap after the position's member, or the first gap if the position is null. The gap "before" a position is the gap
-//! before the position's member, or the last gap if the position is null. No edit compares keys. The traits document what each call does.
+//! The gap "after" a position is the gap after the position's member, or the first gap if the position is null. The gap "before" a position is the gap before
+//! the position's member, or the last gap if the position is null. No edit compares keys. The traits `CursorOps` and `Bidirectional` document the calls.
 
 ghost use Rattle.std.specs.Prelude.{◌≡◌, None, Option, List, [], ◌∷◌, ◌++◌};
 ghost use Rattle.ic_link_ops.specs.Prelude.{Place, IsCovered, ChangesOnlyIn, site, IsValidCursor, HasMember, releases};
@@ -44,7 +44,7 @@ impl<A: KeyAdapter, E: TreeHead> RBTree<A, E> {
         self.head.end(links, Side::Right)
     }
 
-    /// Removes the object, which has to be a member, from the tree. O(log n). It compares no keys.
+    /// Removes the object, which has to be a member, from the tree. The call compares no keys. O(log n).
     ///
     /// The other members stay in their order, and every other collection of the table stays as it is.
     #[inline]
@@ -61,7 +61,7 @@ impl<A: KeyAdapter, E: TreeHead> RBTree<A, E> {
         remove(links, &mut self.head, object.place());
     }
 
-    // Inserts the object into the gap beside the position, and returns whether its link was acquired.
+    // Inserts `object` into the gap on the side `side` of the position `at`. Returns whether the link of `object` was acquired.
     #[inline]
     fn insert_beside<L: RBTreeOps>(
         &mut self,

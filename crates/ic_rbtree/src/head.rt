@@ -42,7 +42,7 @@ pub trait TreeHead: Drop {
     fn root(&self) -> Option<Place>
         ensures { result ≡ root_kept (kept self.now) };
 
-    /// Inserts `place` on this side of `parent`, as [`RBTree::attach`](crate::RBTree::attach) does. O(log n).
+    /// Inserts `place` on the side `side` of `parent`, as [`RBTree::attach`](crate::RBTree::attach) does. O(log n).
     fn attach<N: NodeStore>(
         &mut self,
         nodes: &mut N,
@@ -76,7 +76,7 @@ pub trait TreeHead: Drop {
         ensures ends { (front back : List Place) → IsDistinct (front ++ place ∷ back) → TellsEnds (kept self.old) (front ++ place ∷ back)
             → TellsEnds (kept self.new) (front ++ new ∷ back) };
 
-    /// The outermost member on this side, `None` if the tree has no members. O(log n), or O(1) if the tree stores its ends.
+    /// The outermost member on the side `side`, `None` if the tree has no members. O(log n), or O(1) if the tree stores its ends.
     fn end<L: RBTreeOps>(&self, links: &L, side: Side) -> Option<Place>
         requires shown { HasEnds L.node (L.table links.now) (kept self.now) }
         ensures { EndIs L.node side (L.table links.now) (kept self.now) result };
@@ -85,15 +85,15 @@ pub trait TreeHead: Drop {
     fn kept_last(&self) -> Option<Place>
         ensures { result ≡ last_kept (kept self.now) };
 
-    /// Updates the head after a call has joined the members of both trees, with `place` between them, into the tree with this root. After the call, `other`
-    /// is the head of a tree with no members. O(1).
+    /// Updates the head after a call has joined its tree and the tree of `other`, with `place` between them. The joined tree has the root `root`. After the
+    /// call, `other` is the head of a tree with no members. O(1).
     fn join(&mut self, root: Option<Place>, place: Place, other: &mut Self)
         ensures root { root_kept (kept self.new) ≡ root }
         ensures ends { (s t : List Place) → TellsEnds (kept self.old) s → TellsEnds (kept other.old) t → TellsEnds (kept self.new) (s ++ place ∷ t) }
         ensures emptied { IsEmptied (kept other.new) };
 
-    /// Updates the head after a call has split the members of its tree into the trees with the roots `front` and `back`. This head becomes that of the
-    /// first tree, and the head of the second is returned. `place` is the first member of the second tree. O(1), or O(log n) if the ends are stored.
+    /// Updates the head after a call has split its tree into the trees with the roots `front` and `back`. This head becomes that of the first tree, and the
+    /// head of the second tree is returned. `place` is the first member of the second tree. O(1), or O(log n) if the ends are stored.
     fn split<L: RBTreeOps>(
         &mut self,
         links: &L,
@@ -228,7 +228,7 @@ impl WithEnds {
     }
 }
 
-// The end of a tree after `new` has replaced the member `out`: `new` if `out` was the end, otherwise the old end.
+// The end of a tree after `new` has replaced the member `out`. If the old end `end` is `out`, the new end is `new`, otherwise the end stays.
 #[inline]
 fn end_for(out: Place, new: Place, end: Option<Place>) -> Option<Place>
     ensures { result ≡ end_for out new end }
@@ -236,8 +236,8 @@ fn end_for(out: Place, new: Place, end: Option<Place>) -> Option<Place>
     if is_at(end, out) { Some(new) } else { end }
 }
 
-// The end of a tree on side d after the member at `place` is removed. If this member is the end, the next member inwards will be the end, otherwise the end
-// stays.
+// Returns which member will be outermost on the side `d` after the member at `place` is removed. Before the removal the outermost member is `end`. If `end` is
+// at `place`, the result is the next member inwards, otherwise the result is `end`.
 #[inline]
 fn end_without<N: NodeStore>(
     nodes: &N,

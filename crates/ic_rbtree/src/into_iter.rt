@@ -28,8 +28,8 @@ use std::marker::PhantomData;
 
 /// A walk that removes and returns the members of a tree: `next` takes the first, and `next_back` the last.
 ///
-/// The walk unlinks each member that it returns, and no other. When the walks from the two ends have met, no member is left for either. If the walk is
-/// dropped, the remaining members stay linked: call [`finish`](Self::finish) to unlink them.
+/// The walk unlinks each member that it returns, and no other. After [`next`](Self::next) and [`next_back`](Self::next_back) have together returned all
+/// members, both return `None`. If the walk is dropped, the remaining members stay linked: call [`finish`](Self::finish) to unlink them.
 pub struct IntoIter<'a, A, L> {
     front: PlaceWord,
     back: PlaceWord,
@@ -64,8 +64,7 @@ impl<'a, A: KeyAdapter, L: RBTreeOps> Iterator for IntoIter<'a, A, L> {
     /// Removes the first remaining member and returns it, or `None` if none is left. O(log n), and O(1) on average over
     /// the whole walk.
     ///
-    /// If the removed member has a child, this child takes the position of the removed member and stays linked, whatever the color of the child is. This
-    /// also holds if no parent is left for the child. No colors are repaired.
+    /// If the removed member has a child, this child takes the position of the removed member, and keeps its color. The walk repairs no colors.
     #[inline]
     fn next(&mut self) -> Option<UnsafeRef<A::Value>> {
         let place = take_end(self.links, &mut self.front, &mut self.back, Side::Left)?;
@@ -141,9 +140,9 @@ impl<A: KeyAdapter, E: TreeHead> RBTree<A, E> {
     }
 }
 
-// Removes the member at the near end, which is the outermost member on this side, and unlinks it.
+// Removes the outermost member on the side `side`, which is at `near`, and unlinks it. `far` is the outermost member on the other side.
 //
-// The member has no child on this side, and its other child takes the position of the member. No other color is changed, and no root is stored.
+// The removed member has no child on the side `side`, and its other child takes its position. No color is changed, and no root is stored.
 fn take_end<L: RBTreeOps>(
     links: &mut L,
     near: &mut PlaceWord,
@@ -172,7 +171,7 @@ fn take_end<L: RBTreeOps>(
     Some(place)
 }
 
-// Makes the subtree with the root `to` the child of `parent` on this side, if there is a parent.
+// Makes the subtree with the root `to` the child of `parent` on the side `side`, if there is a parent.
 fn hang<L: RBTreeOps>(links: &mut L, parent: Option<Place>, side: Side, to: Option<Place>)
     requires parent { IsNamed L.node (L.table links.old) parent }
     requires named { IsNamed L.node (L.table links.old) to }
@@ -184,8 +183,8 @@ fn hang<L: RBTreeOps>(links: &mut L, parent: Option<Place>, side: Side, to: Opti
     }
 }
 
-// Returns the outermost member on this side of a tree that has no member beyond the child `below` of `parent` and its subtree. If there is no child, the
-// result is the parent.
+// Returns the outermost member on the side `side` of the subtree with the root `below`, or `parent` if `below` is none. The subtree is below `parent`, and no
+// member of the tree is beyond the subtree on this side.
 fn outer<L: RBTreeOps>(
     links: &L,
     below: Option<Place>,

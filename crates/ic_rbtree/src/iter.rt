@@ -27,8 +27,8 @@ use std::marker::PhantomData;
 
 /// A walk over the objects of a tree: `next` returns the objects from the front, and `next_back` from the back.
 ///
-/// When the walks from the two ends have met, no object is left for either. The bound `A::Key: 'a` holds for every key that is a part of its object. Only
-/// callers that are generic in the adapter have to write this bound.
+/// After `next` and `next_back` have together returned all objects, both return `None`. The bound `A::Key: 'a` holds for every key that is a part of its
+/// object. Only callers that are generic in the adapter have to write this bound.
 pub struct Iter<'a, A: KeyAdapter, L, O = Objects<<A as KeyAdapter>::Value>>
 where
     A::Key: 'a,
@@ -109,7 +109,7 @@ impl<A: KeyAdapter, L, O> Clone for Iter<'_, A, L, O> {
 
     ghost is_infallible = { λ _. ⊤ };
 
-    /// A second walk over the objects that remain, from the two ends of this walk. The call never fails.
+    /// A second walk over the objects that this walk has not returned yet. The call never fails.
     fn clone(&self) -> Result<Self, AllocError> {
         Ok(Iter {
             root: self.root,

@@ -30,8 +30,9 @@ impl<A, E: TreeHead> RBTree<A, E> {
     /// Moves all members of `other` after those of this tree, in their order, and leaves `other` empty. It compares no
     /// keys.
     ///
-    /// It requires that the two trees share no member. Trees that share no member with either stay as they are, and no link is acquired or released. The
-    /// call appends as `LinkedList::append` of std does. In contrast, `BTreeMap::append` puts each entry where its key belongs. O(log n).
+    /// It requires that the two trees share no member. Trees that share no member with this tree and `other` stay as they are, and no link is acquired or
+    /// released. The members of `other` come last, as in `LinkedList::append` of std. In contrast, `BTreeMap::append` of std puts each entry where its key
+    /// belongs. O(log n).
     pub fn append<N: NodeStore>(&mut self, nodes: &mut N, other: &mut RBTree<A, E>)
         requires shown { RepresentsPartsSome (RepresentsKept E.kept N.node) (N.table nodes.old) (head_of self.old) (head_of other.old) }
         ensures appended { (gap : Cut) → RepresentsParts (RepresentsKept E.kept N.node) (N.table nodes.old) (head_of self.old) (head_of other.old) gap
@@ -82,12 +83,12 @@ impl<A: KeyAdapter, E: TreeHead> RBTree<A, E> {
         Ok(())
     }
 
-    /// Keeps the members before the object, which has to be a member, and returns the object and all members after it as a tree with the adapter of this
-    /// tree. It compares no keys, and no link is acquired or released.
+    /// Splits the tree before the object: keeps the members before it, and returns a tree of the object and all members after it. The object has to be a
+    /// member. The returned tree has the adapter of this tree. The call compares no keys, and no link is acquired or released.
     ///
-    /// Trees that share no member with this tree stay as they are. O(log n): the call joins the subtrees beside one path up, each in time proportional to a
-    /// difference of heights (Cormen, Leiserson, Rivest and Stein, problem 13-2). Each turn of the loop passes the heights on to the next turn, so that no
-    /// turn measures a tree. The sum of the differences is at most a multiple of the tree's height.
+    /// Trees that share no member with this tree stay as they are. O(log n): the call joins the subtrees beside the path from the object up to the root. Each
+    /// join takes time proportional to a difference of heights (Cormen, Leiserson, Rivest and Stein, problem 13-2). The sum of these differences is at most a
+    /// multiple of the tree's height. Each turn of the loop passes the heights on to the next turn, so that no turn measures a tree.
     pub fn split_off<L: RBTreeOps>(
         &mut self,
         links: &mut L,

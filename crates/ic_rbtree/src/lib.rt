@@ -8,17 +8,17 @@
 //! let first = tree.front_mut(&mut links).remove();
 //! ```
 //!
-//! A tree with [`WithEnds`] also stores its first and its last member, for timers and queues. A tree with these ends has all calls that a tree without them
-//! has.
+//! A tree with [`WithEnds`] also stores its first and its last member, which is good for timers and queues. It has all calls of a tree that stores only its
+//! root.
 //!
 //! ```text
 //! let mut timers = RBTree::with_ends(ByDeadline);
 //! let due = timers.pop_front(&mut links); // no descent
 //! ```
 //!
-//! You may store trees in words of your own. For an edit, make a tree of the root that you store, call the layer under these calls, and store the root that
-//! the tree has after the edit. The layer under these calls runs over every implementation of [`NodeStore`]. It requires only a set of linked places that
-//! contains the places of the call and out of which no link leads.
+//! You may store trees in words of your own. For an edit, make a tree of the root that you store, call `attach`, `unlink` or `take_place`, and store the root
+//! that the tree has after the call. These calls run over every implementation of [`NodeStore`]. They require that the places that you pass are in a set of
+//! linked places out of which no link leads. Only the links of a place that the call inserts may lead anywhere.
 //!
 //! ```text
 //! let mut tree = RBTree::from_root((), root);

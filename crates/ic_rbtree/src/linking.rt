@@ -20,8 +20,8 @@ use ic_link_ops::rbtree::RBTreeOps;
 use ic_link_ops::{LinkOps, Side};
 use ic_unsafe_ref::{Place, Values};
 
-// Links the place as a new member on this side of `parent`, which has no child there, and returns whether the link was
-// acquired. If there is no parent, the tree is empty.
+// Links `place` as a new member on the side `side` of `parent`, which has no child there. If there is no parent, the tree is empty. Returns whether the link
+// was acquired.
 pub(crate) fn insert<L: RBTreeOps, E: TreeHead>(
     links: &mut L,
     head: &mut E,
@@ -46,8 +46,8 @@ pub(crate) fn insert<L: RBTreeOps, E: TreeHead>(
     true
 }
 
-// Links the place as a new member where it belongs by the probe's order, after the members that compare equal. It returns whether the link was acquired. If
-// the link was not acquired, no key is compared.
+// Links `object` as a new member where it belongs by the probe's order, after the members that compare equal. Returns whether the link was acquired. If the
+// link was not acquired, no key is compared.
 #[inline]
 pub(crate) fn insert_in_order<L: RBTreeOps, E: TreeHead, V, P: Probe<V>, O: Values<V>>(
     links: &mut L,
@@ -76,7 +76,7 @@ pub(crate) fn insert_in_order<L: RBTreeOps, E: TreeHead, V, P: Probe<V>, O: Valu
     true
 }
 
-// Removes the member from the tree, and unlinks it.
+// Removes the member at `place` from the tree, and unlinks it.
 pub(crate) fn remove<L: RBTreeOps, E: TreeHead>(links: &mut L, head: &mut E, place: Place)
     requires member { (gap : Cut) × RepresentsKept E.kept L.node (L.table links.old) head.old (join gap) × IsBefore gap (Some place) }
     ensures removed { (gap : Cut) → RepresentsKept E.kept L.node (L.table links.old) head.old (join gap) → IsBefore gap (Some place)
@@ -87,7 +87,7 @@ pub(crate) fn remove<L: RBTreeOps, E: TreeHead>(links: &mut L, head: &mut E, pla
     links.release_link(place);
 }
 
-// Links another place instead of a member, and unlinks the member. It returns whether the link was acquired.
+// Replaces the member at `place` by `new`: links `new`, and unlinks the member. Returns whether the link of `new` was acquired.
 pub(crate) fn replace<L: RBTreeOps, E: TreeHead>(
     links: &mut L,
     head: &mut E,

@@ -1,4 +1,4 @@
-//! What the edits of a tree require of the entries that they write.
+//! The trait of all stores of tree entries. The functions that edit a tree read and write entries only by calls of this trait.
 //!
 //! ```text
 //! attach(nodes, root, parent, side, place); // of any table, or of words that a caller keeps
@@ -16,20 +16,20 @@ use ic_link_ops::rbtree::RBTreeOps;
 use ic_link_ops::{Color, Side};
 use ic_unsafe_ref::Place;
 
-/// A store of entries, each with two children, a parent and a color. The edits of a tree write to it.
+/// A store of entries, each of which has two children, a parent and a color.
 ///
-/// Every table of tree links is a store of this kind. The calls of this trait link and unlink no place.
+/// Every table of tree links is a `NodeStore`. The calls of this trait link and unlink no place.
 pub trait NodeStore {
     /// All that is stored at a place.
     type Entry;
 
-    // How many places there are, and the entry of each.
+    // The store in the form that contracts use: how many places it has, and the entry of each place.
     ghost table: { Self → Table Self.Entry };
 
     // What an entry states: whether its place is linked, its children, its parent and its color.
     ghost node: { Self.Entry → Node };
 
-    // Between the two states of the store, calls have set only children, parents and colors.
+    // Says of two states of a store that the calls between them have set only children, parents and colors.
     ghost KeepsLinks: { Self → Self → Type 0 };
 
     /// The left child of `place`. It requires that the place is linked. O(1).
@@ -52,7 +52,7 @@ pub trait NodeStore {
         requires linked { IsNode node (table self.now) place }
         ensures { result ≡ (node_at node (table self.now) place).color };
 
-    /// Whether `place` is the child of `above` on this side. It requires that both are linked. O(1).
+    /// Whether `place` is the child of `above` on the side `side`. It requires that both places are linked. O(1).
     #[inline]
     fn is_child(&self, place: Place, above: Place, side: Side) -> bool
         requires above { IsNode node (table self.now) above }
@@ -105,8 +105,8 @@ pub trait NodeStore {
         ensures frame { ChangesOnly (table self.old) (table self.new) place }
         ensures keeps_links { KeepsLinks self.old self.new };
 
-    // The laws of `KeepsLinks`: it holds from a state to this state, and it holds over two changes if it holds over each. A change over which it holds
-    // links and unlinks no place.
+    // `KeepsLinks` holds from a state `t` to the same state. If it holds from `a` to `b` and from `b` to `c`, it holds from `a` to `c`. If it holds from `old`
+    // to `new`, the same places are linked in both states.
     ghost keeps_links_still: { (t : Self) → KeepsLinks t t };
 
     ghost keeps_links_on: { (a b c : Self) → KeepsLinks a b → KeepsLinks b c → KeepsLinks a c };

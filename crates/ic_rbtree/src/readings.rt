@@ -1,4 +1,4 @@
-//! Functions that read a member's position in the tree, by sides.
+//! Functions that read the links and the color of a member, by sides.
 
 ghost use Rattle.std.specs.Prelude.{◌≡◌, Some};
 ghost use Rattle.ic_unsafe_ref.specs.declared.place.Place.{Place};
@@ -62,7 +62,7 @@ pub(crate) fn has_red_child<N: NodeStore>(links: &N, place: Place) -> bool
     is_red(links, links.left(place)) || is_red(links, links.right(place))
 }
 
-// Returns the left child of a member, or if there is no left child, the right child.
+// Returns the left child of `place`, or if there is no left child, the right child.
 pub(crate) fn only_child<N: NodeStore>(links: &N, place: Place) -> Option<Place>
     requires { IsNode N.node (N.table links.now) place }
     ensures { result ≡ or_else (node_at N.node (N.table links.now) place).left
@@ -98,7 +98,7 @@ pub(crate) fn side_below<N: NodeStore>(links: &N, place: Place, parent: Option<P
     }
 }
 
-// Returns the right child of a member that has both children, otherwise `None`.
+// Returns the right child of `place` if it has both children, otherwise `None`.
 pub(crate) fn second_child<N: NodeStore>(links: &N, place: Place) -> Option<Place>
     requires { IsNode N.node (N.table links.now) place }
     ensures { result ≡ both_of (node_at N.node (N.table links.now) place).left
@@ -110,7 +110,7 @@ pub(crate) fn second_child<N: NodeStore>(links: &N, place: Place) -> Option<Plac
     }
 }
 
-// The color of a new member: red below a parent, and black at the root.
+// Returns the color that a repair gives to `place`: red if it has a parent, and black if it is the root.
 pub(crate) fn color_here<N: NodeStore>(links: &N, place: Place) -> Color
     requires { IsNode N.node (N.table links.now) place }
     ensures { result ≡ color_below (node_at N.node (N.table links.now) place).parent }
@@ -121,7 +121,7 @@ pub(crate) fn color_here<N: NodeStore>(links: &N, place: Place) -> Color
     }
 }
 
-// Whether two sides are different.
+// Whether the sides `one` and `other` are different.
 pub(crate) fn is_across(one: Side, other: Side) -> bool
     ensures { result ≡ are_across one other }
 {

@@ -1,7 +1,7 @@
-//! Steps from a position in a tree to a neighbor, and to the insert position between them.
+//! Steps from a position in a tree to a neighbor, and the insert position between the position and this neighbor.
 //!
-//! If a member has a child on the side of the step, its neighbor is the outermost member below that child, on the other side. Otherwise the neighbor is the
-//! lowest member above whose subtree on the other side contains the member.
+//! If a member has a child on the side of the step, its neighbor is the outermost member at or below this child, on the other side. Otherwise its neighbor is
+//! above it: the lowest member whose subtree on the other side contains it.
 
 ghost use Rattle.std.specs.Prelude.{◌≡◌, List, Option, Some, None};
 ghost use Rattle.ic_link_ops.specs.Prelude.{Place, Cut, join, site, IsValidCursor};
@@ -15,7 +15,7 @@ use ic_link_ops::rbtree::RBTreeOps;
 use ic_link_ops::{PlaceWord, Side};
 use ic_unsafe_ref::Place;
 
-// Returns the outermost member on a side, at or below a place.
+// Returns the outermost member on the side `side`, at or below `place`.
 #[inline]
 pub(crate) fn outermost<L: RBTreeOps>(links: &L, place: Place, side: Side) -> Place
     requires { IsInTree L.node (L.table links.now) place }
@@ -28,7 +28,7 @@ pub(crate) fn outermost<L: RBTreeOps>(links: &L, place: Place, side: Side) -> Pl
     place
 }
 
-// Returns the lowest of the members above a place that are on this side of the place, `None` if there is none.
+// Returns the lowest member above `place` that is on the side `side` of `place`, `None` if there is none.
 #[inline]
 pub(crate) fn above_on<L: RBTreeOps>(links: &L, place: Place, side: Side) -> Option<Place>
     requires { IsInTree L.node (L.table links.now) place }
@@ -46,7 +46,7 @@ pub(crate) fn above_on<L: RBTreeOps>(links: &L, place: Place, side: Side) -> Opt
     None
 }
 
-// The outermost member on a side, `None` in an empty tree.
+// The outermost member on the side `side`, `None` in an empty tree.
 #[inline]
 pub(crate) fn end_on<L: RBTreeOps>(links: &L, root: Option<Place>, side: Side) -> Option<Place>
     requires shown { RepresentsSome L.node (L.table links.now) root }
@@ -55,8 +55,8 @@ pub(crate) fn end_on<L: RBTreeOps>(links: &L, root: Option<Place>, side: Side) -
     Some(outermost(links, root?, side))
 }
 
-// Returns the outermost member on a side, for a cursor that moves from null. A cursor moves from null only once in a round through the tree, so this call
-// is not inlined, and the code of a step from a member stays short.
+// Returns the outermost member on the side `side`, for a cursor that moves from null. A cursor moves from null only once in a round through the tree, so this
+// call is not inlined, and the code of a step from a member stays short.
 #[cold]
 #[inline(never)]
 fn end_from_null<L: RBTreeOps>(links: &L, root: Option<Place>, side: Side) -> Option<Place>
@@ -66,7 +66,7 @@ fn end_from_null<L: RBTreeOps>(links: &L, root: Option<Place>, side: Side) -> Op
     end_on(links, root, side)
 }
 
-// Returns the position to which a step to a side leads. From null the step leads to the outermost member on the other side.
+// Returns the position to which a step to the side `side` leads from `current`. From null the step leads to the outermost member on the other side.
 #[inline]
 pub(crate) fn step<L: RBTreeOps>(
     links: &L,
@@ -88,8 +88,8 @@ pub(crate) fn step<L: RBTreeOps>(
     }
 }
 
-// Returns the insert position, a missing child, beside a position: the member above the insert position, `None` in an empty tree, and the side of this
-// member.
+// Returns the insert position, a missing child, on the side `side` of the position `current`. The result is the member above the insert position, `None` in an
+// empty tree, and the side of this member.
 #[inline]
 pub(crate) fn insert_pos_beside<L: RBTreeOps>(
     links: &L,

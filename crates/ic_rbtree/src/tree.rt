@@ -1,4 +1,4 @@
-//! The type of red-black trees, the calls that make a tree or read its root, and the layer of edits under all calls.
+//! The type of red-black trees, the calls that make a tree or read its root, and the edits that run over any store of nodes.
 //!
 //! ```text
 //! let mut tree = RBTree::new(ByDeadline);
@@ -29,7 +29,7 @@ use ic_unsafe_ref::{Place, Values};
 
 /// A red-black tree of objects in an order. It stores its root, and the adapter that finds the keys.
 ///
-/// The tree is good for objects in order that are inserted and removed anywhere. The tree has the sequence that the table represents for its root. The type
+/// A tree is good for objects in order that are inserted and removed anywhere. Its members are the sequence that the table represents for its root. The type
 /// parameter `E` determines what the tree stores besides the root: nothing, or with [`WithEnds`](crate::WithEnds) its first and its last member.
 pub struct RBTree<A, E = Root> {
     pub(crate) head: E,
@@ -66,9 +66,9 @@ impl<A> RBTree<A> {
         RBTree::empty(adapter)
     }
 
-    /// The tree with this root, as [`RBTree::root`] returns it, and this adapter. It reads no links. O(1).
+    /// A tree with the adapter `adapter` and the root `root`, which [`RBTree::root`] has returned. It reads no links. O(1).
     ///
-    /// The result is a second head of the same members: an edit through one of the two does not update the other.
+    /// The result has the same members as the tree that had this root. An edit through one of these two trees does not update the other tree.
     #[inline]
     pub fn from_root(adapter: A, root: Option<Place>) -> RBTree<A>
         ensures root { root_of result ≡ root }
@@ -80,7 +80,7 @@ impl<A> RBTree<A> {
         }
     }
 
-    /// Turns the tree into a tree that also stores its first and its last member. The call finds these two in the table. It requires that the table
+    /// Turns the tree into a tree that also stores its first and its last member. The call finds these two members in the table. It requires that the table
     /// represents the tree. O(log n).
     pub fn keep_ends<L: RBTreeOps>(self, links: &L) -> RBTree<A, WithEnds>
         requires shown { RepresentsSome L.node (L.table links.now) (root_of self) }
@@ -119,7 +119,7 @@ impl<A> RBTree<A, WithEnds> {
 }
 
 impl<A, E: TreeHead> RBTree<A, E> {
-    // An empty tree of either kind.
+    // An empty tree, which stores its ends or not, as `E` says.
     #[inline]
     pub(crate) fn empty(adapter: A) -> RBTree<A, E>
         ensures empty { IsEmptied (E.kept (head_of result)) }
@@ -158,11 +158,10 @@ impl<A: Copy, E> RBTree<A, E> {
     }
 }
 
-// The layer under the calls of a tree, over any store of nodes. A set of places is closed if each place in the set is linked, and if the children and the
-// parent of each are none or in the set. The root must also be none or in the set.
+// The layer under all other calls of a tree. The calls of this layer, except `descend`, run over any store of nodes. A set of places is closed if each place in
+// the set is linked, and if the children and the parent of each are none or in the set. The root must also be none or in the set.
 impl<A, E: TreeHead> RBTree<A, E> {
-    /// Inserts `place` on this side of `parent`, which has no child there, and repairs the colors. If there is no parent, the
-    /// tree is empty.
+    /// Inserts `place` on the side `side` of `parent`, which has no child there, and repairs the colors. If there is no parent, the tree is empty.
     ///
     /// It requires a set that contains `place` and `parent` and is closed, except that the links of `place` may lead anywhere. The call terminates and
     /// leaves the required set closed, whatever the link words contain. If the table holds a tree, the result is that tree with `place` inserted. O(log n).
@@ -203,7 +202,7 @@ impl<A, E: TreeHead> RBTree<A, E> {
         self.head.unlink(nodes, place);
     }
 
-    /// Replaces the member at `place` by `new`, with the color of this member. Both stay linked.
+    /// Replaces the member at `place` by `new`, which gets the color of this member. Both places stay linked.
     ///
     /// It requires two different places, and a set that contains both and is closed, except that the links of `new` may lead anywhere. The call leaves the
     /// required set closed, whatever the link words contain. If the table holds a tree, the result is that tree with `new` instead of `place`. O(1).
@@ -221,11 +220,10 @@ impl<A, E: TreeHead> RBTree<A, E> {
         self.head.take_place(nodes, place, new);
     }
 
-    /// The position to which a step to a side leads. From a member the step leads to the next member on that side, or to null if there is none. From null
-    /// it leads to the outermost member on the other side.
+    /// The position to which a step to the side `side` leads from `current`. From a member the step leads to the next member on this side, or to null if there
+    /// is none. From null it leads to the outermost member on the other side.
     ///
-    /// It requires a closed set that contains the position. The call terminates, whatever the words contain. O(log n), and O(1)
-    /// on average over a walk.
+    /// It requires a closed set that contains the position. The call terminates, whatever the link words contain. O(log n), and O(1) on average over a walk.
     #[inline]
     pub fn step<N: NodeStore>(&self, nodes: &N, current: Option<Place>, side: Side) -> Option<Place>
         requires { IsSafe N.node (N.table nodes.now) (root_in E.kept self.now) (current ∷ []) }

@@ -25,7 +25,7 @@ use crate::repair::writers::{adopt, set_node};
 use ic_link_ops::{Color, PlaceWord};
 use ic_unsafe_ref::Place;
 
-// Returns the number of members of a vine, given its first member.
+// Returns the number of members of the vine with the first member `first`.
 pub(crate) fn vine_length<N: NodeStore>(links: &N, first: Option<Place>) -> u64
     requires { (s : List Place) × IsWalk (along N.node) (Table.entry (N.table links.now)) first s }
     ensures { (s : List Place) → IsWalk (along N.node) (Table.entry (N.table links.now)) first s → result ≡ length s }
@@ -40,7 +40,7 @@ pub(crate) fn vine_length<N: NodeStore>(links: &N, first: Option<Place>) -> u64
     u64::MAX
 }
 
-// Appends a linked place to a vine that ended with `back`.
+// Appends the linked place `place` to the vine with the first member `front` and the last member `back`.
 pub(crate) fn hang_after<N: NodeStore>(
     links: &mut N,
     front: &mut PlaceWord,
@@ -60,8 +60,8 @@ pub(crate) fn hang_after<N: NodeStore>(
     }
 }
 
-// Returns one end of a vine after a removal at the opposite end, where `neighbor` is the outermost member now. If `neighbor` is `None`, the vine is empty,
-// and so the result is `None`.
+// Returns one end of a vine after a removal at the opposite end. The vine had the end `end` before, and `neighbor` is the outermost member at the opposite end
+// after the removal. If `neighbor` is `None`, the vine is empty, and the result is `None`.
 #[inline]
 pub(crate) fn end_beyond(neighbor: Option<Place>, end: Option<Place>) -> Option<Place>
     ensures { result ≡ end_of neighbor None end }
@@ -72,7 +72,7 @@ pub(crate) fn end_beyond(neighbor: Option<Place>, end: Option<Place>) -> Option<
     }
 }
 
-// Returns the color of a member: red if its black height is 0, otherwise black. The black height counts the member itself.
+// Returns the color of the root of a tree whose paths down have `height` black members, including the root. The color is red if `height` is 0, otherwise black.
 fn color_at(height: u32) -> Color
     ensures { weight result + (height - 1) ≡ height }
 {
@@ -82,9 +82,9 @@ fn color_at(height: u32) -> Color
     }
 }
 
-// Makes a tree of the first `count` members of a vine, and returns it with the member after them. Each path down has `height` black
-// members: at each member the sizes left and right differ by at most one, so all levels except the lowest are full. If the lowest
-// level is not full, its members are red.
+// Makes a tree of the first `count` members of the vine that begins with `first`. Returns the root of the tree, and the member after these members. Each path
+// down has `height` black members. At each member the sizes of the left and the right subtree differ by at most one, so all levels except the lowest are full.
+// If the lowest level is not full, its members are red.
 pub(crate) fn vine_to_tree<N: NodeStore>(
     links: &mut N,
     first: Option<Place>,
@@ -113,7 +113,8 @@ pub(crate) fn vine_to_tree<N: NodeStore>(
     (Some(place), rest)
 }
 
-// Makes a vine of the members of the tree with this root, with `after` as the right child of the last member. Returns the first member of the vine.
+// Makes a vine of the members of the tree with this root, with `after` as the right child of the last member. The height of the tree is at most `turns`.
+// Returns the first member of the vine.
 pub(crate) fn tree_to_vine<N: NodeStore>(
     links: &mut N,
     root: Option<Place>,

@@ -12,7 +12,7 @@ use Rattle.ic_link_ops.proofs.Chains.{chain_kept, chain_cut, chain_glue, chain_l
 use Rattle.ic_link_ops.proofs.DoublyLists.{between_linked}
 use Rattle.ic_ring.specs.Rings.{IsCircle}
 
--- APART: a place whose entry names, as the next or the previous place, a place that is not in a chain, is not in the chain
+-- Lemmas about places outside a chain. `next_out` and `prev_out` say that a place q is not in the chain s, if the next or the previous place of q is not in s
 outside_tail : (a : Option Place) (x : Place) (s : List Place) → IsOutside a (x ∷ s) → IsOutside a s
 outside_tail None x s out = tt
 outside_tail (Some q) x s out = out.1
@@ -70,7 +70,7 @@ stays_linked {linked = linked} {old} {new} {p} q links was = elim (same_or_not q
 ]
 
 module _ {E : Type 0} (n : E → Neighbors) where
-  -- IF A NEXT PLACE IS SET TO WHAT IT WAS, no entry changes in what it says of neighbors
+  -- if the next place of p is set to the place that it was before, each entry names the same neighbors as before
   pub next_stays : {old new : Table E} {p : Place} {to : Option Place} → ChangesOnly old new p → neighbors_at n new p ≡ record (neighbors_at n old p) { next = to }
       → (neighbors_at n old p).next ≡ to → (q : Place) → neighbors_at n new q ≡ neighbors_at n old q
   next_stays {old} {new} frame set is q = elim (same_or_not q _) [
@@ -114,7 +114,7 @@ module _ {E : Type 0} {n : E → Neighbors} where
       let m = member_split p r member in
       (m.1 ++ m.0, rotated m.0 (p ∷ m.1) (subst (IsCircle n t) m.2 c), λ q out. absent_turned q (p ∷ m.1) m.0 (subst (IsAbsent q) m.2 out))
 
-  -- FACING: if b is the place after x in a ring, then x is the place before b
+  -- if b is the place after x in a ring, then x is the place before b
   pub facing : {t : Place → E} (x : Place) (s : List Place) {b : Place} → IsCircle n t (x ∷ s) → (n (t x)).next ≡ Some b → (n (t b)).prev ≡ Some x
   facing {t} x [] c e = subst (λ z. (n (t z)).prev ≡ Some x) (some_same (sym c.chain.0.next ∙ e)) c.chain.0.prev
   facing {t} x (y ∷ s) c e = subst (λ z. (n (t z)).prev ≡ Some x) (some_same (sym c.chain.0.next ∙ e)) c.chain.1.0.prev
@@ -123,7 +123,7 @@ module _ {E : Type 0} {n : E → Neighbors} where
   pub circle_kept : {t0 t1 : Place → E} {r : List Place} → IsCircle n t0 r → ((q : Place) → (IsAbsent q r → ⊥) → t1 q ≡ t0 q) → IsCircle n t1 r
   circle_kept {t0} {t1} {r} c same = record { distinct = c.distinct; chain = chain_kept (IsBetween n) t0 t1 (last r) r (first r) same c.chain }
 
-  -- OUT: p leaves the circle, if its two neighbors are made neighbors of each other
+  -- p leaves the circle, if its two neighbors are made neighbors of each other
   pub circle_closed : {t0 t1 t2 : Place → E} (p : Place) (r : List Place) → IsCircle n t0 (p ∷ r)
       → TurnsAfter (IsBetween n) t0 t1 (last r) (Some p) (first r) → TurnsBefore (IsBetween n) t1 t2 (first r) (Some p) (last r) → IsCircle n t2 r
   circle_closed {t0} {t1} {t2} p r c after before = record {
@@ -146,7 +146,7 @@ module _ {E : Type 0} {n : E → Neighbors} where
             (chain_last b t0 t1 (last_or (last (out ++ r)) out) r (first (out ++ r)) (first r) after distinct cut.1);
       }
 
-  -- IN: p is inserted between the last and the first place of the circle r, if the entry of p already names both, and both are made neighbors of p
+  -- p is inserted between the last and the first place of the circle r, if the entry of p already names these two places, and they are made neighbors of p
   pub circle_filled : {t0 t1 t2 : Place → E} (p : Place) (r : List Place) {b : Place} → Some b ≡ first r → IsCircle n t0 r → IsAbsent p r
       → IsBetween n (t0 p) (last r) (first r)
       → TurnsAfter (IsBetween n) t0 t1 (last r) (first r) (Some p) → TurnsBefore (IsBetween n) t1 t2 (first r) (last r) (Some p)
@@ -163,7 +163,7 @@ module _ {E : Type 0} {n : E → Neighbors} where
         );
       }
 
-  -- EXCHANGED: if the last places of two circles exchange their next places, the two circles become one circle
+  -- if the last places of two circles exchange their next places, the two circles become one circle
   pub circles_joined : {t0 t1 t2 t3 t4 : Place → E} (x : Place) (r : List Place) (y : Place) (u : List Place) → IsCircle n t0 (x ∷ r) → IsCircle n t0 (y ∷ u)
       → IsDisjoint (x ∷ r) (y ∷ u)
       → TurnsAfter (IsBetween n) t0 t1 (last (x ∷ r)) (Some x) (Some y) → TurnsBefore (IsBetween n) t1 t2 (Some y) (last (y ∷ u)) (last (x ∷ r))
@@ -215,7 +215,7 @@ module _ {E : Type 0} {n : E → Neighbors} where
       let u4 = chain_first b t3 t4 (last a) (last e) e (Some y) turn4 d_e u3 in
       (record { distinct = d_a; chain = r4 }, record { distinct = d_e; chain = u4 })
 
-  -- APART: if a place p is not in a circle r, no place whose next place is p is in r. `after_apart` says this of the previous place
+  -- if a place p is not in a circle r, no place whose next place is p is in r. `after_apart` says the same of places whose previous place is p
   pub before_apart : {t : Place → E} (r : List Place) (p : Place) {q : Place} → IsCircle n t r → IsAbsent p r → (n (t q)).next ≡ Some p → IsAbsent q r
   before_apart {t} r p c out leads = next_out n t (last r) (first r) r (Some p) c.chain (λ e. first_not r None p (none_not p) out (sym e)) out leads
 
@@ -239,7 +239,7 @@ module _ {E : Type 0} {n : E → Neighbors} where
   pub circles_apart : {t : Place → E} (r : List Place) (p : Place) (s : List Place) → IsCircle n t r → IsCircle n t (p ∷ s) → IsAbsent p r → IsDisjoint (p ∷ s) r
   circles_apart r p s c k out = (out, chain_apart r (Some p) s (Some p) c (λ e. first_not r None p (none_not p) out e) out k.chain.1)
 
-  -- the two circles of h and g share no place if h is not in the circle of g, from whichever place the circle of g is read
+  -- if h is not in one circle that begins with g, then no circle that begins with g shares a place with the circle of h
   pub apart_too : {t : Place → E} (h : Place) (s : List Place) (g : Place) (u v : List Place) → IsCircle n t (h ∷ s) → IsCircle n t (g ∷ u) → IsAbsent h (g ∷ u)
       → IsCircle n t (g ∷ v) → IsDisjoint (h ∷ s) (g ∷ v)
   apart_too h s g u v c k out other =
@@ -250,7 +250,7 @@ module _ {E : Type 0} {n : E → Neighbors} where
   pub list_apart : {t : Table E} {list : Ends} {s : List Place} (p : Place) (r : List Place) → IsCircle n t.entry (p ∷ r) → doubly.Represents n t list s → IsDisjoint s (p ∷ r)
   list_apart {s = s} p r c shown = chain_apart (p ∷ r) None s None c (λ e. none_not p (sym e)) tt shown.chain
 
-  -- a circle stays a circle, if only the entry of a place p that is not in it changes. `circle_untouched` says this of three such places
+  -- a circle stays a circle, if only the entry of a place p that is not in it changes. `circle_untouched` says the same of three such places
   pub circle_beside : {t0 t1 : Place → E} {r : List Place} (p : Place) → IsCircle n t0 r → IsAbsent p r → ((q : Place) → q ≢ p → t1 q ≡ t0 q) → IsCircle n t1 r
   circle_beside p c out same = circle_kept c (λ q member. same q (λ e. member (rw e out)))
 
@@ -291,7 +291,7 @@ module _ {E : Type 0} {n : E → Neighbors} where
       let e : p ∷ s ≡ but_last (p ∷ s) ++ b ∷ [] = split_last (p ∷ s) (sym c.chain.0.prev ∙ leads) in
       (but_last (p ∷ s), rotated (but_last (p ∷ s)) (b ∷ []) (subst (IsCircle n t) e c))
 
-  -- a place q that is not in the circle of p is not the previous place of p. `next_not` says this of the next place
+  -- a place q that is not in the circle of p is not the previous place of p. `next_not` says the same of the next place
   pub prev_not : {t : Place → E} {p b q : Place} (s : List Place) → IsCircle n t (p ∷ s) → (n (t p)).prev ≡ Some b → IsAbsent q (p ∷ s) → q ≢ b
   prev_not {p = p} {q = q} s c leads out e = last_not None (p ∷ s) q (none_not q) out (sym c.chain.0.prev ∙ leads ∙ ap Some (sym e))
 
@@ -303,14 +303,15 @@ module _ {E : Type 0} {n : E → Neighbors} where
       → ((q : Place) → q ≢ b → q ≢ p → q ≢ a → t1 q ≡ t0 q) → (q : Place) → IsAbsent q (p ∷ s) → t1 q ≡ t0 q
   ring_frame s c prev next same q out = same q (prev_not s c prev out) out.0 (next_not s c next out)
 
-  -- A PLACE p IS TAKEN OUT of its circle, also if p is alone in it. `closes`: what follows after the neighbors of p were made neighbors of each other
+  -- A PLACE p LEAVES its circle, also if p is its only place. `closes`: the other places r are a circle after b and a, the neighbors of p, were made
+  -- neighbors of each other
   pub circle_taken : {t0 t1 : Place → E} {p b a : Place} → (n (t0 p)).prev ≡ Some b → (n (t0 p)).next ≡ Some a
       → ((r : List Place) → IsCircle n t0 (p ∷ r) → Some b ≡ last r → Some a ≡ first r → IsCircle n t1 r)
       → (r : List Place) → IsCircle n t0 (p ∷ r) → IsCircle n t1 r
   circle_taken prev next closes [] c = record { distinct = tt; chain = tt }
   circle_taken prev next closes (x ∷ r) c = closes (x ∷ r) c (sym prev ∙ c.chain.0.prev) (sym next ∙ c.chain.0.next)
 
-  -- A PLACE p IS INSERTED AFTER the place `at`. `puts`: what the insert of p before the next place b states
+  -- A PLACE p IS INSERTED AFTER the place `at`. `puts`: p followed by the circle of b is a circle, if p was inserted before b, the next place of `at`
   pub circle_after : {t0 t1 : Place → E} {p at b : Place} (s : List Place) → IsCircle n t0 (at ∷ s) → (n (t0 at)).next ≡ Some b
       → ((u : List Place) → IsCircle n t0 (b ∷ u) → IsCircle n t1 (p ∷ b ∷ u)) → IsCircle n t1 (at ∷ p ∷ s)
   circle_after {t0} {t1} {p} {at} {b} [] c leads puts =
@@ -319,7 +320,8 @@ module _ {E : Type 0} {n : E → Neighbors} where
       let e : b ≡ x = some_same (sym leads ∙ c.chain.0.next) in
       rotated (p ∷ x ∷ s) (at ∷ []) (rw e at (puts (s ++ at ∷ []) (rw e (rotated (at ∷ []) (x ∷ s) c))))
 
-  -- a place p that was not in the circle of the place `at` is inserted after `at`. `puts`: what the insert of p before the next place b states
+  -- a place p that was not in the circle of the place `at` is inserted after `at`. `puts`: p followed by the circle of b is a circle, if p was inserted
+  -- before b, the next place of `at`
   pub circle_after_free : {t0 t1 : Place → E} {p at b : Place} (s : List Place) → IsCircle n t0 (at ∷ s) → (n (t0 at)).next ≡ Some b → IsAbsent p (at ∷ s)
       → ((u : List Place) → IsCircle n t0 (b ∷ u) → IsAbsent p (b ∷ u) → IsCircle n t1 (p ∷ b ∷ u)) → IsCircle n t1 (at ∷ p ∷ s)
   circle_after_free {t0} {t1} {p} {at} {b} [] c leads out puts =
@@ -328,8 +330,8 @@ module _ {E : Type 0} {n : E → Neighbors} where
       let e : b ≡ x = some_same (sym leads ∙ c.chain.0.next) in
       rotated (p ∷ x ∷ s) (at ∷ []) (rw e at (puts (s ++ at ∷ []) (rw e (rotated (at ∷ []) (x ∷ s) c)) (rw e (out.1.0, absent_both p s (at ∷ []) out.1.1 (out.0, tt)))))
 
-  -- THE ENDS of the ring with the head p: if p is its own next place, the ring has no first member. Three more lemmas state which members the ends
-  -- are
+  -- THE ENDS of the ring with the head p: if p is its own next place, the ring has no first member. The next three lemmas say which member is the first and
+  -- the last, if any
   pub first_none : {t : Place → E} {p b : Place} (s : List Place) → IsCircle n t (p ∷ s) → (n (t p)).next ≡ Some b → b ≡ p → None ≡ first s
   first_none [] c leads e = refl
   first_none (x ∷ s) c leads e = absurd (c.distinct.0.0 (sym e ∙ some_same (sym leads ∙ c.chain.0.next)))

@@ -54,7 +54,7 @@ absent_of (x ∷ s) r q d member = elim (same_or_not q x) [
 pub same_tested : (p q : Place) → p ≡ q → eqb p.word q.word ≡ true
 same_tested p q e = eq-eqb _ _ (ap (λ (r : Place). r.word) e)
 
--- if P implies Q, then a result that is `Ok` and states P states Q. `either_way` reaches a goal from both cases
+-- if P implies Q, and P holds if the result r is `Ok`, then Q holds if r is `Ok`. `either_way` proves a goal from the case `Ok` and the case `Err`
 pub on_ok : {A X P Q : Type 0} (r : Result A X) → (P → Q) → OnOk r P → OnOk r Q
 on_ok (Ok a) follows holds = follows holds
 on_ok (Err e) follows holds = tt
@@ -95,7 +95,8 @@ module _ {E : Type 0} {n : E → Neighbors} where
     pub in_ring : InRing n t at
     in_ring = (stands.0.back ++ but_last (head ∷ stands.0.front), seen_after stands.0.front stands.0.back stands.2 stands.1)
 
-    -- the rings that do not contain the cursor's place are the rings that do not contain the head. If the former stay as they were, the latter do
+    -- if each ring without the cursor's place stays as it was, then each ring without the head stays as it was. Only one ring contains either place, and it
+    -- contains both
     pub others_without : {new : Table E} → OthersStay n t new (at ∷ []) → OthersStay n t new (head ∷ [])
     others_without k =
         let gap = stands.0 in
@@ -115,8 +116,8 @@ module _ {E : Type 0} {n : E → Neighbors} where
             λ out. last_member head gap.front gap.back stands.2 (subst (λ s. IsAbsent at (head ∷ s)) (one_ring_is_represented t covered head s (join gap) shown stands.1) out),
           )
 
-  -- THE MOVES: the next place of the cursor's place is the first place after the gap right after the cursor. `moved_back` says this of the previous
-  -- place
+  -- the next place of the cursor's place is the first member after the gap right after the cursor, or the head if no member is after the gap. `moved_back`
+  -- finds the previous place by the gap right before the cursor
   pub moved_on : (t : Table E) {head at next : Place} → (n (t.entry at)).next ≡ Some next → (front back : List Place) → IsCircle n t.entry (head ∷ (front ++ back))
       → Some at ≡ last_or (Some head) front → Some next ≡ first_or back (Some head)
   moved_on t {head} {at} leads front back c e =
@@ -129,7 +130,7 @@ module _ {E : Type 0} {n : E → Neighbors} where
   moved_back t {head} {at} leads front back c e =
       sym leads ∙ (seen_ahead front back e c).chain.0.prev ∙ ap last (sym (begins_at head front back e)) ∙ last_or-append None back (head ∷ front)
 
-  -- INSERTED BEFORE THE CURSOR: a place p at the end of the ring read from the cursor is the member right before the cursor
+  -- if the ring read from the cursor ends with the place p, then p is the member right before the cursor
   pub put_ahead : {t : Place → E} {head at : Place} (p : Place) (front back : List Place) → Some at ≡ first_or back (Some head)
       → IsCircle n t (at ∷ (drop 1 (back ++ head ∷ front) ++ p ∷ [])) → IsCircle n t (head ∷ (front ++ p ∷ back))
   put_ahead {t} {head} {at} p front back e c =
@@ -148,7 +149,8 @@ module _ {E : Type 0} {n : E → Neighbors} where
       → IsCircle n t (head ∷ (front ++ at ∷ drop 1 back))
   member_represented {t} {head} front back other e c = subst (λ b. IsCircle n t (head ∷ (front ++ b))) (on_member head back other e) c
 
-  -- TAKEN OUT: if the member that the cursor is on leaves its circle, the ring has the other members, and the cursor goes on to the next place
+  -- if the member that the cursor is on leaves its circle, the ring has the other members. `gone_on` says that the member's next place is then right after
+  -- the gap
   pub taken_out : {t0 t1 : Place → E} {head at : Place} (front back : List Place) → at ≢ head → Some at ≡ first_or back (Some head) → IsCircle n t0 (head ∷ (front ++ back))
       → ((r : List Place) → IsCircle n t0 (at ∷ r) → IsCircle n t1 r) → IsCircle n t1 (head ∷ (front ++ drop 1 back))
   taken_out {t0} {t1} {head} {at} front back other e c taken =
@@ -163,13 +165,13 @@ module _ {E : Type 0} {n : E → Neighbors} where
       let here : IsCircle n t.entry (head ∷ (front ++ at ∷ rest)) = member_represented front back other e c in
       sym leads ∙ (seen_from front at rest here).chain.0.next ∙ first_or-append rest (head ∷ front) (Some at)
 
-  -- if the cursor is on the head, no member is after the gap right before it
+  -- if the cursor is on the head, no member is after the gap right before it, so a removal of the member after this gap removes nothing
   pub null_after : {t : Place → E} (head : Place) (front back : List Place) {at : Place} → IsCircle n t (head ∷ (front ++ back)) → at ≡ head → Some at ≡ first_or back (Some head)
       → Some at ≡ first_or (drop 1 back) (Some head)
   null_after head front [] c same e = e
   null_after head front (x ∷ b) c same e = absurd ((absent_right head front (x ∷ b) c.distinct.0).0 (sym same ∙ some_same e))
 
-  -- SPLICED AFTER THE CURSOR: the other members `mid` come right after the cursor's place
+  -- if the members `mid` come first in the ring read from the cursor, they are right after the cursor in the ring read from the head
   pub spliced_back : {t : Place → E} {head at : Place} (front back mid : List Place) → Some at ≡ last_or (Some head) front
       → IsCircle n t (at ∷ (mid ++ (back ++ but_last (head ∷ front)))) → IsCircle n t (head ∷ (front ++ (mid ++ back)))
   spliced_back {t} {head} {at} front back mid e c =
@@ -190,7 +192,8 @@ module _ {E : Type 0} {n : E → Neighbors} where
           lists = k.lists;
         }
 
-  -- an edit changes no entries except those of two rings, from whichever place the first ring is read
+  -- if an edit changes only entries of the ring read from `at` and of the places v, it changes only entries of the places r and v. r is the same ring, read
+  -- from any of its places
   pub frame_both : {t0 t1 : Table E} {at : Place} {r v : List Place} → IsRingOf n t0 at r → ((s : List Place) → Represents n t0 at s → ChangesOnlyIn t0 t1 ((at ∷ s) ++ v))
       → ChangesOnlyIn t0 t1 (r ++ v)
   frame_both {at = at} {r} {v} ring frame =

@@ -1,5 +1,5 @@
--- Lemmas about two rings that become one ring, and whose members go from one ring to the other. `joins`: what an exchange of x and y, the last places
--- of two circles, states
+-- Lemmas about two rings that become one ring, and whose members go from one ring to the other. `joins`: the two circles are one circle, after x and y, their
+-- last places, exchanged their next places
 use Rattle.std.proofs.Common.{◌≡◌, Option, Some, None, List, [], ◌∷◌, ◌++◌, sym, ap, subst, ◌∙◌, append_assoc}
 use Rattle.ic_link_ops.specs.Prelude.{Place, IsAbsent, IsDisjoint, last, last_or}
 use Rattle.ic_link_ops.specs.LinkedList.{Neighbors}
@@ -42,7 +42,7 @@ module _ {E : Type 0} {n : E → Neighbors} {t0 t1 : Place → E} {at given x : 
       let both = apart_too at r given u t c other apart d in
       joins (r ++ at ∷ []) (given ∷ t) (rotated (at ∷ []) r c) d (disjoint_both r (at ∷ []) (given ∷ t) both.1 (both.0, tt)) (sym (last_of_push r at)) (sym to_x ∙ d.chain.0.prev)
 
-  -- the joined ring, read from the place `at`. `joined_given` reads the ring from the other head
+  -- the joined ring, read from the place `at`. `joined_given` reads the ring from the head `given`
   pub joined_at : (r t : List Place) → IsCircle n t0 (at ∷ r) → IsCircle n t0 (given ∷ t) → (n (t0 given)).prev ≡ Some x → IsCircle n t1 (at ∷ ((given ∷ t) ++ r))
   joined_at r t c d to_x = rotated r (at ∷ given ∷ t) (subst (IsCircle n t1) (append_assoc r (at ∷ []) (given ∷ t)) (joined_after r t c d to_x))
 

@@ -1,4 +1,4 @@
--- Lemmas about what stays as it was if a ring changes: the other rings, and all lists. Other lemmas are about a ring without an object that moves.
+-- Lemmas about what stays as it was if a ring changes: the other rings, and all lists. Other lemmas are about a ring from which a moved object was removed.
 use Rattle.std.proofs.Common.{◌≡◌, ◌≢◌, List, [], ◌∷◌, ◌++◌, Bool, false, inl, inr, subst, sym}
 use Rattle.ic_link_ops.specs.Prelude.{Place, IsAbsent, IsDisjoint, first, last, Table}
 use Rattle.ic_link_ops.specs.LinkedList.{Neighbors, IsBetween}
@@ -52,7 +52,7 @@ module _ {E : Type 0} {n : E → Neighbors} where
       → OthersStay n old new (q ∷ []) → OthersStay n old new (p ∷ [])
   others_from too k = record { rings = λ r c out. k.rings r c (too r c out.0, tt); lists = k.lists }
 
-  -- THE RING WITHOUT p: after p was taken out of its ring, wherever p was, the head and the members s are a circle, and p is not in it
+  -- after p was removed from its ring, which may be this ring or another one, the head and the members s are a circle without p
   pub beside_represented : {old new : Table E} (p : Place) (head : Place) (s : List Place) → RepresentsBeside n old p head s
       → ((r : List Place) → IsCircle n old.entry (p ∷ r) → IsCircle n new.entry r) → OthersStay n old new (p ∷ [])
       → IsCircle n new.entry (head ∷ s) × IsAbsent p (head ∷ s)
@@ -63,7 +63,7 @@ module _ {E : Type 0} {n : E → Neighbors} where
         subst (λ s. IsAbsent p (head ∷ s)) (sym k.3) (distinct_middle (head ∷ k.0) k.1 p k.2.distinct),
       )
 
-  -- a ring stays a ring with no new places, if one of its members or a place of another ring is taken out
+  -- the ring of h stays a ring and gets no new places, if p is removed, which is a member of this ring or a place of another ring
   pub ring_left : {old new : Table E} {p h : Place} (s : List Place) → IsCircle n old.entry (h ∷ s) → h ≢ p
       → ((r : List Place) → IsCircle n old.entry (p ∷ r) → IsCircle n new.entry r) → OthersStay n old new (p ∷ [])
       → (u : List Place) × IsCircle n new.entry (h ∷ u) × ((q : Place) → IsAbsent q (h ∷ s) → IsAbsent q (h ∷ u))

@@ -45,7 +45,7 @@ module _ {E : Type 0} {n : E → Neighbors} (t : Table E) (covered : (q : Place)
   one_ring_is_represented head s u shown other = sym (members_represented head s shown) ∙ members_represented head u other
 
 module _ {T L O E : Type 0} (n : E → Neighbors) (table : L → Table E) (values : O → Objects T) where
-  -- THE WALK RETURNED the member p, and `members` remain. Before the step, p and then `members` were left
+  -- A STEP of the walk from `old` to `new` returned the member p, and `members` remain. Before the step, p and then `members` were left
   pub record Steps (old new : Iter T L O) (p : Place) : Type 0 where
     pub members : List Place
     pub walk : IsLeft n table values new members
@@ -53,7 +53,7 @@ module _ {T L O E : Type 0} (n : E → Neighbors) (table : L → Table E) (value
     pub placed : ArePlaced (values old.objects.now) (p ∷ members)
     pub objects : values new.objects.now ≡ values old.objects.now
 
-  -- THE WALK RETURNED the member p from the back, and `members` remain. Before the step, `members` and then p were left
+  -- A STEP FROM THE BACK of the walk from `old` to `new` returned the member p, and `members` remain. Before the step, `members` and then p were left
   pub record StepsBack (old new : Iter T L O) (p : Place) : Type 0 where
     pub members : List Place
     pub walk : IsLeft n table values new members
@@ -66,7 +66,8 @@ module _ {T L O E : Type 0} (n : E → Neighbors) (table : L → Table E) (value
   front_stands t ([], left, placed) = rw (some_same left.starts) (left.given ++ [], left.ring)
   front_stands t (x ∷ w, left, placed) = rw (some_same left.starts) (w ++ t.end ∷ left.given, seen_from left.given x w left.ring)
 
-  -- THE STEPS, if the first remaining place is not the end of the walk: the walk goes on at the next place, or its end moves to the previous place
+  -- if the first remaining place is not the end of the walk, a step returns this place, and the walk goes on at the next place. `steps_back`: a step from the
+  -- back moves the end of the walk to the previous place
   pub steps_on : (t : Iter T L O) (next : Place) → CanWalk n table values t → t.front ≢ t.end → (n ((table t.links.now).entry t.front)).next ≡ Some next
       → Steps t (record t { front = next }) t.front
   steps_on t next ([], left, placed) goes leads = absurd (goes (some_same left.starts))
@@ -122,7 +123,7 @@ module _ {T L O E : Type 0} (n : E → Neighbors) (table : L → Table E) (value
     none_left t (x ∷ w, left, placed) e =
         absurd ((absent_right t.end left.given (x ∷ w) left.ring.distinct.0).0 (sym e ∙ some_same left.starts))
 
-    -- if a step returns the object at p, the step returns the first of the objects that were left
+    -- if a step returns the object at its member p, this object is the first of the objects that were left
     pub gives : {old new : Iter T L O} {p : Place} (r : Option (Bor T)) → Steps old new p → option_copied r ≡ object_at (values old.objects.now) p
         → GivesFirst (objects_left n table values) old r new
     gives {old} {new} {p} r k is =
@@ -130,12 +131,12 @@ module _ {T L O E : Type 0} (n : E → Neighbors) (table : L → Table E) (value
         (left_is old (p ∷ k.members) k.whole
         ∙ ap (cons_option (object_at (values old.objects.now) p)) (sym (left_is new k.members k.walk ∙ ap (λ o. values_at o k.members) k.objects)))
 
-    -- if a step returns the object at p, one object less is left after the step, and the walk can still be walked to its end
+    -- after a step that returns the object at its member p, one object less is left, and the walk can still be walked to its end
     pub goes : {old new : Iter T L O} {p : Place} (r : Option (Bor T)) → Steps old new p → option_copied r ≡ object_at (values old.objects.now) p
         → MakesProgress (CanWalk n table values) (item_count (objects_left n table values)) old r new
     goes {old} {new} {p} r k is = makes_progress (objects_left n table values) (CanWalk n table values) old new r (can_walk k) (gives r k is)
 
-    -- if a step from the back returns the object at p, the step returns the last of the objects that were left
+    -- if a step from the back returns the object at its member p, this object is the last of the objects that were left
     pub gives_back : {old new : Iter T L O} {p : Place} (r : Option (Bor T)) → StepsBack old new p → option_copied r ≡ object_at (values old.objects.now) p
         → GivesLast (objects_left n table values) old r new
     gives_back {old} {new} {p} r k is =

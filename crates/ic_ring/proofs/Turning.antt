@@ -1,5 +1,5 @@
--- Lemmas about two places whose neighbors are set, the next place of the first and the previous place of the second, whatever their entries
--- contained.
+-- Lemmas about two writes: one sets the next place of a first place, and the other sets the previous place of a second place. The entries may contain any
+-- words before.
 use Rattle.std.proofs.Common.{◌≡◌, Some, inl, inr, ◌∙◌, ap, subst, sym}
 use Rattle.ic_link_ops.specs.Prelude.{Place, Table, ChangesOnly}
 use Rattle.ic_unsafe_ref.proofs.PlaceLemmas.{same_or_not}

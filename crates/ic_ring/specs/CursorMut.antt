@@ -1,7 +1,9 @@
 -- The parts of an editing cursor of a ring that contracts name, and what its edits keep.
-use Rattle.std.specs.Prelude.{◌≡◌, List, [], ◌∷◌}
+use Rattle.std.specs.Prelude.{◌≡◌, Result, OnOk, OnErr, IfErr, List, [], ◌∷◌, ◌++◌}
 use Rattle.std.specs.Borrow.{MutBor}
-use Rattle.ic_link_ops.specs.Prelude.{Place, Table, ChangesOnlyIn}
+use Rattle.ic_link_ops.specs.Prelude.{Place, Table, Cut, join, insert, splice, ChangesOnlyIn, acquires}
+use Rattle.ic_link_ops.specs.LinkSteps.{LinkStep}
+use Rattle.ic_link_ops.specs.declared.errors.AlreadyLinked.{AlreadyLinked}
 use Rattle.ic_link_ops.specs.LinkedList.{Neighbors}
 use Rattle.ic_ring.specs.Rings.{Represents, OthersStay}
 use Rattle.ic_ring.specs.RingCursors.{IsValidCursor}
@@ -47,3 +49,27 @@ module _ {T L : Type 0} where
       pub same : SameRing old new
       pub others : OthersStay neighbors (table (links_of old)) (table (links_of new)) (head_of old ∷ [])
       pub frame : ChangesOnlyInRing old new and
+
+    -- `Trace` lists the steps that acquire and release links, and `IsBeside head gap at` says on which side of the cursor the gap is
+    module _ (Trace : L → L → List LinkStep → Type 0) where
+      -- AN OBJECT IS INSERTED into the gap beside the cursor, or its link is refused and nothing changes. The cursor stays where it is
+      pub record InsertsAtCursor (Refused : L → L → Place → Type 0) (IsBeside : Place → Cut → Place → Type 0)
+          (old : CursorMut T L) (object : Place) (result : Result Unit (AlreadyLinked T)) (new : CursorMut T L) : Type 0 where
+        pub inserted : (gap : Cut) → RepresentsAt old (join gap) → IsBeside (head_of old) gap (at_of old) → OnOk result (RepresentsAt new (insert gap object))
+        pub acquired : OnOk result (Trace (links_of old) (links_of new) (acquires object ∷ []))
+        pub refused : OnErr result (Refused (links_of old) (links_of new) object)
+        pub unchanged : IfErr result (λ refused. refused.0 ≡ object)
+        pub at : at_of new ≡ at_of old
+        pub kept : StaysInRing old new (λ s. object ∷ head_of old ∷ s)
+
+      -- ALL MEMBERS OF THE RING with the head `given` move into the gap beside the cursor. The cursor stays where it is
+      pub record SplicesAtCursor (IsBeside : Place → Cut → Place → Type 0) (old : CursorMut T L) (given : Place) (new : CursorMut T L) : Type 0 where
+        pub spliced : (gap : Cut) (t : List Place) → RepresentsAt old (join gap) → IsBeside (head_of old) gap (at_of old)
+            → Represents neighbors (table (links_of old)) given t
+            → RepresentsAt new (splice gap t) × Represents neighbors (table (links_of new)) given []
+        pub trace_stays : Trace (links_of old) (links_of new) []
+        pub at : at_of new ≡ at_of old
+        pub stands : IsValid new
+        pub others : OthersStay neighbors (table (links_of old)) (table (links_of new)) (head_of old ∷ given ∷ [])
+        pub frame : (t : List Place) → Represents neighbors (table (links_of old)) given t → ChangesOnlyInRing old new (λ s. (head_of old ∷ s) ++ (given ∷ t))
+        pub same : SameRing old new

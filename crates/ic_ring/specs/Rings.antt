@@ -20,7 +20,7 @@ module _ {E : Type 0} (neighbors : E → Neighbors) where
   abbrev pub InRing : Table E → Place → Type 0
   InRing t p = (s : List Place) × Represents t p s
 
-  -- r is the ring that the place p is in, including the head of the ring, read from any of its places
+  -- r has the places of the ring in which the place p is, and the ring's head is one of them. r may begin with any of these places
   abbrev pub IsRingOf : Table E → Place → List Place → Type 0
   IsRingOf t p r = IsCircle t.entry r × IsMember p r
 
@@ -43,7 +43,7 @@ module _ {E : Type 0} (neighbors : E → Neighbors) where
     pub other_prev : (q : Place) → q ≢ second → (neighbors_at neighbors new q).prev ≡ (neighbors_at neighbors old q).prev
     pub linked : (q : Place) → (neighbors_at neighbors new q).linked ≡ (neighbors_at neighbors old q).linked
 
-  -- the places of a ring from `front` on up to the place before `end`; there are none if `front` is `end`
+  -- the places of a ring from `front` on up to the place before `end`. There are no such places if `front` is `end`
   abbrev pub members_until : Table E → Option Place → Place → List Place
   members_until t front end = cond (is_end front end) [] (members_between neighbors t front (neighbors_at neighbors t end).prev)
 

@@ -9,9 +9,10 @@
 
 ghost use Rattle.std.specs.Prelude.{◌≡◌, ◌≢◌, ◌∷◌, ◌++◌, List, [], Some, OnOk, OnErr, IfErr};
 ghost use Rattle.std.specs.Bool.{OnTrue, OnFalse};
-ghost use Rattle.ic_link_ops.specs.Prelude.{Place, first_or, last, IsCovered, ChangesOnlyIn, acquires, releases};
+ghost use Rattle.ic_link_ops.specs.Prelude.{Place, first_or, last, at_back, at_front, IsCovered, ChangesOnlyIn, acquires, releases};
 ghost use Rattle.ic_link_ops.specs.LinkedList.{neighbors_at};
 ghost use Rattle.ic_ring.specs.Rings.{IsCircle, Represents, InRing, IsRingOf, OthersStay};
+ghost use Rattle.ic_ring.specs.RingEdits.{InsertsBesidePlace, right_before, right_after};
 
 use crate::surgery::{bypass, next_of, prev_of, turn_to};
 use ic_link_ops::linked_list::LinkedListOps;
@@ -104,11 +105,11 @@ pub fn remove<T, L: LinkedListOps>(links: &mut L, object: &UnsafeRef<T>)
     unlink(links, prev, place, next);
 }
 
-/// Inserts the object before a place that is in a ring, unless its link is refused. O(1), and it takes no memory.
+/// Inserts the object before the place `at`, which is in a ring, unless the object's link is refused. O(1), and it takes no memory.
 ///
-/// An object that is inserted before a head becomes the last member. The call requires that the table covers the object's place, and that the other
-/// place is in a ring. If the link is refused, the object is returned and nothing has changed. A plain table refuses the link exactly if the object
-/// is linked in this table. Linux: `list_add_tail`.
+/// An object that is inserted before a head becomes the last member. The call requires that the table covers the object's place, and that `at` is in a ring.
+/// If the link is refused, the object is returned and nothing has changed. A plain table refuses the link exactly if the object is linked in this table.
+/// Linux: `list_add_tail`.
 #[inline]
 pub fn insert_before<T, L: LinkedListOps>(
     links: &mut L,
@@ -117,17 +118,7 @@ pub fn insert_before<T, L: LinkedListOps>(
 ) -> Result<(), AlreadyLinked<T>>
     requires covered { IsCovered (L.table links.old) object }
     requires ring { InRing L.neighbors (L.table links.old) at }
-
-    ensures inserted { (head : Place) (front back : List Place) → Represents L.neighbors (L.table links.old) head (front ++ at ∷ back)
-        → OnOk result (Represents L.neighbors (L.table links.new) head (front ++ object ∷ at ∷ back)) }
-    ensures at_head { (s : List Place) → Represents L.neighbors (L.table links.old) at s
-        → OnOk result (Represents L.neighbors (L.table links.new) at (s ++ object ∷ [])) }
-    ensures acquired { OnOk result (L.Trace links.old links.new (acquires object ∷ [])) }
-    ensures refused { OnErr result (L.Refused links.old links.new object) }
-    ensures unchanged { IfErr result (λ refused. refused.0 ≡ object) }
-    ensures others { OthersStay L.neighbors (L.table links.old) (L.table links.new) (at ∷ []) }
-    ensures frame { (r : List Place) → IsRingOf L.neighbors (L.table links.old) at r
-        → ChangesOnlyIn (L.table links.old) (L.table links.new) (object ∷ r) }
+    ensures { InsertsBesidePlace L.neighbors L.table L.Trace L.Refused right_before at_back links.old at object result links.new }
 {
     let prev = prev_of(&*links, at);
     if !insert_between(links, prev, object.place(), at) {
@@ -136,7 +127,7 @@ pub fn insert_before<T, L: LinkedListOps>(
     Ok(())
 }
 
-/// Inserts the object after a place that is in a ring, unless its link is refused. O(1), and it takes no memory.
+/// Inserts the object after the place `at`, which is in a ring, unless the object's link is refused. O(1), and it takes no memory.
 ///
 /// An object that is inserted after a head becomes the first member. The call requires and returns what [`insert_before`] does. Linux: `list_add`.
 #[inline]
@@ -147,17 +138,7 @@ pub fn insert_after<T, L: LinkedListOps>(
 ) -> Result<(), AlreadyLinked<T>>
     requires covered { IsCovered (L.table links.old) object }
     requires ring { InRing L.neighbors (L.table links.old) at }
-
-    ensures inserted { (head : Place) (front back : List Place) → Represents L.neighbors (L.table links.old) head (front ++ at ∷ back)
-        → OnOk result (Represents L.neighbors (L.table links.new) head (front ++ at ∷ object ∷ back)) }
-    ensures at_head { (s : List Place) → Represents L.neighbors (L.table links.old) at s
-        → OnOk result (Represents L.neighbors (L.table links.new) at (object ∷ s)) }
-    ensures acquired { OnOk result (L.Trace links.old links.new (acquires object ∷ [])) }
-    ensures refused { OnErr result (L.Refused links.old links.new object) }
-    ensures unchanged { IfErr result (λ refused. refused.0 ≡ object) }
-    ensures others { OthersStay L.neighbors (L.table links.old) (L.table links.new) (at ∷ []) }
-    ensures frame { (r : List Place) → IsRingOf L.neighbors (L.table links.old) at r
-        → ChangesOnlyIn (L.table links.old) (L.table links.new) (object ∷ r) }
+    ensures { InsertsBesidePlace L.neighbors L.table L.Trace L.Refused right_after at_front links.old at object result links.new }
 {
     let next = next_of(&*links, at);
     if !insert_between(links, at, object.place(), next) {

@@ -105,7 +105,7 @@ impl<'a, T, L: LinkedListOps> Cursor<'a, T, L> {
 
     /// Moves the cursor to the next member, or from the last member to the head, or from the head to the first member. O(1).
     ///
-    /// It requires that the cursor is valid. The gap between two neighbors that was right after the cursor is right before the cursor after the move.
+    /// The call requires that the cursor is valid. After the move, the gap that was right after the cursor is right before the cursor.
     #[inline]
     pub fn move_next(&mut self)
         requires stands { IsValid L.neighbors L.table self.old }
@@ -118,7 +118,7 @@ impl<'a, T, L: LinkedListOps> Cursor<'a, T, L> {
 
     /// Moves the cursor to the previous member, or from the first member to the head, or from the head to the last member. O(1).
     ///
-    /// It requires that the cursor is valid. The gap between two neighbors that was right before the cursor is right after the cursor after the move.
+    /// The call requires that the cursor is valid. After the move, the gap that was right before the cursor is right after the cursor.
     #[inline]
     pub fn move_prev(&mut self)
         requires stands { IsValid L.neighbors L.table self.old }

@@ -7,9 +7,9 @@
 //! let removed = cursor.remove();                 // and the cursor is on the object
 //! ```
 
-ghost use Rattle.std.specs.Prelude.{◌≡◌, ◌≢◌, ◌↔◌, ◌∷◌, ◌++◌, List, [], None, Some, IsTrue, OnOk, OnErr, OnSome, IfOk, IfErr, IfSome, IfNone, drop};
+ghost use Rattle.std.specs.Prelude.{◌≡◌, ◌≢◌, ◌↔◌, ◌∷◌, ◌++◌, List, [], None, Some, IsTrue, OnOk, OnSome, IfOk, IfErr, IfSome, IfNone, drop};
 ghost use Rattle.std.specs.Option.{option_copied};
-ghost use Rattle.ic_link_ops.specs.Prelude.{Place, object_at, Cut, join, insert, remove, replace, splice, first_or, IsAbsent, IsMember, IsCovered, ChangesOnlyIn, acquires, releases};
+ghost use Rattle.ic_link_ops.specs.Prelude.{Place, object_at, Cut, join, remove, replace, first_or, IsAbsent, IsMember, IsCovered, acquires, releases};
 ghost use Rattle.ic_link_ops.specs.Errors.{object_of, ByCause};
 ghost use Rattle.ic_ring.specs.Rings.{InRing, Represents, OthersStay};
 ghost use Rattle.ic_ring.specs.RingCursors.{IsAfter, IsBefore, IsOn, MovesOn, MovesBack};
@@ -47,7 +47,7 @@ impl<T, L> Drop for CursorMut<'_, T, L> {
 }
 
 impl<'a, T, L: LinkedListOps> CursorMut<'a, T, L> {
-    ghost use Rattle.ic_ring.specs.CursorMut.{links_of, head_of, at_of, IsBorrowed, IsValid, SameRing, RepresentsAt, ChangesOnlyInRing, StaysInRing};
+    ghost use Rattle.ic_ring.specs.CursorMut.{links_of, head_of, at_of, IsBorrowed, IsValid, SameRing, RepresentsAt, ChangesOnlyInRing, StaysInRing, InsertsAtCursor, SplicesAtCursor};
     ghost use Rattle.ic_ring.specs.Cursor as reading;
 
     // Makes a cursor at the place `at` of the ring with the given head.
@@ -102,7 +102,7 @@ impl<'a, T, L: LinkedListOps> CursorMut<'a, T, L> {
 
     /// Moves the cursor to the next member, or from the last member to the head, or from the head to the first member. O(1).
     ///
-    /// It requires that the cursor is valid. The gap between two neighbors that was right after the cursor is right before the cursor after the move.
+    /// The call requires that the cursor is valid. After the move, the gap that was right after the cursor is right before the cursor.
     #[inline]
     pub fn move_next(&mut self)
         requires stands { IsValid L.neighbors L.table self.old }
@@ -116,7 +116,7 @@ impl<'a, T, L: LinkedListOps> CursorMut<'a, T, L> {
 
     /// Moves the cursor to the previous member, or from the first member to the head, or from the head to the last member. O(1).
     ///
-    /// It requires that the cursor is valid. The gap between two neighbors that was right before the cursor is right after the cursor after the move.
+    /// The call requires that the cursor is valid. After the move, the gap that was right before the cursor is right after the cursor.
     #[inline]
     pub fn move_prev(&mut self)
         requires stands { IsValid L.neighbors L.table self.old }
@@ -128,8 +128,8 @@ impl<'a, T, L: LinkedListOps> CursorMut<'a, T, L> {
         self.at = prev_of(&*self.links, self.at);
     }
 
-    /// Inserts the object after the cursor, unless the object's link is refused. If the cursor is on the head, the object is inserted before the
-    /// first member. O(1), and no memory.
+    /// Inserts the object after the cursor, unless the object's link is refused. If the cursor is on the head, the object is inserted before the first
+    /// member. O(1), and it takes no memory.
     ///
     /// The call requires that the cursor is valid, and that the table covers the object's place. The cursor stays where it is. If the link is
     /// refused, the object is returned and nothing has changed.
@@ -137,40 +137,28 @@ impl<'a, T, L: LinkedListOps> CursorMut<'a, T, L> {
     pub fn insert_after(&mut self, object: UnsafeRef<T>) -> Result<(), AlreadyLinked<T>>
         requires covered { IsCovered (L.table (links_of self.old)) object }
         requires stands { IsValid L.neighbors L.table self.old }
-        ensures inserted { (gap : Cut) → RepresentsAt L.neighbors L.table self.old (join gap) → IsAfter (head_of self.old) gap (at_of self.old)
-            → OnOk result (RepresentsAt L.neighbors L.table self.new (insert gap object)) }
-        ensures acquired { OnOk result (L.Trace (links_of self.old) (links_of self.new) (acquires object ∷ [])) }
-        ensures refused { OnErr result (L.Refused (links_of self.old) (links_of self.new) object) }
-        ensures unchanged { IfErr result (λ refused. refused.0 ≡ object) }
-        ensures at { at_of self.new ≡ at_of self.old }
-        ensures kept { StaysInRing L.neighbors L.table self.old self.new (λ s. object ∷ head_of self.old ∷ s) }
+        ensures { InsertsAtCursor L.neighbors L.table L.Trace L.Refused IsAfter self.old object result self.new }
     {
         insert_after(self.links, self.at, object)
     }
 
-    /// Inserts the object before the cursor, unless the object's link is refused. If the cursor is on the head, the object is inserted after the last
-    /// member. O(1), and no memory.
+    /// Inserts the object before the cursor, unless the object's link is refused. If the cursor is on the head, the object is inserted after the last member.
+    /// O(1), and it takes no memory.
     ///
     /// The call requires and returns what [`CursorMut::insert_after`] does.
     #[inline]
     pub fn insert_before(&mut self, object: UnsafeRef<T>) -> Result<(), AlreadyLinked<T>>
         requires covered { IsCovered (L.table (links_of self.old)) object }
         requires stands { IsValid L.neighbors L.table self.old }
-        ensures inserted { (gap : Cut) → RepresentsAt L.neighbors L.table self.old (join gap) → IsBefore (head_of self.old) gap (at_of self.old)
-            → OnOk result (RepresentsAt L.neighbors L.table self.new (insert gap object)) }
-        ensures acquired { OnOk result (L.Trace (links_of self.old) (links_of self.new) (acquires object ∷ [])) }
-        ensures refused { OnErr result (L.Refused (links_of self.old) (links_of self.new) object) }
-        ensures unchanged { IfErr result (λ refused. refused.0 ≡ object) }
-        ensures at { at_of self.new ≡ at_of self.old }
-        ensures kept { StaysInRing L.neighbors L.table self.old self.new (λ s. object ∷ head_of self.old ∷ s) }
+        ensures { InsertsAtCursor L.neighbors L.table L.Trace L.Refused IsBefore self.old object result self.new }
     {
         insert_before(self.links, self.at, object)
     }
 
     /// Removes the member that the cursor is on, unlinks it and returns it, or returns `None` if the cursor is on the head. O(1).
     ///
-    /// It requires that the cursor is valid. The cursor moves to the next member, or to the head if the removed member was the last one. If the
-    /// cursor is on the head, nothing changes.
+    /// The call requires that the cursor is valid. The cursor moves to the next member, or to the head if the removed member was the last one. If the cursor
+    /// is on the head, nothing changes.
     #[inline]
     pub fn remove(&mut self) -> Option<UnsafeRef<T>>
         requires stands { IsValid L.neighbors L.table self.old }
@@ -194,7 +182,7 @@ impl<'a, T, L: LinkedListOps> CursorMut<'a, T, L> {
         Some(UnsafeRef::new(place))
     }
 
-    /// Replaces the member that the cursor is on by the object, unlinks the replaced member and returns it. O(1), and no memory.
+    /// Replaces the member that the cursor is on by the object, unlinks the replaced member and returns it. O(1), and it takes no memory.
     ///
     /// The call requires that the cursor is valid, and that the table covers the object's place. Afterwards the cursor is on the object. If the
     /// cursor is on the head, or if the object's link is refused, the object is returned and nothing has changed.
@@ -226,21 +214,12 @@ impl<'a, T, L: LinkedListOps> CursorMut<'a, T, L> {
 
     /// Moves all members of another ring after the cursor. Afterwards the other ring is empty. O(1), and no link is acquired or released.
     ///
-    /// It requires that the cursor is valid, and that the two rings are different. The cursor stays where it is. Linux: `list_splice_init`.
+    /// The call requires that the cursor is valid, and that the two rings are different. The cursor stays where it is. Linux: `list_splice_init`.
     #[inline]
     pub fn splice_after(&mut self, given: &Ring<T>)
         requires stands { IsValid L.neighbors L.table self.old }
         requires apart { (t : List Place) × Represents L.neighbors (L.table (links_of self.old)) given.now t × IsAbsent (head_of self.old) (given.now ∷ t) }
-        ensures spliced { (gap : Cut) (t : List Place) → RepresentsAt L.neighbors L.table self.old (join gap) → IsAfter (head_of self.old) gap (at_of self.old)
-            → Represents L.neighbors (L.table (links_of self.old)) given.now t
-            → RepresentsAt L.neighbors L.table self.new (splice gap t) × Represents L.neighbors (L.table (links_of self.new)) given.now [] }
-        ensures trace_stays { L.Trace (links_of self.old) (links_of self.new) [] }
-        ensures at { at_of self.new ≡ at_of self.old }
-        ensures stands { IsValid L.neighbors L.table self.new }
-        ensures others { OthersStay L.neighbors (L.table (links_of self.old)) (L.table (links_of self.new)) (head_of self.old ∷ given.now ∷ []) }
-        ensures frame { (t : List Place) → Represents L.neighbors (L.table (links_of self.old)) given.now t
-            → ChangesOnlyInRing L.neighbors L.table self.old self.new (λ s. (head_of self.old ∷ s) ++ (given.now ∷ t)) }
-        ensures same { SameRing self.old self.new }
+        ensures { SplicesAtCursor L.neighbors L.table L.Trace IsAfter self.old given.now self.new }
     {
         splice_after_place(self.links, self.at, given.head());
     }
@@ -252,16 +231,7 @@ impl<'a, T, L: LinkedListOps> CursorMut<'a, T, L> {
     pub fn splice_before(&mut self, given: &Ring<T>)
         requires stands { IsValid L.neighbors L.table self.old }
         requires apart { (t : List Place) × Represents L.neighbors (L.table (links_of self.old)) given.now t × IsAbsent (head_of self.old) (given.now ∷ t) }
-        ensures spliced { (gap : Cut) (t : List Place) → RepresentsAt L.neighbors L.table self.old (join gap) → IsBefore (head_of self.old) gap (at_of self.old)
-            → Represents L.neighbors (L.table (links_of self.old)) given.now t
-            → RepresentsAt L.neighbors L.table self.new (splice gap t) × Represents L.neighbors (L.table (links_of self.new)) given.now [] }
-        ensures trace_stays { L.Trace (links_of self.old) (links_of self.new) [] }
-        ensures at { at_of self.new ≡ at_of self.old }
-        ensures stands { IsValid L.neighbors L.table self.new }
-        ensures others { OthersStay L.neighbors (L.table (links_of self.old)) (L.table (links_of self.new)) (head_of self.old ∷ given.now ∷ []) }
-        ensures frame { (t : List Place) → Represents L.neighbors (L.table (links_of self.old)) given.now t
-            → ChangesOnlyInRing L.neighbors L.table self.old self.new (λ s. (head_of self.old ∷ s) ++ (given.now ∷ t)) }
-        ensures same { SameRing self.old self.new }
+        ensures { SplicesAtCursor L.neighbors L.table L.Trace IsBefore self.old given.now self.new }
     {
         let prev = prev_of(&*self.links, self.at);
         splice_after_place(self.links, prev, given.head());
@@ -270,7 +240,7 @@ impl<'a, T, L: LinkedListOps> CursorMut<'a, T, L> {
     /// Moves the members after the cursor, or all members if the cursor is on the head, to the front of another ring. O(1), and no link is acquired
     /// or released.
     ///
-    /// It requires that the cursor is valid, and that the two rings are different. The cursor stays where it is.
+    /// The call requires that the cursor is valid, and that the two rings are different. The cursor stays where it is.
     #[inline]
     pub fn split_after(&mut self, rest: &Ring<T>)
         requires stands { IsValid L.neighbors L.table self.old }

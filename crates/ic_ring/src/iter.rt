@@ -77,7 +77,7 @@ impl<'a, T, L: LinkedListOps, O: Values<T>> DoubleEndedIterator for Iter<'a, T, 
 
     ghost next_back_gives = { GivesLast (objects_left L.neighbors L.table O.values) };
 
-    /// Returns the next object from the back, or `None` if no object is left. O(1), as `next` costs.
+    /// Returns the next object from the back, or `None` if no object is left. The call costs as much as `next`: O(1).
     fn next_back(&mut self) -> Option<&'a T> {
         if self.front == self.end {
             return None;
@@ -95,7 +95,7 @@ impl<T, L, O> Clone for Iter<'_, T, L, O> {
 
     ghost is_infallible = { λ _. ⊤ };
 
-    /// A second walk over the objects that this walk has left. The call never fails.
+    /// A second walk over the objects that this walk has not returned yet. The call never fails.
     fn clone(&self) -> Result<Self, AllocError> {
         Ok(Iter {
             links: self.links,
@@ -130,8 +130,8 @@ impl<T> Ring<T> {
         }
     }
 
-    /// A value that prints the objects of the ring, in order: `{:?}` writes `[10, 20]`, and `{:#?}` writes each object on lines of its own.
-    /// The call requires that an object is at each member. It takes O(1) and no memory.
+    /// A value that prints the objects of the ring, in order: `{:?}` writes `[10, 20]`, and `{:#?}` writes each object on lines of its own. The call requires
+    /// that an object is at each member. The call takes O(1) and no memory.
     pub fn debug<'a, L: LinkedListOps, O: Values<T>>(
         &self,
         links: &'a L,

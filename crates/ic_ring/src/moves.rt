@@ -5,10 +5,11 @@
 //! late.move_to_back(&mut links, &object);    // and on to the back of another
 //! ```
 
-ghost use Rattle.std.specs.Prelude.{◌≡◌, ◌≢◌, ◌∷◌, ◌++◌, List, [], Some};
-ghost use Rattle.ic_link_ops.specs.Prelude.{Place, IsAbsent, at_front, at_back, insert, IsLinked, ChangesOnlyIn};
+ghost use Rattle.std.specs.Prelude.{◌≡◌, ◌≢◌, ◌∷◌, List, [], Some};
+ghost use Rattle.ic_link_ops.specs.Prelude.{Place, IsAbsent, at_front, at_back, IsLinked};
 ghost use Rattle.ic_link_ops.specs.LinkedList.{neighbors_at};
-ghost use Rattle.ic_ring.specs.Rings.{IsCircle, Represents, InRing, IsRingOf, RepresentsBeside, OthersStay};
+ghost use Rattle.ic_ring.specs.Rings.{IsCircle, Represents, InRing, OthersStay};
+ghost use Rattle.ic_ring.specs.RingEdits.{MovesBesidePlace, MovesToEnd, right_before, right_after};
 
 use crate::ring::Ring;
 use crate::surgery::{bypass, next_of, prev_of, set_neighbors, turn_to};
@@ -50,26 +51,16 @@ fn insert_linked<L: LinkedListOps>(links: &mut L, before: Place, place: Place, a
     turn_to(links, before, place, after);
 }
 
-/// Moves the object, which may be in any ring, before a place that is in a ring. O(1), and the object stays linked.
+/// Moves the object, which may be in any ring, before the place `at`, which is in a ring. O(1), and the object stays linked.
 ///
-/// An object that is moved before a head becomes the last member. The call requires that the object and the place are in rings of the table, and are
-/// different. Linux: `list_move_tail`.
+/// An object that is moved before a head becomes the last member. The call requires that the object and `at` are in rings of the table, and are different
+/// places. Linux: `list_move_tail`.
 #[inline]
 pub fn move_before<T, L: LinkedListOps>(links: &mut L, at: Place, object: &UnsafeRef<T>)
     requires ring { InRing L.neighbors (L.table links.old) at }
     requires member { InRing L.neighbors (L.table links.old) object.now }
     requires other { at ≢ object.now }
-    ensures moved { (head : Place) (front back : List Place)
-        → RepresentsBeside L.neighbors (L.table links.old) object.now head (front ++ at ∷ back)
-        → Represents L.neighbors (L.table links.new) head (front ++ object.now ∷ at ∷ back) }
-    ensures at_head { (s : List Place) → RepresentsBeside L.neighbors (L.table links.old) object.now at s
-        → Represents L.neighbors (L.table links.new) at (s ++ object.now ∷ []) }
-    ensures left { (head : Place) (s : List Place) → RepresentsBeside L.neighbors (L.table links.old) object.now head s
-        → IsAbsent at (head ∷ s) → Represents L.neighbors (L.table links.new) head s }
-    ensures trace_stays { L.Trace links.old links.new [] }
-    ensures others { OthersStay L.neighbors (L.table links.old) (L.table links.new) (at ∷ object.now ∷ []) }
-    ensures frame { (r s : List Place) → IsRingOf L.neighbors (L.table links.old) at r
-        → IsRingOf L.neighbors (L.table links.old) object.now s → ChangesOnlyIn (L.table links.old) (L.table links.new) (r ++ s) }
+    ensures { MovesBesidePlace L.neighbors L.table L.Trace right_before at_back links.old at object.now links.new }
 {
     let place = object.place();
     detach(links, place);
@@ -77,7 +68,7 @@ pub fn move_before<T, L: LinkedListOps>(links: &mut L, at: Place, object: &Unsaf
     insert_linked(links, prev, place, at);
 }
 
-/// Moves the object, which may be in any ring, after a place that is in a ring. O(1), and the object stays linked.
+/// Moves the object, which may be in any ring, after the place `at`, which is in a ring. O(1), and the object stays linked.
 ///
 /// An object that is moved after a head becomes the first member. The call requires what [`move_before`] requires. Linux: `list_move`.
 #[inline]
@@ -85,17 +76,7 @@ pub fn move_after<T, L: LinkedListOps>(links: &mut L, at: Place, object: &Unsafe
     requires ring { InRing L.neighbors (L.table links.old) at }
     requires member { InRing L.neighbors (L.table links.old) object.now }
     requires other { at ≢ object.now }
-    ensures moved { (head : Place) (front back : List Place)
-        → RepresentsBeside L.neighbors (L.table links.old) object.now head (front ++ at ∷ back)
-        → Represents L.neighbors (L.table links.new) head (front ++ at ∷ object.now ∷ back) }
-    ensures at_head { (s : List Place) → RepresentsBeside L.neighbors (L.table links.old) object.now at s
-        → Represents L.neighbors (L.table links.new) at (object.now ∷ s) }
-    ensures left { (head : Place) (s : List Place) → RepresentsBeside L.neighbors (L.table links.old) object.now head s
-        → IsAbsent at (head ∷ s) → Represents L.neighbors (L.table links.new) head s }
-    ensures trace_stays { L.Trace links.old links.new [] }
-    ensures others { OthersStay L.neighbors (L.table links.old) (L.table links.new) (at ∷ object.now ∷ []) }
-    ensures frame { (r s : List Place) → IsRingOf L.neighbors (L.table links.old) at r
-        → IsRingOf L.neighbors (L.table links.old) object.now s → ChangesOnlyIn (L.table links.old) (L.table links.new) (r ++ s) }
+    ensures { MovesBesidePlace L.neighbors L.table L.Trace right_after at_front links.old at object.now links.new }
 {
     let place = object.place();
     detach(links, place);
@@ -106,22 +87,14 @@ pub fn move_after<T, L: LinkedListOps>(links: &mut L, at: Place, object: &Unsafe
 impl<T> Ring<T> {
     /// Moves the object, which may be in any ring, to the back of this ring. O(1), and the object stays linked.
     ///
-    /// The call requires that the object is in a ring of the table, and is not the head of this ring. It is good for queues in the order of the last
+    /// The call requires that the object is in a ring of the table, and is not the head of this ring. The call is good for queues in the order of the last
     /// use. Linux: `list_move_tail`.
     #[inline]
     pub fn move_to_back<L: LinkedListOps>(&self, links: &mut L, object: &UnsafeRef<T>)
         requires shown { InRing L.neighbors (L.table links.old) self.now }
         requires member { InRing L.neighbors (L.table links.old) object.now }
         requires other { self.now ≢ object.now }
-        ensures moved { (s : List Place) → RepresentsBeside L.neighbors (L.table links.old) object.now self.now s
-            → Represents L.neighbors (L.table links.new) self.now (insert (at_back s) object.now) }
-        ensures left { (head : Place) (s : List Place) → RepresentsBeside L.neighbors (L.table links.old) object.now head s
-            → IsAbsent self.now (head ∷ s) → Represents L.neighbors (L.table links.new) head s }
-        ensures trace_stays { L.Trace links.old links.new [] }
-        ensures others { OthersStay L.neighbors (L.table links.old) (L.table links.new) (self.now ∷ object.now ∷ []) }
-        ensures frame { (s r : List Place) → Represents L.neighbors (L.table links.old) self.now s
-            → IsRingOf L.neighbors (L.table links.old) object.now r
-            → ChangesOnlyIn (L.table links.old) (L.table links.new) ((self.now ∷ s) ++ r) }
+        ensures { MovesToEnd L.neighbors L.table L.Trace at_back self.now links.old object.now links.new }
     {
         move_before(links, self.head(), object);
     }
@@ -134,15 +107,7 @@ impl<T> Ring<T> {
         requires shown { InRing L.neighbors (L.table links.old) self.now }
         requires member { InRing L.neighbors (L.table links.old) object.now }
         requires other { self.now ≢ object.now }
-        ensures moved { (s : List Place) → RepresentsBeside L.neighbors (L.table links.old) object.now self.now s
-            → Represents L.neighbors (L.table links.new) self.now (insert (at_front s) object.now) }
-        ensures left { (head : Place) (s : List Place) → RepresentsBeside L.neighbors (L.table links.old) object.now head s
-            → IsAbsent self.now (head ∷ s) → Represents L.neighbors (L.table links.new) head s }
-        ensures trace_stays { L.Trace links.old links.new [] }
-        ensures others { OthersStay L.neighbors (L.table links.old) (L.table links.new) (self.now ∷ object.now ∷ []) }
-        ensures frame { (s r : List Place) → Represents L.neighbors (L.table links.old) self.now s
-            → IsRingOf L.neighbors (L.table links.old) object.now r
-            → ChangesOnlyIn (L.table links.old) (L.table links.new) ((self.now ∷ s) ++ r) }
+        ensures { MovesToEnd L.neighbors L.table L.Trace at_front self.now links.old object.now links.new }
     {
         move_after(links, self.head(), object);
     }

@@ -5,9 +5,10 @@
 //! let first = ring.pop_front(&mut links);
 //! ```
 
-ghost use Rattle.std.specs.Prelude.{◌≡◌, ◌≢◌, ◌∷◌, ◌++◌, ◌↔◌, List, [], IsTrue, OnOk, OnErr, IfErr, IfSome, IfNone, OnSome};
-ghost use Rattle.ic_link_ops.specs.Prelude.{Place, first, last, but_last, at_front, at_back, insert, remove, IsCovered, ChangesOnly, ChangesOnlyIn, acquires, releases, releases_each};
+ghost use Rattle.std.specs.Prelude.{◌≡◌, ◌∷◌, ◌↔◌, List, [], IsTrue, IfSome, IfNone, OnSome, drop};
+ghost use Rattle.ic_link_ops.specs.Prelude.{Place, first, last, but_last, at_front, at_back, IsCovered, ChangesOnly, ChangesOnlyIn, acquires, releases_each};
 ghost use Rattle.ic_ring.specs.Rings.{Represents, InRing, OthersStay};
+ghost use Rattle.ic_ring.specs.RingEdits.{Pushes, Pops};
 
 use crate::beside::{insert_between, unlink};
 use crate::surgery::{next_of, prev_of};
@@ -130,15 +131,7 @@ impl<T> Ring<T> {
     ) -> Result<(), AlreadyLinked<T>>
         requires covered { IsCovered (L.table links.old) object }
         requires shown { InRing L.neighbors (L.table links.old) self.now }
-
-        ensures inserted { (s : List Place) → Represents L.neighbors (L.table links.old) self.now s
-            → OnOk result (Represents L.neighbors (L.table links.new) self.now (insert (at_back s) object)) }
-        ensures acquired { OnOk result (L.Trace links.old links.new (acquires object ∷ [])) }
-        ensures refused { OnErr result (L.Refused links.old links.new object) }
-        ensures unchanged { IfErr result (λ refused. refused.0 ≡ object) }
-        ensures others { OthersStay L.neighbors (L.table links.old) (L.table links.new) (self.now ∷ []) }
-        ensures frame { (s : List Place) → Represents L.neighbors (L.table links.old) self.now s
-            → ChangesOnlyIn (L.table links.old) (L.table links.new) (object ∷ self.now ∷ s) }
+        ensures { Pushes L.neighbors L.table L.Trace L.Refused at_back self.now links.old object result links.new }
     {
         let last = prev_of(&*links, self.head);
         if !insert_between(links, last, object.place(), self.head) {
@@ -149,7 +142,7 @@ impl<T> Ring<T> {
 
     /// Inserts the object at the front of the ring, unless its link is refused. O(1), and it takes no memory.
     ///
-    /// The call requires and returns what [`Ring::push_back`] does. It is good for stacks. Linux: `list_add`.
+    /// The call requires and returns what [`Ring::push_back`] does. The call is good for stacks. Linux: `list_add`.
     #[inline]
     pub fn push_front<L: LinkedListOps>(
         &self,
@@ -158,15 +151,7 @@ impl<T> Ring<T> {
     ) -> Result<(), AlreadyLinked<T>>
         requires covered { IsCovered (L.table links.old) object }
         requires shown { InRing L.neighbors (L.table links.old) self.now }
-
-        ensures inserted { (s : List Place) → Represents L.neighbors (L.table links.old) self.now s
-            → OnOk result (Represents L.neighbors (L.table links.new) self.now (insert (at_front s) object)) }
-        ensures acquired { OnOk result (L.Trace links.old links.new (acquires object ∷ [])) }
-        ensures refused { OnErr result (L.Refused links.old links.new object) }
-        ensures unchanged { IfErr result (λ refused. refused.0 ≡ object) }
-        ensures others { OthersStay L.neighbors (L.table links.old) (L.table links.new) (self.now ∷ []) }
-        ensures frame { (s : List Place) → Represents L.neighbors (L.table links.old) self.now s
-            → ChangesOnlyIn (L.table links.old) (L.table links.new) (object ∷ self.now ∷ s) }
+        ensures { Pushes L.neighbors L.table L.Trace L.Refused at_front self.now links.old object result links.new }
     {
         let first = next_of(&*links, self.head);
         if !insert_between(links, self.head, object.place(), first) {
@@ -179,15 +164,7 @@ impl<T> Ring<T> {
     #[inline]
     pub fn pop_front<L: LinkedListOps>(&self, links: &mut L) -> Option<UnsafeRef<T>>
         requires shown { InRing L.neighbors (L.table links.old) self.now }
-
-        ensures answer { (s : List Place) → Represents L.neighbors (L.table links.old) self.now s → result ≡ first s }
-        ensures removed { (s : List Place) → Represents L.neighbors (L.table links.old) self.now s
-            → Represents L.neighbors (L.table links.new) self.now (remove (at_front s)) }
-        ensures released { IfSome result (λ object. L.Trace links.old links.new (releases object ∷ [])) }
-        ensures empty { IfNone result (links.new ≡ links.old) }
-        ensures others { OthersStay L.neighbors (L.table links.old) (L.table links.new) (self.now ∷ []) }
-        ensures frame { (s : List Place) → Represents L.neighbors (L.table links.old) self.now s
-            → ChangesOnlyIn (L.table links.old) (L.table links.new) (self.now ∷ s) }
+        ensures { Pops L.neighbors L.table L.Trace first (drop 1) self.now links.old result links.new }
     {
         let front = self.first(&*links)?;
         let next = next_of(&*links, front);
@@ -199,15 +176,7 @@ impl<T> Ring<T> {
     #[inline]
     pub fn pop_back<L: LinkedListOps>(&self, links: &mut L) -> Option<UnsafeRef<T>>
         requires shown { InRing L.neighbors (L.table links.old) self.now }
-
-        ensures answer { (s : List Place) → Represents L.neighbors (L.table links.old) self.now s → result ≡ last s }
-        ensures removed { (s : List Place) → Represents L.neighbors (L.table links.old) self.now s
-            → Represents L.neighbors (L.table links.new) self.now (but_last s) }
-        ensures released { IfSome result (λ object. L.Trace links.old links.new (releases object ∷ [])) }
-        ensures empty { IfNone result (links.new ≡ links.old) }
-        ensures others { OthersStay L.neighbors (L.table links.old) (L.table links.new) (self.now ∷ []) }
-        ensures frame { (s : List Place) → Represents L.neighbors (L.table links.old) self.now s
-            → ChangesOnlyIn (L.table links.old) (L.table links.new) (self.now ∷ s) }
+        ensures { Pops L.neighbors L.table L.Trace last but_last self.now links.old result links.new }
     {
         let back = self.last(&*links)?;
         let prev = prev_of(&*links, back);
@@ -215,7 +184,7 @@ impl<T> Ring<T> {
         Some(UnsafeRef::new(back))
     }
 
-    /// Removes all objects from the ring. Each member is unlinked, and the head is linked to itself. O(n), and no memory.
+    /// Removes all objects from the ring. Each member is unlinked, and the head is linked to itself. O(n), and it takes no memory.
     pub fn clear<L: LinkedListOps>(&self, links: &mut L)
         requires shown { InRing L.neighbors (L.table links.old) self.now }
 

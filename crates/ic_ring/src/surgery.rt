@@ -1,6 +1,6 @@
 //! Functions that read and write neighbors.
 //!
-//! The calls that write neighbors require only that the places which they write are linked, and no ring. They are for callers who store rings in
+//! The calls that write neighbors require no ring. They require only that the places which they write are linked. They are for callers who store rings in
 //! words of their own and test these words themselves.
 //!
 //! ```text
@@ -74,9 +74,9 @@ pub fn bypass<L: LinkedListOps>(links: &mut L, before: Place, after: Place)
 
 /// Makes two places neighbors of a third place, whose entry already names both of them. Afterwards the third place is in their ring. O(1).
 ///
-/// The call requires only that both places are linked, and that the words of the table have room for the third place. It writes only the entries of
-/// the two places, whatever other words contain, and links and unlinks nothing. Linux: `__list_add`. The table's `link_between` makes the other two
-/// writes of this function.
+/// The call requires only that both places are linked, and that a link word of the table can name the third place. It writes only the entries of the two
+/// places, whatever other words contain, and links and unlinks nothing. Linux: `__list_add`. The two neighbors that the entry of the third place names are
+/// written by another call, the table's `link_between`.
 #[inline]
 pub fn turn_to<L: LinkedListOps>(links: &mut L, before: Place, place: Place, after: Place)
     requires before { IsLinked L.linked (L.table links.old) before }

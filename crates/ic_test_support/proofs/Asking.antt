@@ -1,4 +1,4 @@
--- The call of `refuses_next` in `allocate`.
+-- This file proves facts about the call of `refuses_next` in `allocate`.
 --     Ask, at_ask     `Ask` is the contract of `refuses_next`. `at_ask` is what the caller chooses: the lifetime, the token's share, the address and
 --                     the value of the cell, and the number of bytes
 --     Ask-goes        the call needs a `&` to the count and the token of its lifetime, and nothing else

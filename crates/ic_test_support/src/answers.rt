@@ -1,4 +1,4 @@
-//! Functions that turn the results of a collection's calls into answers that a test can note. The objects are numbers.
+//! These functions turn the results of a collection's calls into answers that a test can note. The objects of the tests are numbers.
 //!
 //! ```text
 //! object(list.pop_front(&mut links)) // `none`, or the index of the place where the object stands
@@ -37,8 +37,8 @@ pub fn value(found: Option<&u64>) -> Answer {
     }
 }
 
-/// Returns the answer for a replacement: the place of the replaced member, or the reason of the refusal, `null` or `linked`. The answer is `another` if
-/// the refusal gives back another object than the one at `place`.
+/// Returns the answer for the result `given` of a replacement: the place of the replaced member, or the reason of the refusal, `null` or `linked`. The
+/// answer is `another` if the error contains another object than the one at `place`.
 pub fn replaced(given: Result<UnsafeRef<u64>, ReplaceError<u64>>, place: Place) -> Answer {
     match &given {
         Ok(out) => number(out.place()),
@@ -50,7 +50,7 @@ pub fn replaced(given: Result<UnsafeRef<u64>, ReplaceError<u64>>, place: Place) 
     }
 }
 
-/// Places an object with this value, and returns the answer: its place, or `full` if no place is left, or `memory` if there is no memory.
+/// Places an object with the value `value`. The answer is the object's place, or `full` if no place is left, or `memory` if there is no memory.
 pub fn placed(objects: &mut Objects<u64>, value: u64) -> Answer {
     let Some(next) = objects.next_place() else {
         return Answer::Refused("full");
@@ -62,7 +62,7 @@ pub fn placed(objects: &mut Objects<u64>, value: u64) -> Answer {
     }
 }
 
-/// Notes these places, and `none` where there is no place.
+/// Writes the index of each place in `found` to the notes, or `none` if there is no place.
 pub fn write_places(notes: &mut Text, found: &[Option<Place>]) {
     for at in found {
         notes.add(standing(*at), " ");

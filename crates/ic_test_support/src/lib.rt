@@ -1,5 +1,5 @@
-//! What the crates of tests share: notes of the results of calls, numbers at the first eight places, functions that read a whole table, and an
-//! allocator that refuses a chosen request. All of this is in one crate, because each crate costs time of its own in the gate.
+//! This crate has what several crates of tests use. There are notes of the results of calls, numbers at the first eight places, functions that read a
+//! whole table, and an allocator that refuses a chosen request. All of this is in one crate, because each additional crate costs time in the gate.
 #![tactic(auto)]
 
 pub mod answers;

@@ -1,4 +1,4 @@
-//! The notes of a test: the results of its calls, which are written into a text one after the other.
+//! The notes of a test are the results of its calls, written into a text one after the other.
 //!
 //! ```text
 //! notes.add(object(list.pop_front(&mut links)), " "); // `0 `, or `none `
@@ -34,8 +34,8 @@ impl fmt::Display for Answer {
 
 /// A text that is written piece by piece, and whether all pieces could be written.
 ///
-/// A call that writes a piece returns nothing, so that a function that writes many pieces has a single exit. A single exit saves work, because the
-/// check proves each exit separately.
+/// A call that writes a piece returns nothing, so a function that writes many pieces has only one exit. This saves work, because the check proves each
+/// exit separately.
 #[derive(Drop)]
 pub struct Text {
     text: String,
@@ -51,17 +51,17 @@ impl Text {
         }
     }
 
-    /// Writes the word to the end of the text.
+    /// Writes `word` to the end of the text.
     pub fn word(&mut self, word: &str) {
         self.is_whole &= self.text.write_str(word).is_ok();
     }
 
-    /// Writes the answer to the end of the text, and then the string `after`.
+    /// Writes `answer` to the end of the text, and then the string `after`.
     pub fn add(&mut self, answer: Answer, after: &str) {
         self.is_whole &= write!(self.text, "{answer}{after}").is_ok();
     }
 
-    /// Returns whether the whole text could be written, and has exactly these words. The number of spaces between the words does not matter.
+    /// Returns whether the whole text could be written, and consists of the words in `words`. The number of spaces between the words does not matter.
     pub fn has_words(&self, words: &str) -> bool {
         self.is_whole && self.text.split_whitespace().eq(words.split_whitespace())
     }

@@ -1,4 +1,4 @@
-//! Objects for tests: numbers at the first eight places.
+//! This file makes the objects of tests: numbers at the first eight places.
 
 ghost use Rattle.std.specs.Prelude.{◌≡◌, ◌<◌, true, IfSome};
 ghost use Rattle.ic_link_ops.specs.Prelude.{Place, index_of, is_placed};
@@ -13,7 +13,7 @@ use std::alloc::Global;
 /// The eight numbers 10, 20 and so on to 80, in this order.
 pub const TENS: [u64; 8] = [10, 20, 30, 40, 50, 60, 70, 80];
 
-/// Returns these numbers as objects at the places 0 to 7, and a table of links that covers these places. The result is `None` if memory runs out.
+/// Returns a store with `numbers` at the places 0 to 7, and a table of links that covers these places. The result is `None` if memory runs out.
 pub fn eight_objects<W: Words>(
     alloc: Global,
     numbers: [u64; 8],
@@ -34,7 +34,7 @@ pub fn eight_objects<W: Words>(
     }
 }
 
-/// Returns the place with this index.
+/// Returns the place with the index `index`.
 pub fn place_at(index: usize) -> Place
     requires { index < 4294967296 }
     ensures { index_of result ≡ index }
@@ -42,7 +42,7 @@ pub fn place_at(index: usize) -> Place
     Place::new(index).unwrap()
 }
 
-/// Returns the reference to the object at the place with this index.
+/// Returns the reference to the object at the place with the index `index`.
 pub fn reference(index: usize) -> UnsafeRef<u64>
     requires { index < 4294967296 }
     ensures { index_of result ≡ index }

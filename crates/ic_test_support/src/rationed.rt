@@ -1,14 +1,14 @@
 //! An allocator for tests that refuses one chosen request for memory.
 //!
-//! The allocator is for tests in which each growth is refused in turn. A test makes a container over a `&Rationed`, names the request that is to fail,
-//! and checks what the call returns and what the container then has. If a growth is refused, the container keeps the block that it had.
+//! The allocator is for tests that refuse each growth of a container in turn. A test makes a container over a `&Rationed`, chooses the request that is
+//! to fail, and checks what the call returns and what the container then has. If a growth is refused, the container keeps the block that it had.
 
 ghost use Rattle.std.specs.Prelude.{◌≡◌, ◌+◌, ◌<◌, ◌↔◌, min, IsTrue};
 
 use std::alloc::{AllocError, Allocator, Global};
 use std::cell::Cell;
 
-// How many requests there have been, for how many bytes in all, and the number of the request to refuse.
+// The number of requests so far, the sum of their bytes, and the number of the request to refuse.
 #[derive(Clone, Copy)]
 struct Count {
     asked: u64,
@@ -17,8 +17,7 @@ struct Count {
 }
 
 impl Count {
-    // Returns whether the next request is to be refused. If the number to refuse is `u64::MAX`, no request is refused, even if the count has reached
-    // that number.
+    // Returns whether the next request is to be refused. If `refused` is `u64::MAX`, no request is refused, even if `asked` has reached `u64::MAX`.
     fn is_refused(self) -> bool
         ensures { IsTrue result ↔ ((self.asked ≡ self.refused) × (self.refused < u64.MAX)) }
     {
@@ -50,18 +49,18 @@ impl Count {
     }
 }
 
-// Counts one more request, for this many bytes, and returns whether this request is to be refused.
+// Counts one more request, for `size` bytes, and returns whether this request is to be refused.
 fn refuses_next(count: &Cell<Count>, size: usize) -> bool {
     let before = count.get();
     count.set(before.one_more(size));
     before.is_refused()
 }
 
-/// An allocator over another allocator. The allocator refuses one chosen request for memory, and passes every other request on to the other allocator.
-/// A container is made over a `&Rationed`, because a `&Rationed` is also an allocator and is `Copy`.
+/// An allocator that refuses one chosen request for memory, and passes every other request on to a second allocator, the allocator below. A container
+/// is made over a `&Rationed`, because a `&Rationed` is also an allocator and is `Copy`.
 ///
-/// A request is an allocation, for example the one by which a container moves its items to a larger or a smaller block. If a block is given back, this
-/// is no request: the call goes to the allocator below, and never fails.
+/// A request is an allocation, for example the one by which a container moves its items to a larger or a smaller block. The return of a block is not a
+/// request. It goes to the allocator below, and never fails.
 #[derive(Drop)]
 pub struct Rationed<A: Allocator = Global> {
     alloc: A,
@@ -69,8 +68,8 @@ pub struct Rationed<A: Allocator = Global> {
 }
 
 impl<A: Allocator> Rationed<A> {
-    /// Returns an allocator over `alloc` that refuses the request with the number `refused`, counted from 0. If `refused` is `u64::MAX`, no request is
-    /// refused.
+    /// Returns an allocator that passes requests on to `alloc`, and that refuses the request with the number `refused`, counted from 0. If `refused` is
+    /// `u64::MAX`, no request is refused.
     pub fn new(alloc: A, refused: u64) -> Rationed<A> {
         Rationed {
             alloc,
@@ -87,14 +86,14 @@ impl<A: Allocator> Rationed<A> {
         self.count.get().asked
     }
 
-    /// Returns for how many bytes all requests together were, including a refused request. Freed memory is not subtracted. The sum stays at `u64::MAX`
-    /// once it is there.
+    /// Returns the sum of the bytes of all requests, including a refused request. Freed memory is not subtracted. The sum stays at `u64::MAX` once it
+    /// is there.
     pub fn bytes(&self) -> u64 {
         self.count.get().bytes
     }
 
-    /// Chooses another request to refuse, and only this request: the one with the number `n`, counted from 0 from this call on. If `n` is `u64::MAX`,
-    /// no request is refused. `requests` and `bytes` continue to count.
+    /// Chooses one request to refuse, instead of the request that was chosen before. It is the request with the number `n`, and the next request has
+    /// the number 0. If `n` is `u64::MAX`, no request is refused. `requests` and `bytes` continue to count.
     pub fn refuse(&self, n: u64) {
         self.count.set(self.count.get().refusing(n));
     }

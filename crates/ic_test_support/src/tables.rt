@@ -1,4 +1,4 @@
-//! Functions by which tests read a whole table.
+//! Tests read a whole table by these functions.
 //!
 //! ```text
 //! write_linked(&mut text, &links); // `0 2 ` where the places 0 and 2 are linked
@@ -28,7 +28,7 @@ pub fn are_placed<W: Words>(links: &PlainTable<W>, objects: &Objects<u64>) -> bo
     true
 }
 
-/// Writes the indices of all places that are linked in the table.
+/// Writes the indexes of all places that are linked in the table `links` to `text`.
 pub fn write_linked<W: Words>(text: &mut Text, links: &PlainTable<W>) {
     for index in 0..links.covers() {
         if let Some(place) = Place::new(index) {

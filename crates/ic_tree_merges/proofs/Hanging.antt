@@ -8,7 +8,7 @@ use Rattle.ic_link_ops.proofs.SequenceLemmas.{absent_left, absent_right, absent_
 use Rattle.ic_rbtree.specs.Vines.{IsVine, RepresentsVine}
 use Rattle.ic_rbtree.proofs.Vines.{apart_at, vine_beside, vine_from}
 
--- a sequence has no place twice after the member z is moved to the front of the two parts around it
+-- if a sequence has no place twice, it has no place twice after the member z is moved before the part x, which came directly before z
 pub distinct_moved : (f x : List Place) (z : Place) (y : List Place) → IsDistinct (f ++ (x ++ z ∷ y)) → IsDistinct (f ++ z ∷ (x ++ y))
 distinct_moved f x z y d =
     let d' : IsDistinct ((f ++ x) ++ z ∷ y) = subst IsDistinct (sym (append_assoc f x (z ∷ y))) d in
@@ -39,7 +39,7 @@ module _ {E : Type 0} (n : E → Node) where
   vine_none t is = record { distinct = tt; chain = tt; head = ap (λ (e : Ends). e.head) is; tail = ap (λ (e : Ends). e.tail) is }
 
   module _ {old new : Table E} {ends : Ends} {done : List Place} {p : Place} (h : Inserts (RepresentsVine n) old new ends (at_back done) p) where
-    -- THE FRAME: after the place p was appended, only entries of the vine's members and of p have changed
+    -- after the place p was appended, only entries of the vine's members and of p have changed
     pub hung_frame : ChangesOnlyIn old new (p ∷ done)
     hung_frame = record { extent = h.frame.extent; others = λ q o. h.frame.others q (o.0, absent_both q done [] o.1 tt) }
 

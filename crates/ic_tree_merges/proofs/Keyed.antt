@@ -1,4 +1,4 @@
--- A caller needs these lemmas: an order of values gives an order of places, and members in the order of their keys are in order.
+-- A caller needs these lemmas: an order of values gives an order of places, and members in the order of their keys are in the order of places.
 use Rattle.std.proofs.Common.{◌≡◌, Option, Some, None, List, [], ◌∷◌, map, refl}
 use Rattle.std.specs.Cmp.{IsTotalOrder}
 use Rattle.std.specs.Ordering.{ordering_reverse}

@@ -1,4 +1,4 @@
--- Two runs are merged into one vine, one member after the other.
+-- Two runs are merged into one vine, one member after the other. In a run each member is the right child of the member before it.
 use Rattle.std.proofs.Common.{◌≡◌, ℕ, ◌+◌, ◌≤◌, Bool, true, false, not, inl, inr, Option, Some, None, List, [], ◌∷◌, ◌++◌, drop, length, refl, sym, ◌∙◌, ap, subst, arith, append_assoc, append-nil, length-append}
 use Rattle.std.specs.Prelude.{IfSome}
 use Rattle.std.specs.declared.cmp.Ordering.{Ordering}
@@ -158,7 +158,7 @@ module _ {E V : Type 0} (n : E → Node) (cmp : Place → Place → Ordering) (o
       pub left_absent : IsAbsent p k.done
       left_absent = absent_left p k.done (drop 1 k.x ++ k.y) (distinct_middle k.done (drop 1 k.x ++ k.y) p left_distinct)
 
-      -- the first member of the left run is taken
+      -- if the first member of the left run is taken, the merge goes on with the rest of the left run
       pub take_left : {new : Table E} {ends' : Ends} {next : Option Place} → takes_left cmp left right ≡ true → next ≡ (n (mid.entry p)).right
           → Inserts (RepresentsVine n) mid new ends' (at_back k.done) p → Merging old new s u next right ends' (count + 1)
       take_left taken next_is h =
@@ -190,7 +190,7 @@ module _ {E V : Type 0} (n : E → Node) (cmp : Place → Place → Ordering) (o
       pub right_absent : IsAbsent p k.done
       right_absent = absent_left p k.done (k.x ++ drop 1 k.y) (distinct_middle k.done (k.x ++ drop 1 k.y) p right_distinct)
 
-      -- the first member of the right run is taken
+      -- if the first member of the right run is taken, the merge goes on with the rest of the right run
       pub take_right : {new : Table E} {ends' : Ends} {next : Option Place} → takes_left cmp left right ≡ false → next ≡ (n (mid.entry p)).right
           → Inserts (RepresentsVine n) mid new ends' (at_back k.done) p → Merging old new s u left next ends' (count + 1)
       take_right taken next_is h =

@@ -15,7 +15,7 @@ use Rattle.ic_tree_merges.specs.Merges.{Interleaves}
 use Rattle.ic_tree_merges.specs.TwoTrees.{TwoRepresented, MergesTo, PartsTo, UnitesTo, RepresentsLowest}
 use Rattle.ic_tree_merges.specs.Vines.{IsRun, MergesRuns, PartsRun}
 
--- if two parts are interleaved in s, they have only members of s, each property of all members of s, and together the length of s
+-- if s interleaves a and b, these have only members of s, and together the length of s. Each property of all members of s holds for all their members
 pub absent_parts : (q : Place) (a b s : List Place) → Interleaves a b s → IsAbsent q s → IsAbsent q a × IsAbsent q b
 absent_parts q a b [] h o = (rw h.0 tt, rw h.1 tt)
 absent_parts q a b (z ∷ s) (inl h) o = let r = absent_parts q h.0 b s h.2 o.1 in (rw h.1 (o.0, r.0), r.1)
@@ -64,7 +64,7 @@ module _ {E : Type 0} {n : E → Node} where
   other_still {v} {w} {ends} {b} {s} {u} one apart other = represents_frame other (disjoint_sym s u apart) one.frame
 
   module _ {cmp : Place → Place → Ordering} where
-    -- TWO TREES become vines, the vines are merged, and the merged vine becomes a tree that has merged both
+    -- if two trees become vines, the vines are merged, and the merged vine becomes a tree, this tree has merged both trees
     pub merged_trees : {v0 v1 v2 v3 v4 : Table E} {one two three : Ends} {root : Option Place} {s u : List Place} → Rearranges (RepresentsVine n) v0 v1 one s → Rearranges (RepresentsVine n) v1 v2 two u
         → (m : MergesRuns n cmp v2 v3 three s u) → Rearranges (Represents n) v3 v4 root m.0.merged → MergesTo (Represents n) cmp v0 v4 root s u
     merged_trees {s = s} {u = u} first second m built = record {
@@ -89,7 +89,7 @@ module _ {E : Type 0} {n : E → Node} where
           tail = r.tail;
         }
 
-    -- A TREE becomes a vine, the vine is split in two, and both vines become trees that have split it
+    -- if a tree becomes a vine, the vine is split in two, and both vines become trees, these trees have split the first tree
     pub parted_tree : {v0 v1 v2 v3 v4 : Table E} {ends common_ends rest_ends : Ends} {root rest_root : Option Place} {s u : List Place} → Rearranges (RepresentsVine n) v0 v1 ends s
         → (m : PartsRun n cmp v1 v2 common_ends rest_ends s u) → Rearranges (Represents n) v2 v3 root m.0.common → Rearranges (Represents n) v3 v4 rest_root m.0.rest
         → PartsTo (Represents n) cmp v0 v4 root rest_root s u

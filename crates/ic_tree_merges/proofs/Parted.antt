@@ -10,8 +10,8 @@ use Rattle.ic_tree_merges.specs.Merges.{is_less, has_equal, Interleaves, Parts}
 use Rattle.ic_tree_merges.proofs.Merged.{IsOrdered, ordered}
 
 module _ {X : Type 0} (cmp : X → X → Ordering) where
-  -- the sequence s is partly split by t: members went to `common` or to `rest`, and the members x are left. They are compared with y, the members of t
-  -- that are left
+  -- the sequence s is partly split by t: members of s went to `common` or to `rest`, and the members x of s are left. They are compared with y, the members of
+  -- t that are left
   pub record Parting (s t common rest x y : List X) : Type 0 where
     pub interleaved : (a b : List X) → Interleaves a b x → Interleaves (common ++ a) (rest ++ b) s
     pub common_is : IsTotalOrder cmp → IsSorted cmp s → IsSorted cmp t → filter (has_equal cmp t) s ≡ common ++ filter (has_equal cmp t) x
@@ -82,7 +82,7 @@ module _ {X : Type 0} (cmp : X → X → Ordering) where
         (k.0 ∙ ap (λ (v : Bool). v || has_equal cmp y a) (ap is_eq greater), passed a b f y x greater h.0 k.1)
 
   module _ {s t common rest : List X} {a : X} {x y : List X} (h : Parting s t common rest (a ∷ x) y) where
-    -- the member a is equal to a member of t, so it goes to the common members
+    -- if the member a is equal to a member of t, it goes to the common members
     parting_common : ((o : IsTotalOrder cmp) → IsOrdered (is_less cmp) y → has_equal cmp y a ≡ true) → Parting s t (common ++ a ∷ []) rest x y
     parting_common equal = record {
       interleaved = λ k b m. rw (append_assoc common (a ∷ []) k) (h.interleaved (a ∷ k) b (inl (k, refl, m)));
@@ -110,19 +110,19 @@ module _ {X : Type 0} (cmp : X → X → Ordering) where
       test o m k = (h.same o m k).0 ∙ not_equal o (h.right o k)
 
   module _ {s t common rest : List X} {a : X} {x : List X} where
-    -- no member of t is left, so the member a goes to the rest
+    -- if no member of t is left, the member a goes to the rest
     pub parting_alone : Parting s t common rest (a ∷ x) [] → Parting s t common (rest ++ a ∷ []) x []
     parting_alone h = parting_rest h (λ o k. refl)
 
     module _ {b : X} {y : List X} (h : Parting s t common rest (a ∷ x) (b ∷ y)) where
-      -- the next member of t is greater than a, so a goes to the rest, or it is equal to a, so a goes to the common members
+      -- if the next member of t is greater than a, a goes to the rest (`parting_less`). If it is equal to a, a goes to the common members (`parting_equal`)
       pub parting_less : cmp a b ≡ Less → Parting s t common (rest ++ a ∷ []) x (b ∷ y)
       parting_less e = parting_rest h (λ o k. less_than_all o a b y e k)
 
       pub parting_equal : cmp a b ≡ Equal → Parting s t (common ++ a ∷ []) rest x (b ∷ y)
       parting_equal e = parting_common h (λ o k. rw (ap is_eq e) refl)
 
-      -- the next member of t is less than a, so it is passed
+      -- if the next member of t is less than a, it is passed
       pub parting_greater : cmp a b ≡ Greater → Parting s t common rest (a ∷ x) y
       parting_greater e = record {
         interleaved = h.interleaved;

@@ -1,4 +1,4 @@
--- A run is split in two by another tree, one member after the other.
+-- A run is split in two by another tree, one member after the other. In a run each member is the right child of the member before it.
 use Rattle.std.proofs.Common.{◌≡◌, ℕ, ◌+◌, ◌≤◌, true, Option, Some, None, List, [], ◌∷◌, ◌++◌, drop, length, refl, sym, ◌∙◌, ap, subst, arith, append_assoc, append-nil, length-append}
 use Rattle.std.specs.declared.cmp.Ordering.{Ordering}
 use Rattle.std.specs.declared.cmp.Ordering.TheVariants.{Less, Equal, Greater}
@@ -26,7 +26,7 @@ middle_apart a b p c d =
     disjoint_cons p a b (disjoint_sym a (p ∷ []) (disjoint_left a (p ∷ []) c (disjoint_right a b (p ∷ c) k))).0 (disjoint_left a b (p ∷ c) k)
 
 module _ {E : Type 0} (n : E → Node) where
-  -- a step in a represented tree is safe from null, and from each member
+  -- in a represented tree a step from null (`safe_null`), or from a member (`safe_member`), is safe
   pub safe_null : {t : Table E} {root : Option Place} {u : List Place} → Represents n t root u → IsSafe n t root (None ∷ [])
   safe_null {t} {root} {u} h = (λ q. among q u, represented_closed n (represented_of n h), (tt, tt))
 
@@ -34,8 +34,8 @@ module _ {E : Type 0} (n : E → Node) where
   safe_member front p back h = (λ q. among q (front ++ p ∷ back), represented_closed n (represented_of n h), (among_there p front back, tt))
 
   module _ {V : Type 0} (cmp : Place → Place → Ordering) (objects : Objects V) (root : Option Place) where
-    -- members of the run went to `common` or to `rest`, and the members x are left. They are compared with y, the members of the other tree that are left
-    -- after `passed`
+    -- members of the run went to `common` or to `rest`, and the members x of the run are left. They are compared with y, the members of the other tree that
+    -- come after its members `passed`
     pub record Sifting (old new : Table E) (s u : List Place) (left right : Option Place) (common_ends rest_ends : Ends) (count : ℕ) : Type 0 where
       pub common : List Place
       pub rest : List Place

@@ -14,8 +14,8 @@ module _ {X : Type 0} (cmp : X → X → Ordering) where
   abbrev pub is_less : X → X → Bool
   is_less x y = is_lt (cmp x y)
 
-  -- MERGED: the sequence r has the members of s and of t. If the comparison is an order, and s and t were in order, r is in order. If s was in order,
-  -- equal members keep their order, those of s before those of t
+  -- the sequence r has the members of s and of t. If the comparison is an order, and s and t were in order, r is in order. If s was in order, equal members
+  -- keep their order, those of s before those of t
   pub record Merges (s t r : List X) : Type 0 where
     pub permutes : IsPermutation (s ++ t) r
     pub sorted : IsTotalOrder cmp → IsSorted cmp s → IsSorted cmp t → IsSorted cmp r
@@ -25,14 +25,14 @@ module _ {X : Type 0} (cmp : X → X → Ordering) where
   abbrev pub has_equal : List X → X → Bool
   has_equal t x = list_any (λ y. is_eq (cmp x y)) t
 
--- the third sequence interleaves a and b: it has the members of both, and keeps the order within each
+-- `Interleaves a b s`: the sequence s has the members of a and of b, and keeps the order within a and within b
 abbrev pub Interleaves : {X : Type 0} → List X → List X → List X → Type 0
 Interleaves a b [] = (a ≡ []) × (b ≡ [])
 Interleaves {X} a b (z ∷ s) = ((a' : List X) × (a ≡ z ∷ a') × Interleaves a' b s) ⊎ ((b' : List X) × (b ≡ z ∷ b') × Interleaves a b' s)
 
 module _ {X : Type 0} (cmp : X → X → Ordering) where
-  -- SPLIT: s interleaves `common` and `rest`, which keep its order. If the comparison is an order, and s and t were in order, `common` has exactly the
-  -- members of s that are equal to a member of t
+  -- s interleaves `common` and `rest`, which keep the order of s. If the comparison is an order, and s and t were in order, `common` has exactly the members of
+  -- s that are equal to a member of t
   pub record Parts (s t common rest : List X) : Type 0 where
     pub interleaved : Interleaves common rest s
     pub common_is : IsTotalOrder cmp → IsSorted cmp s → IsSorted cmp t → common ≡ filter (has_equal cmp t) s
@@ -46,6 +46,6 @@ module _ {V : Type 0} (order : V → V → Ordering) where
   compared_values (Some a) None = Greater
   compared_values (Some a) (Some b) = order a b
 
-  -- THE ORDER OF PLACES is the order of the objects at them
+  -- places are compared by the objects at them
   abbrev pub compared_at : Objects V → Place → Place → Ordering
   compared_at objects p q = compared_values (object_at objects p) (object_at objects q)

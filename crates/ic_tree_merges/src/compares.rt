@@ -1,4 +1,4 @@
-//! A merge compares two values by a call, which this trait describes.
+//! A merge compares two values by the call `compare` of this trait.
 //!
 //! ```text
 //! let mut order = ByKeys::new(ByDeadline); // the order of a keyed tree
@@ -20,7 +20,7 @@ pub trait Compares<V> {
     // The number of comparisons (looks) that the order has counted.
     ghost looks: { Self → ℕ };
 
-    // The order counts every comparison.
+    // `Counts` holds if the order counts every comparison.
     ghost Counts: { Type 0 };
 
     /// Compares `a` with `b`, and returns `Less` if `a` goes before `b`. The call does not change how values compare, and counts at most one comparison

@@ -1,4 +1,4 @@
-//! Union, intersection and difference of trees in order, in O(n + m) and with no memory.
+//! This crate makes the union, the intersection or the difference of two trees in order, in O(n + m) and with no memory.
 //!
 //! Each tree becomes a vine, which is a list along right children. The vines are merged or split, and each result is built into a tree
 //! of the least height. No link is acquired or released.

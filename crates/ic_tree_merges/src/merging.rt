@@ -1,4 +1,4 @@
-//! Two trees in order can be merged into one.
+//! Two trees in order can be merged into one. A run is a sequence of members, each of which is the right child of the member before it.
 //!
 //! ```text
 //! merge(&mut tree, &mut links, &objects, &mut ByKeys::new(ByDeadline), other); // all members of both, in order
@@ -18,7 +18,8 @@ use ic_rbtree::{NodeStore, RBTree, RBTreeBuilder};
 use ic_unsafe_ref::{Place, Values};
 use std::cmp::Ordering;
 
-// Whether a merge takes the first member of the left run next. It does so if the first member of the right run is not less, or if the right run is empty.
+// Whether a merge takes `left`, the first member of the left run, next. It does so if `right`, the first member of the right run, is not less, or if the right
+// run is empty.
 #[inline]
 fn takes_left<V, O: Values<V>, C: Compares<V>>(
     objects: &O,
@@ -45,7 +46,7 @@ fn takes_left<V, O: Values<V>, C: Compares<V>>(
     }
 }
 
-// Makes one vine of two runs. Among equal members, the members of the left run go first.
+// Makes one vine of the runs that begin with `first` and `second`. Among equal members, the members of the run from `first` go first.
 pub(crate) fn merge_runs<V, N: NodeStore, O: Values<V>, C: Compares<V>>(
     nodes: &mut N,
     objects: &O,
@@ -83,7 +84,7 @@ pub(crate) fn merge_runs<V, N: NodeStore, O: Values<V>, C: Compares<V>>(
     merged
 }
 
-/// Merges another tree into this tree, which then has all members of both trees. Among equal members, the members of this tree go first.
+/// Merges the tree `other` into `tree`, which then has all members of both trees. Among equal members, the members of `tree` go first.
 ///
 /// It requires that the two trees share no member, and that `objects` has every member. If both trees were in order, the result is in order, and it has
 /// the least height. The call takes no memory, and acquires and releases no link. Trees that share no member with these two stay as they are. It makes at

@@ -1,4 +1,5 @@
-//! These calls split a tree by another tree: into the members that are equal to a member of the other tree, and the rest.
+//! These calls split a tree by another tree: into the members that are equal to a member of the other tree, and the rest. A run is a sequence of members, each
+//! of which is the right child of the member before it.
 //!
 //! ```text
 //! let rest = intersection(&mut tree, &mut links, &objects, &mut order, &other); // `tree` keeps what `other` has, too
@@ -22,7 +23,7 @@ use ic_rbtree::{NodeStore, RBTree, RBTreeBuilder};
 use ic_unsafe_ref::{Place, Values};
 use std::cmp::Ordering;
 
-// How a member compares with another member, if there is one. If there is no other member, the result is `Less`.
+// How the member `place` compares with the member `other`, or `Less` if `other` is `None`.
 #[inline]
 fn standing<V, O: Values<V>, C: Compares<V>>(
     objects: &O,
@@ -42,7 +43,7 @@ fn standing<V, O: Values<V>, C: Compares<V>>(
     }
 }
 
-// Makes two vines of a run. One has the members that are equal to a member of the other tree, and one has the rest.
+// Makes two vines of the run that begins with `first`. One has the members that are equal to a member of the tree `other`, and one has the rest.
 fn part_run<V, B, N: NodeStore, O: Values<V>, C: Compares<V>>(
     nodes: &mut N,
     objects: &O,
@@ -79,7 +80,7 @@ fn part_run<V, B, N: NodeStore, O: Values<V>, C: Compares<V>>(
     (common, rest)
 }
 
-// Splits the tree into two trees. One has the members that are equal to a member of the other tree, and one has the rest.
+// Splits `tree` into two trees. One has the members that are equal to a member of the tree `other`, and one has the rest.
 fn part<A: Copy + Drop, B, V, N: NodeStore, O: Values<V>, C: Compares<V>>(
     tree: RBTree<A>,
     nodes: &mut N,
@@ -110,11 +111,11 @@ fn part<A: Copy + Drop, B, V, N: NodeStore, O: Values<V>, C: Compares<V>>(
     (common, rest)
 }
 
-/// Keeps the members that are equal to a member of the other tree, and returns the rest as a tree, in order.
+/// Keeps the members of `tree` that are equal to a member of `other`, and returns the rest as a tree, in order.
 ///
-/// It requires that the two trees share no member, and that `objects` has every member. If both trees were in order, the call keeps exactly the members
-/// that are equal to a member of the other tree. The other tree stays as it is. Both resulting trees have the least height. The call takes no memory, and
-/// acquires and releases no link. Trees that share no member with this tree stay as they are. It makes at most n + m comparisons, and takes O(n + m).
+/// It requires that the two trees share no member, and that `objects` has every member. If both trees were in order, the call keeps exactly the members that
+/// are equal to a member of `other`. The tree `other` stays as it is. Both resulting trees have the least height. The call takes no memory, and acquires and
+/// releases no link. Trees that share no member with `tree` stay as they are. It makes at most n + m comparisons, and takes O(n + m).
 pub fn intersection<A: Copy + Drop, B, V, N: NodeStore, O: Values<V>, C: Compares<V>>(
     tree: &mut RBTree<A>,
     nodes: &mut N,
@@ -140,11 +141,11 @@ pub fn intersection<A: Copy + Drop, B, V, N: NodeStore, O: Values<V>, C: Compare
     rest
 }
 
-/// Keeps the members that are equal to no member of the other tree, and returns the rest as a tree, in order.
+/// Keeps the members of `tree` that are equal to no member of `other`, and returns the rest as a tree, in order.
 ///
-/// It requires that the two trees share no member, and that `objects` has every member. If both trees were in order, the call returns exactly the members
-/// that are equal to a member of the other tree. The other tree stays as it is. Both resulting trees have the least height. The call takes no memory, and
-/// acquires and releases no link. Trees that share no member with this tree stay as they are. It makes at most n + m comparisons, and takes O(n + m).
+/// It requires that the two trees share no member, and that `objects` has every member. If both trees were in order, the call returns exactly the members that
+/// are equal to a member of `other`. The tree `other` stays as it is. Both resulting trees have the least height. The call takes no memory, and acquires and
+/// releases no link. Trees that share no member with `tree` stay as they are. It makes at most n + m comparisons, and takes O(n + m).
 pub fn difference<A: Copy + Drop, B, V, N: NodeStore, O: Values<V>, C: Compares<V>>(
     tree: &mut RBTree<A>,
     nodes: &mut N,
@@ -170,11 +171,11 @@ pub fn difference<A: Copy + Drop, B, V, N: NodeStore, O: Values<V>, C: Compares<
     common
 }
 
-/// Moves each member of the other tree that is equal to no member of this tree into this tree. Returns the rest of the other tree as a tree, in order.
+/// Moves each member of `other` that is equal to no member of `tree` into `tree`. Returns the rest of `other` as a tree, in order.
 ///
-/// It requires that the two trees share no member, and that `objects` has every member. If both trees were in order, both results are in order, and the
-/// call returns exactly the members that are equal to a member of this tree. Both resulting trees have the least height. The call takes no memory, and
-/// acquires and releases no link. Trees that share no member with these two stay as they are. It makes at most 2 (n + m) comparisons, and takes O(n + m).
+/// It requires that the two trees share no member, and that `objects` has every member. If both trees were in order, both results are in order, and the call
+/// returns exactly the members that are equal to a member of `tree`. Both resulting trees have the least height. The call takes no memory, and acquires and
+/// releases no link. Trees that share no member with these two trees stay as they are. It makes at most 2 (n + m) comparisons, and takes O(n + m).
 pub fn union<A: Copy + Drop, V, N: NodeStore, O: Values<V>, C: Compares<V>>(
     tree: &mut RBTree<A>,
     nodes: &mut N,

@@ -1,5 +1,4 @@
--- The facts in this file help callers that compare two maps with numbers as keys, if each key of the first is a key of the
--- second.
+-- The facts in this file help callers that compare the sizes of two maps whose keys are numbers.
 use Rattle.std.proofs.Common.{◌≡◌, ℕ, zero, suc, ◌≤◌, ◌-◌, true, false, cond, List, [], ◌∷◌, length, Some, None, is_some, inl, inr, refl, sym, ap, ◌∙◌, arith}
 use Rattle.std.proofs.lemmas.Bool.{cases_eq}
 use Rattle.std.specs.Cmp.{nat_cmp_total}
@@ -23,7 +22,7 @@ module _ {X : Type 0} where
     by zero e = let never : false ≡ true = ap is_some (sym (ap (λ a. map.get a i) (empty_of_len m e) ∙ get-empty nat_cmp i)) ∙ is in absurd (cc)
     by (suc n) e = omega arith
 
--- THE NUMBER OF KEYS: if each key of the map a is a key of the map b, a has at most as many keys as b.
+-- If each key of the map a is a key of the map b, a has at most as many keys as b.
 pub fewer_keys : {X Y : Type 0} (n : ℕ) (a : map.FinMap nat_cmp X) (b : map.FinMap nat_cmp Y) → map.len a ≡ n
     → ((i : ℕ) → map.contains_key a i ≡ true → map.contains_key b i ≡ true) → n ≤ map.len b
 fewer_keys zero a b e within = omega arith

@@ -1,4 +1,5 @@
--- This file proves facts about the values of a list, each of which is at the place with its index.
+-- This file proves facts about the store `at_indexes values`, in which each value of a list is at the place with the value's
+-- index in the list.
 use Rattle.std.proofs.Common.{◌≡◌, ℕ, zero, suc, ◌+◌, ◌<◌, true, false, cond, List, [], ◌∷◌, Option, Some, None, is_some, length, map, slice_index_or, slice_set, inl, inr, refl, sym, ap, ◌∙◌, arith}
 use Rattle.std.proofs.lemmas.Bool.{cases_eq}
 use Rattle.std.proofs.lemmas.Grind.{get_or-set_at}
@@ -15,7 +16,7 @@ use Rattle.ic_unsafe_ref.specs.Objects.{object_at, is_placed, with_object, at_in
 use Rattle.ic_unsafe_ref.proofs.ObjectLemmas.{apart, get_entries, tied}
 
 module _ {T : Type 0} where
-  -- A slab without vacant slots stores the elements of a list.
+  -- The slab that has the elements of a list in its slots, and no vacant slot.
   full : List T → Slab T
   full values = record { slots = map (λ (v : T). Some v) values; vacant_key = length values; capacity = length values }
 
@@ -44,7 +45,7 @@ module _ {T : Type 0} where
       let there = slot_there values (index_of p) (ap is_some (sym (slot_of values p)) ∙ placed) in
       rw at_index (there.0, λ d. slot_of values p ∙ there.1 d)
 
-  -- FOR CALLERS: there is a value at each place whose index is below the length of the list.
+  -- There is a value at each place whose index is below the length of the list.
   has_slot : (values : List T) (i : ℕ) → i < length values → is_some (slice_index_or (map (λ (v : T). Some v) values) i None) ≡ true
   has_slot [] i h = absurd (omega (arith, h))
   has_slot (v ∷ values) zero h = refl
@@ -53,7 +54,8 @@ module _ {T : Type 0} where
   pub placed_in_range : (values : List T) (p : Place) → index_of p < length values → is_placed (at_indexes values) p ≡ true
   placed_in_range values p h = ap is_some (slot_of values p) ∙ has_slot values (index_of p) h
 
-  -- If a value is written at an index below the length of the list, the value is at the place with this index.
+  -- If a value is written in the list at the index of the place p, the store is the old one with this value at p. The index has
+  -- to be below the length of the list.
   pub set_at_index : (values : List T) (p : Place) (v : T) → index_of p < length values → at_indexes (slice_set values (index_of p) v) ≡ with_object (at_indexes values) p v
   set_at_index values p v within =
       let i = index_of p in

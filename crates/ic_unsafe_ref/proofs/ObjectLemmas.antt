@@ -1,4 +1,5 @@
--- This file proves that the map of the objects contains, at each place, what the slab contains under the place's index.
+-- A store keeps its objects in a slab. This file proves that the map by which contracts describe the store contains, at each
+-- place, what the slab contains under the place's index.
 use Rattle.std.proofs.Common.{◌≡◌, ◌≢◌, ℕ, zero, suc, ◌+◌, ◌<◌, true, false, cond, List, [], ◌∷◌, Option, Some, None, is_some, IsSome, count_by, refl, sym, ap, subst, ◌∙◌, arith, eq-eqb, ne_eqb, add_comm}
 use Rattle.std.specs.Ordering.{nat_cmp, eq_by_cmp}
 use Rattle.std.specs.Cmp.{nat_cmp_total, unsigned_tied}
@@ -23,7 +24,7 @@ pub apart : (q k : ℕ) → q ≢ k → eq_by_cmp nat_cmp q k ≡ false
 apart q k n = unsigned_tied q k ∙ ne_eqb q k n
 
 module _ {T : Type 0} where
-  -- There is no entry under a key that is less than the first key.
+  -- The keys of `entries_from key slots` begin with `key`, so there is no entry under a smaller key.
   find_before : (key : ℕ) (slots : List (Option T)) (q : ℕ) → q < key → find nat_cmp q (entries_from key slots) ≡ None
   find_before key [] q h = refl
   find_before key (None ∷ slots) q h = find_before (key + 1) slots q (omega (arith, h))
@@ -31,7 +32,7 @@ module _ {T : Type 0} where
       ap (λ b. cond b (Some v) (find nat_cmp q (entries_from (key + 1) slots))) (apart q key (λ e. omega (arith, e, h)))
       ∙ find_before (key + 1) slots q (omega (arith, h))
 
-  -- Under each other key there is what the slot with this number contains.
+  -- Under the key `key + q` there is what the slot with the number q contains.
   find_at : (key : ℕ) (slots : List (Option T)) (q n : ℕ) → key + q ≡ n → find nat_cmp n (entries_from key slots) ≡ get (record { slots = slots; vacant_key = 0; capacity = 0 }) q
   find_at key [] q n e = refl
   find_at key (None ∷ slots) zero n e = find_before (key + 1) slots n (omega (arith, e))
@@ -45,7 +46,7 @@ module _ {T : Type 0} where
   pub get_entries : (s : Slab T) (q : ℕ) → map.get (map.from_entries {R = nat_cmp} (entries s)) q ≡ get s q
   get_entries s q = get-from_entries nat_cmp_total (entries s) q ∙ find_at 0 s.slots q q (omega arith)
 
-  -- The map has as many entries as the slab has values.
+  -- The map of a slab's entries has as many entries as the slab has values.
   len_from : (key : ℕ) (slots : List (Option T)) → map.len (map.from_entries {R = nat_cmp} (entries_from key slots)) ≡ count_by is_some slots
   len_from key [] = len-empty nat_cmp T
   len_from key (None ∷ slots) = len_from (key + 1) slots
@@ -59,7 +60,7 @@ module _ {T : Type 0} where
   pub len_entries : (s : Slab T) → map.len (map.from_entries {R = nat_cmp} (entries s)) ≡ slab_len s
   len_entries s = len_from 0 s.slots
 
-  -- If a value is put into the slab under a key, the value is put into the map under this key.
+  -- If a value is put into the slab under a key, the map of the slab's entries gets this value under the same key.
   pub insert_entries : (old new : Slab T) (key : ℕ) (v : T) → Updates old new key (Some v)
       → map.from_entries {R = nat_cmp} (entries new) ≡ map.insert (map.from_entries (entries old)) key v
   insert_entries old new key v updates =
@@ -74,7 +75,7 @@ module _ {T : Type 0} where
             ∙ ap (λ b. cond b (Some v) (map.get (map.from_entries {R = nat_cmp} (entries old)) q)) (apart q key n))
       ])
 
-  -- The store of objects, in the form in which contracts describe a slab.
+  -- The store of objects that is kept in a slab, in the form in which contracts describe the store.
   abbrev seen : Slab T → Objects T
   seen s = record { values = map.from_entries (entries s); next = s.vacant_key }
 
@@ -86,7 +87,7 @@ module _ {T : Type 0} where
     values = insert_entries old new key v updates ∙ ap (λ k. map.insert (map.from_entries {R = nat_cmp} (entries old)) k v) (sym at_key);
   }
 
-  -- If a value is removed from the slab under a key, the entry of this key is removed from the map.
+  -- If a value is removed from the slab, the entry with its key is removed from the map of the slab's entries.
   pub remove_entries : (old new : Slab T) (key : ℕ) → Updates old new key None
       → map.from_entries {R = nat_cmp} (entries new) ≡ map.remove (map.from_entries (entries old)) key
   remove_entries old new key updates =

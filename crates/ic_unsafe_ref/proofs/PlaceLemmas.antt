@@ -72,7 +72,7 @@ pub place_at_word : (to : Option Place) → place_at (word_of to) ≡ to
 place_at_word None = place_at_other 0 (λ h. absurd (omega (arith, h.0)))
 place_at_word (Some p) = ap place_at (sym (word_is p)) ∙ place_at_is p.word p.names_place
 
--- If n is a word, it is the word of what it names, which is a place or none.
+-- If n is a word, it is the word of the place that n names, or of none if n is 0.
 pub word_at : (n : ℕ) → IsWord n → word_of (place_at n) ≡ n
 word_at n h =
     elim (eqb_tells n 0) [

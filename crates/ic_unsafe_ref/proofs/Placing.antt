@@ -11,7 +11,7 @@ use Rattle.ic_unsafe_ref.specs.Objects.{Objects, Places, Frees, object_at, is_pl
 use Rattle.ic_unsafe_ref.proofs.PlaceLemmas.{same_index, same_or_not}
 use Rattle.ic_unsafe_ref.proofs.ObjectLemmas.{tied, apart}
 
--- A value is put at p, whether a value was there or not, and the values at all other places stay.
+-- The value `value` is put at p, whether p had a value or not. The values at all other places stay.
 pub record Puts {T : Type 0} (old new : Objects T) (p : Place) (value : T) : Type 0 where
   pub values : new.values ≡ map.insert old.values (index_of p) value
 
@@ -19,18 +19,18 @@ module _ {T : Type 0} {old new : Objects T} {p : Place} {value : T} (puts : Puts
   put_index : (i : ℕ) → map.get new.values i ≡ cond (eq_by_cmp nat_cmp i (index_of p)) (Some value) (map.get old.values i)
   put_index i = ap (λ m. map.get m i) puts.values ∙ get-insert nat_cmp_total old.values (index_of p) value i
 
-  -- THE VALUE that was put at p is at p afterwards.
+  -- The value that was put at p is at p afterwards.
   pub put_there : object_at new p ≡ Some value
   put_there = put_index (index_of p) ∙ ap (λ b. cond b (Some value) (object_at old p)) (tied (index_of p) (index_of p) refl)
 
-  -- At every place except p there is what was there before.
+  -- Every place except p has the same value as before, or still no value.
   pub put_beside : (i : ℕ) → i ≢ index_of p → map.get new.values i ≡ map.get old.values i
   put_beside i n = put_index i ∙ ap (λ b. cond b (Some value) (map.get old.values i)) (apart i (index_of p) n)
 
   pub put_others : (q : Place) → q ≢ p → object_at new q ≡ object_at old q
   put_others q n = put_beside (index_of q) (λ e. n (same_index q p e))
 
-  -- If a value at p was replaced by another one, the same places have values as before.
+  -- If p had a value before, the same places have values before and after.
   pub still_placed : is_placed old p ≡ true → (q : Place) → is_placed new q ≡ is_placed old q
   still_placed is q = elim (same_or_not q p) [
     | inl e ↦ ap (is_placed new) e ∙ ap is_some put_there ∙ sym (ap (is_placed old) e ∙ is)
@@ -38,7 +38,7 @@ module _ {T : Type 0} {old new : Objects T} {p : Place} {value : T} (puts : Puts
   ]
 
 module _ {T : Type 0} {old new : Objects T} {p : Place} where
-  -- A NEW OBJECT that is placed is put at its place.
+  -- If an object is placed at p (`Places`), it is put at p (`Puts`).
   pub placed_puts : {value : T} → Places old new p value → Puts old new p value
   placed_puts places = record { values = places.values }
 
@@ -48,7 +48,7 @@ module _ {T : Type 0} {old new : Objects T} {p : Place} where
   pub others_placed : {value : T} → Places old new p value → (q : Place) → q ≢ p → object_at new q ≡ object_at old q
   others_placed places = put_others (placed_puts places)
 
-  -- REMOVED: after the value at p is removed, every other place has what was there before.
+  -- After the value at p is removed, every other place has the same value as before, or still no value.
   pub others_left : Frees old new p → (q : Place) → q ≢ p → object_at new q ≡ object_at old q
   others_left frees q n =
       ap (λ m. map.get m (index_of q)) frees.values ∙ get-remove nat_cmp_total old.values (index_of p) (index_of q)
@@ -60,11 +60,12 @@ module _ {T : Type 0} {old new : Objects T} {p : Place} where
       ap (λ m. map.get m (index_of p)) frees.values ∙ get-remove nat_cmp_total old.values (index_of p) (index_of p)
       ∙ ap (λ b. cond b None (object_at old p)) (tied (index_of p) (index_of p) refl)
 
--- If a value at p is replaced by a written value, the written value is put at p.
+-- If `with_object` writes a value at p, this value is put at p (`Puts`).
 pub exchanged_puts : {T : Type 0} {old new : Objects T} {p : Place} {value : T} → new ≡ with_object old p value → Puts old new p value
 exchanged_puts exchanged = record { values = ap (λ objects. objects.values) exchanged }
 
--- ANOTHER VALUE at p: the result is as if the value at p were removed, and the new value were placed there.
+-- If another value is written at p, the result is the same as if the value at p were removed (`leaves`) and the new value were
+-- then placed at p.
 module _ {T : Type 0} (objects : Objects T) (p : Place) (value : T) where
   abbrev pub without : Objects T
   without = record { values = map.remove objects.values (index_of p); next = index_of p }

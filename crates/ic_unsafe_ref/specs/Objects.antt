@@ -1,4 +1,4 @@
--- A store of objects is a finite map from places to values, and the place that the next value gets.
+-- A store of objects consists of a finite map from places to values, and of the place that the next value gets.
 use Rattle.std.specs.Prelude.{◌≡◌, ℕ, List, length, Option, None, Bool, is_some, refl}
 use Rattle.std.specs.List.{enumerate_from}
 use Rattle.std.specs.Ordering.{nat_cmp}
@@ -44,6 +44,6 @@ module _ {T : Type 0} where
   abbrev pub with_object : Objects T → Place → T → Objects T
   with_object objects p value = record { values = map.insert objects.values (index_of p) value; next = objects.next }
 
-  -- The store whose values are those of the list. Each value is at the place with its index in the list.
+  -- The store with the values of a list. The value with the index i in the list is at the place with the index i.
   abbrev pub at_indexes : List T → Objects T
   at_indexes values = record { values = map.from_entries (enumerate_from 0 values); next = length values }

@@ -6,8 +6,8 @@ use Rattle.std.specs.declared.cmp.Ordering.TheVariants.{Less, Equal}
 use Rattle.ic_unsafe_ref.specs.declared.place.Place.{Place}
 use Rattle.ic_unsafe_ref.specs.Places.{index_of}
 
--- An order of places is total. The order yields `Equal` exactly if both places are the same, and `Less` exactly if the first
--- index is less than the second.
+-- A correct order of places is total. It returns `Equal` exactly if both places are the same, and `Less` exactly if the index of
+-- the first place is less than that of the second.
 pub record OrdersPlaces (order : Place → Place → Ordering) : Type 0 where
   pub total : IsTotalOrder order
   pub equal : (p q : Place) → (order p q ≡ Equal) ↔ (p ≡ q)

@@ -12,7 +12,7 @@ NamesPlace n = (8 ≤ n) × (n < 68719476736) × (n % 8 ≡ 0)
 abbrev pub IsWord : ℕ → Type 0
 IsWord n = (n < 68719476736) × (n % 8 ≡ 0)
 
--- For every number it can be decided whether the number is the word of a place.
+-- Each number is the word of a place, or it is not.
 pub names_or_not : (n : ℕ) → NamesPlace n ⊎ (NamesPlace n → ⊥)
 names_or_not n =
     elim (eqb_tells ((8 - n) + (n - 68719476735) + n % 8) 0) [

@@ -11,7 +11,7 @@ use Rattle.ic_unsafe_ref.specs.declared.place.Place.{Place}
 unfoldable pub index_of : Place → ℕ
 index_of p = p.word / 8 - 1
 
--- The place whose word is the number n, which has to be the word of a place.
+-- The place whose word is the number n. The argument h says that n is the word of a place.
 abbrev pub place_of : (n : ℕ) → NamesPlace n → Place
 place_of n h = record { word = n; names_place = h }
 
@@ -20,7 +20,7 @@ abbrev pub word_of : Option Place → ℕ
 word_of None = 0
 word_of (Some p) = 8 * (index_of p + 1)
 
--- The place that a word names. The result is none if the word is 0 or no place has this word.
+-- The place whose word is the number n. The result is none if n is 0 or is the word of no place.
 unfoldable pub place_at : ℕ → Option Place
 place_at n = elim (names_or_not n) [ inl h ↦ Some (place_of n h) | inr h ↦ None ]
 

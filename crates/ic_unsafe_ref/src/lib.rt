@@ -1,6 +1,6 @@
 //! This crate keeps objects at places, and provides references to them.
 //!
-//! An intrusive collection links objects which already exist. In this crate an object is a value in [`Objects`]. The object is
+//! An intrusive collection links objects that already exist. In this crate an object is a value in [`Objects`]. The object is
 //! kept at a [`Place`], and an [`UnsafeRef`] names the object by its place.
 //!
 //! ```text

@@ -18,7 +18,7 @@ use std::marker::Model;
 
 /// A store of values of one type. Each value keeps its place until the value is removed.
 ///
-/// In contracts the store is a finite map from places to values, and the index of the place that the next value gets.
+/// In contracts the store consists of a finite map from places to values, and of the index of the place that the next value gets.
 #[derive(Drop)]
 pub struct Objects<T, A: Allocator = Global> {
     pub(crate) slab: Slab<T, A>,

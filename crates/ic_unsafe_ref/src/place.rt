@@ -1,4 +1,4 @@
-//! A place is a position for one object in the store, and entries of links name objects by their places.
+//! A place is a position for one object in the store. The entries of a table name objects by their places.
 //!
 //! ```text
 //! let third = Place::new(2)?; // Some: there are 4,294,967,296 places
@@ -16,9 +16,9 @@ use std::fmt;
 ///
 /// The number of a place is `2 * (index + 1)`. A place is stored as its word, which is four times its number, and links store a
 /// neighbor as its word as well. The word of a place is therefore a multiple of 8 and never 0. A word counts bytes, so a table
-/// with entries of one word finds an entry without a shift. A word can be any multiple of 8 below `2^36`, which is twice the
-/// range of the first 4,294,967,296 places. The exclusive or of two words is therefore a word again, and a place is read from it
-/// without a test of its range.
+/// with entries of one word finds an entry without a shift. A word can be any multiple of 8 below `2^36`, so there are about
+/// twice as many words as places that tables cover. The exclusive or of two words is therefore a word again, and a place is read
+/// from it without a test of its range.
 #[derive(Clone, Copy, PartialEq, Eq, PartialOrd, Ord)]
 pub struct Place {
     word: u64,
@@ -62,7 +62,8 @@ impl Place {
         ensures value { result ≡ index_of self }
         ensures small { result + 1 < 2 ^ 33 }
     {
-        // A multiple of 8 addresses an entry with no shift and no mask, and a word that is not 0 never means an end.
+        // If the compiler knows that the word is a multiple of 8, it addresses an entry with no shift and no mask. If it knows
+        // that the word is not 0, it drops tests for the end of a list.
         let word = assert_unchecked(self.word, self.word % 8 == 0 && self.word != 0);
         (word / 8 - 1) as usize
     }
@@ -104,7 +105,7 @@ impl Place {
     ghost use Rattle.ic_unsafe_ref.specs.declared.place.Place.{Place};
     ghost use Rattle.ic_unsafe_ref.specs.Order.{OrdersPlaces};
 
-    /// The law of the order: it is total, and two places compare `Equal` exactly if they are the same.
+    /// The law: places are totally ordered by their indexes, and two places compare `Equal` exactly if they are the same.
     pub fn order_is_total()
         ensures { OrdersPlaces ⟦<Place as Ord>⟧.cmp }
     {}

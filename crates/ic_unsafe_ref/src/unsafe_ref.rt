@@ -37,7 +37,7 @@ impl<T> Drop for UnsafeRef<T> {
 }
 
 impl<T> UnsafeRef<T> {
-    /// A reference to the object that is at `place`, whichever object it is. O(1).
+    /// A reference to whichever object is at `place`. O(1).
     #[inline]
     pub fn new(place: Place) -> UnsafeRef<T>
         ensures { result ≡ place }
@@ -59,7 +59,7 @@ impl<T> UnsafeRef<T> {
     /// Puts `value` at the place that [`Objects::next_place`] returns, and returns a reference to the value.
     ///
     /// The call requires that a place is left. If there is no memory for the value, the error returns the value and nothing has
-    /// changed. O(1) on average, because the slab grows from time to time.
+    /// changed. O(1) on average, because the store grows from time to time.
     pub fn from_box<A: Allocator>(
         objects: &mut Objects<T, A>,
         value: T,

@@ -1,4 +1,5 @@
-//! Values can be found by a place: the objects in a store, or the elements of an array with one value for each place.
+//! This file defines a trait of sources in which values are found by place, for example the objects in a store, or the elements
+//! of an array.
 //!
 //! ```text
 //! let deadlines: Vec<u64> = ..;
@@ -12,15 +13,15 @@ use crate::hint::assert_unchecked;
 use crate::{Objects, Place};
 use std::alloc::Allocator;
 
-/// A source of values by place. A source can be [`Objects`], a slice or a `Vec`, which is read at the index of the place, or a
-/// table of your own.
+/// A source of values that are found by place. A source can be [`Objects`], or a table of your own. A source can also be a slice
+/// or a `Vec`, in which the value of a place is at the place's index.
 ///
-/// Searches and inserts by keys read values only through this trait. You can therefore store keys in a separate array, from which
+/// Searches and inserts by keys read values only through this trait. You can therefore store keys in a separate array, so that
 /// one load reads a key.
 pub trait Values<V> {
     ghost use Rattle.ic_unsafe_ref.specs.Objects.{Objects};
 
-    // `values` gives the store of values, each at its place.
+    // `values` describes the source as a store, which has each value at its place.
     ghost values: { Self → Objects V };
 
     /// The value at `place`. The call requires that the place has a value. The call makes one look-up. O(1).

@@ -1,4 +1,4 @@
--- If all steps of one list are claims, each place that was claimed is held at the end of the list.
+-- Lemmas on a list whose steps are all claims: each place that was claimed is held at the end of the list.
 use Rattle.std.proofs.Common.{◌≡◌, ℕ, Bool, true, false, true≢false, cond, eqb, ◌||◌, List, [], ◌∷◌, map, refl, sym, ap, ◌∙◌, subst, eq-eqb, Option, Some, None, is_some}
 use Rattle.ic_link_ops.specs.Prelude.{Place, index_of}
 use Rattle.ic_atomic.specs.declared.step.Step.{Step}
@@ -23,7 +23,7 @@ abbrev AllClaims : List Entry → Type 0
 AllClaims [] = Unit {0}
 AllClaims (x ∷ xs) = IsClaim x.event.step × AllClaims xs
 
--- whether the place with the index n is claimed by a step, by one of several events, or by one of several entries
+-- whether a step claims the place with the index n, or whether one of several events or entries does
 abbrev pub claims_at : ℕ → Step → Bool
 claims_at n (Claim p) = eqb n (index_of p)
 claims_at n (Release p) = false
@@ -37,7 +37,7 @@ abbrev asked : ℕ → List Entry → Bool
 asked n [] = false
 asked n (x ∷ xs) = claims_at n x.event.step || asked n xs
 
--- if all steps in the record of an entry's holder are claims, the step of the entry is a claim, because it is in this record
+-- lemmas for `all_claims`: if the record of each holder has only claims, each entry of the list is a claim, because its step is in the record of its holder
 only_first : (b : Bool) (e : Event) (es : List Event) → b ≡ true → OnlyClaims (cond b (e ∷ es) es) → IsClaim e.step
 only_first true e es is only = only.0
 only_first false e es is only = absurd (true≢false (sym is))
@@ -112,7 +112,7 @@ some_party : (o : Option ℕ) → is_some o ≡ true → (h : ℕ) × (is_party 
 some_party None e = absurd (true≢false (sym e))
 some_party (Some h) e = (h, eq-eqb h h refl)
 
--- EACH PLACE THAT WAS CLAIMED IS HELD if the records have no other steps than claims
+-- if the records have only claims, each place that was claimed is held
 pub claimed_is_held : (words : List ℕ) (records : List (List Event)) → IsOneList words records → ((h : ℕ) → OnlyClaims (record_at records h))
     → (h : ℕ) (p : Place) → asks (index_of p) (record_at records h) ≡ true → IsHeld records p
 claimed_is_held words records one only h p ask =

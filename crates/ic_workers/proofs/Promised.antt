@@ -1,10 +1,10 @@
--- What the threads of workers guarantee. The guarantee of a thread depends on the position of the thread in the list of threads.
+-- Lemmas on what the threads of workers guarantee. The guarantee of a thread depends on the position of the thread in the list of threads.
 use Rattle.std.proofs.Common.{◌≡◌, ◌<◌, ◌+◌, ℕ, zero, suc, List, [], ◌∷◌, ◌++◌, length, arith}
 use Rattle.std.specs.Prelude.{slice_index_or}
 use Rattle.ic_atomic.specs.declared.claims.Claims.{Claims}
 use Rattle.ic_workers.specs.declared.party.ClaimedAll.{ClaimedAll}
 
--- the guarantee is about these claims, this gate, and the worker whose number is one more than the position of its thread
+-- the guarantee `promise` is about `claims`, `gate`, and the worker whose number is `place` + 1, where `place` is the position of its thread
 pub record IsPromised {A G : Type 0} (claims : Claims A) (gate : G) (place : ℕ) (promise : ClaimedAll A G) : Type 0 where
   pub claims_are : promise.claims.value ≡ claims
   pub gate_is : promise.gate.value ≡ gate
@@ -15,7 +15,7 @@ module _ {X : Type 0} where
   abbrev pub EachAt : (ℕ → X → Type 0) → List X → Type 0
   EachAt P xs = (k : ℕ) (d : X) → k < length xs → P k (slice_index_or xs k d)
 
-  -- if each element of a list satisfies P with its position, and one more element does, all elements of the longer list do
+  -- if each element of xs satisfies P with its position, and x satisfies P with the next position, each element of xs ++ x ∷ [] satisfies P with its position
   pub each_more : (P : ℕ → X → Type 0) (xs : List X) (x : X) → EachAt P xs → P (length xs) x → EachAt P (xs ++ x ∷ [])
   each_more P [] x each one zero d low = one
   each_more P [] x each one (suc k) d low = absurd (omega (arith, low))

@@ -1,4 +1,4 @@
--- A row of places with neighboring indices, the record of one claim of each, and the places whose claims succeeded.
+-- Lemmas on a row of places with neighboring indexes, the record of one claim of each, and the places whose claims succeeded.
 use Rattle.std.proofs.Common.{◌≡◌, ◌<◌, ◌≤◌, ◌+◌, ℕ, zero, suc, Bool, true, false, true≢false, cond, eqb, ◌||◌, List, [], ◌∷◌, ◌++◌, length, refl, sym, ap, ◌∙◌, subst, arith, eq-eqb, ne_eqb}
 use Rattle.std.specs.Prelude.{slice_index_or}
 use Rattle.std.proofs.lemmas.Bool.{or_left, or_right}
@@ -11,7 +11,7 @@ use Rattle.ic_workers.specs.SharedOut.{has, Rises}
 use Rattle.ic_workers.specs.Claimed.{IsRow}
 use Rattle.ic_workers.proofs.OnlyClaims.{OnlyClaims, asks}
 
--- a row of places with the next place after it is a row
+-- a row of places, followed by the place with the next index, is a row
 pub row_more : (from : ℕ) (ps : List Place) (p : Place) → IsRow from ps → index_of p ≡ from + length ps → IsRow from (ps ++ p ∷ [])
 row_more from [] p row e = (omega (arith, e), tt)
 row_more from (q ∷ ps) p row e = (row.0, row_more (from + 1) ps p row.1 (omega (arith, e)))
@@ -29,7 +29,7 @@ row_inside from [] row k d low = absurd (omega (arith, low))
 row_inside from (p ∷ ps) row zero d low = omega (arith, row.0)
 row_inside from (p ∷ ps) row (suc k) d low = let e = row_inside (from + 1) ps row.1 k d (omega (arith, low)) in omega (arith, e)
 
--- WHAT IS HELD after one claim of each place is exactly the places whose claims succeeded
+-- lemmas for `holds_chosen`: after one claim of each place, the holder holds exactly the places whose claims succeeded
 or_false : (b : Bool) → b ≡ (b || false)
 or_false true = refl
 or_false false = refl
@@ -70,7 +70,7 @@ asks_each from (p ∷ ps) (b ∷ got) row e n low high = dite (ℕ_discrete n (i
     (λ is. or_left (eqb n (index_of p)) (asks n (claims_of_each ps got)) (eq-eqb n (index_of p) is))
     (λ ne. let i = row.0 in or_right (eqb n (index_of p)) (asks n (claims_of_each ps got)) (asks_each (from + 1) ps got row.1 (omega (arith, e)) n (omega (arith, low, ne, i)) (omega (arith, high))))
 
--- the places of a row whose claims succeeded are a rising list
+-- lemmas for `rises_chosen`: the places of a row whose claims succeeded are a rising list
 rises_less : (low more high : ℕ) (s : List Place) → low ≤ more → Rises more high s → Rises low high s
 rises_less low more high [] less rises = tt
 rises_less low more high (p ∷ s) less rises = let r = rises.0 in (omega (arith, less, r), rises.1, rises.2)

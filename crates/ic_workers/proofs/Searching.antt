@@ -1,4 +1,4 @@
--- Where a place with a given index can be in a rising list.
+-- Lemmas on where a place with a given index can be in a rising list.
 use Rattle.std.proofs.Common.{◌≡◌, ◌<◌, ◌≤◌, ◌+◌, ℕ, zero, suc, Bool, true, false, cond, eqb, ◌||◌, List, [], ◌∷◌, ◌++◌, take, drop, length, refl, sym, ap, ◌∙◌, arith, eq-eqb, ne_eqb, Vec, All}
 use Rattle.std.proofs.lemmas.Bool.{lt-ltb, le-ltb, or_from}
 use Rattle.std.specs.Prelude.{slice_index_or}
@@ -52,7 +52,7 @@ stands_nowhere (p ∷ s) (suc m) n e f = by_first (eqb n (index_of p)) e (λ g. 
     by_first true g h = g
     by_first false g h = h g
 
--- if one more list is given, the number of lists with an index is greater by 1 exactly if the new list contains this index
+-- if the list s is added, the number of lists that contain the index n grows by 1 if s contains n, and otherwise stays the same
 pub times_more : (ls : List (List Place)) (s : List Place) (n : ℕ) → times (ls ++ s ∷ []) n ≡ times ls n + (cond (has s n) 1 0)
 times_more [] s n = omega arith
 times_more (t ∷ ls) s n = let e = times_more ls s n in omega (arith, e)
@@ -64,7 +64,7 @@ rises_at high [] all k d inside = absurd (omega (arith, inside))
 rises_at high (l ∷ lists) all zero d inside = all 0 [] (omega arith)
 rises_at high (l ∷ lists) all (suc k) d inside = rises_at high lists (λ j e low. all (suc j) e (omega (arith, low))) k d (omega (arith, inside))
 
--- one more index is counted if it is in more than one list, and otherwise the count stays as it is
+-- the index n adds 1 to the count if more than one list contains it, and otherwise nothing
 pub found_one : (n : ℕ) (lists : List (List Place)) → 1 < times lists n → doubles_below (n + 1) lists ≡ doubles_below n lists + 1
 found_one n lists more =
     let up : n + 1 ≡ suc n = omega arith in

@@ -27,7 +27,7 @@ fits c = record {
   held = λ p. ap (holds p) c.claimed ∙ (holds_chosen p c.offered c.got c.each ∙ ap (λ l. has l (index_of p)) (sym c.are));
 }
 
--- if one more vector is given, the lists of places have one more list, with the places of this vector
+-- if the vector v is added, the lists of places get one more list, with the places of v
 pub places_more : {B : Type 0} (ls : List (Vec Place B)) (v : Vec Place B) → places_in (ls ++ v ∷ []) ≡ places_in ls ++ v.items ∷ []
 places_more [] v = refl
 places_more (l ∷ ls) v = ap (λ (xs : List (List Place)). l.items ∷ xs) (places_more ls v)
@@ -65,7 +65,7 @@ module _ {A : Type 0} (claims : Claims A) where
       rw c.are (rises_chosen 0 (places_of claims) c.offered c.got c.row (omega (arith, long)))
   rises_each (g ∷ hs) (t ∷ ls) have (suc k) d low = rises_each hs ls have.1 k d (omega (arith, low))
 
-  -- all these holders were made with the claims, and there are as many holders as lists
+  -- all holders hs were made with the claims, and there are as many holders as lists
   pub each_made : (hs : List Holder) (ls : List (List Place)) → AllZip (HasTaken claims) hs ls → All (IsOf claims) hs
   each_made [] [] have k d low = absurd (omega (arith, low))
   each_made [] (t ∷ ls) have k d low = absurd have
@@ -103,7 +103,7 @@ module _ {A : Type 0} (claims : Claims A) where
     held_by : (i n : ℕ) (p : Place) → index_of p ≡ n → has (list_at ls i) n ≡ true → holds p (record_at (map record_of hs) i) ≡ true
     held_by i n p is e = (fits_at hs ls have i).held p ∙ (ap (has (list_at ls i)) is ∙ e)
 
-    -- THE CLAIMS ARE ONE LIST OF STEPS if there is a record for each holder of the claims
+    -- if there is a list for each holder of the claims, the records of all holders can be merged into one list of steps
     pub as_one_list : length ls ≡ holders_of claims → ClaimedAsOneList (holders_of claims) (places_of claims) ls
     as_one_list each = record {
       records = map record_of hs;

@@ -7,13 +7,13 @@ use Rattle.ic_atomic.specs.declared.step.Event.{Event}
 use Rattle.ic_atomic.specs.Gathering.{claims_of_each, chosen}
 use Rattle.ic_atomic.specs.OneList.{IsOneList}
 
--- the list has places with neighboring indices: the first place has the index `from`, and the index of each other place is one more than the index before it
+-- the list has places with neighboring indexes: the first place has the index `from`, and each further index is one more than the index before it
 abbrev pub IsRow : ℕ → List Place → Type 0
 IsRow from [] = Unit {0}
 IsRow from (p ∷ s) = (index_of p ≡ from) × IsRow (from + 1) s
 
--- EACH OF THE FIRST PLACES WAS CLAIMED ONCE: `record_is` has one claim of each of the first `places` places, in order. `list` has the places whose claims
--- succeeded
+-- a holder has claimed each of the first places once: its record `record_is` has one claim of each of the first `places` places, in order. `list` has the
+-- places whose claims succeeded
 pub record ClaimedEach (places : ℕ) (record_is : List Event) (list : List Place) : Type 0 where
   pub offered : List Place
   pub row : IsRow 0 offered
@@ -23,7 +23,7 @@ pub record ClaimedEach (places : ℕ) (record_is : List Event) (list : List Plac
   pub claimed : record_is ≡ claims_of_each offered got
   pub are : list ≡ chosen offered got
 
--- THE CLAIMS OF ALL WORKERS ARE ONE LIST OF STEPS: each worker's record is a part of this list, and the worker's list of places follows from the record
+-- the records of all workers can be merged into one list of steps, and each worker's list of places follows from the worker's record
 pub record ClaimedAsOneList (workers places : ℕ) (lists : List (List Place)) : Type 0 where
   -- there is one record for each worker
   pub records : List (List Event)

@@ -7,7 +7,7 @@ ghost use Rattle.ic_workers.specs.Doubles.{times, doubles_below};
 use ic_unsafe_ref::Place;
 use std::alloc::Allocator;
 
-// Returns whether a rising list contains the place with the index `index`. The function makes a binary search.
+// Returns whether `list` contains the place with the index `index`. The indexes in the list must rise, because the function makes a binary search.
 fn stands_in(list: &[Place], index: usize) -> bool
     requires { (high : ℕ) × Rises 0 high list.now }
     ensures { result ≡ has list.now index }
@@ -45,7 +45,8 @@ fn lists_with<A: Allocator>(lists: &[Vec<Place, A>], index: usize) -> usize
 
 /// Returns how many of the first `places` places are in more than one of the lists.
 ///
-/// The call requires that each list rises, as the lists of [`fan_out`](crate::fan_out) do. O(places * lists * log(places)). The call takes no memory.
+/// The call requires that the indexes rise in each list, as they do in the lists of [`fan_out`](crate::fan_out). O(places * lists * log(places)). The call
+/// takes no memory.
 pub fn doubles<A: Allocator>(places: usize, lists: &[Vec<Place, A>]) -> usize
     requires rises { All (Rises 0 places) (places_in lists.now) }
     ensures { result ≡ doubles_below places (places_in lists.now) }

@@ -131,8 +131,8 @@ fn members<L: LinkedListOps, A: Allocator>(
     Ok(places)
 }
 
-// What a worker's thread guarantees about its result: the worker has tried to claim each place of the claims, and has reported each try to the gate under its
-// number.
+// What a worker's thread guarantees about its result: the worker has tried to claim each place of the claims, and has reported each try to the gate under the
+// number `number`.
 #[derive(Drop)]
 pub(crate) struct ClaimedAll<A: Allocator, G> {
     pub(crate) claims: Snapshot<Claims<A>>,

@@ -144,13 +144,13 @@ fn fan_out_over<R: Threads + Wait + Sync, A: Allocator + Copy + Send + Sync, G: 
     Ok(lists)
 }
 
-/// Starts `workers` threads that all try to claim the first `places` places. The call returns a list for each worker, in the order of the workers, of the
-/// places that the worker got.
+/// Starts `workers` threads that all try to claim the first `places` places. The call returns a list for each worker, in the order of the workers. A worker's
+/// list has the places that the worker got.
 ///
 /// Each worker has links and a list of its own. A worker tries to claim each place, in rising order, and appends the places that it gets to its list. The
-/// workers are numbered from 1, and each reports to the gate under its number how far it is, as in [`gather`](ic_atomic::gather). The contract leaves open
-/// which worker gets which place. Each worker gets a rising list, and each place is in exactly one of the lists. One sequence of steps has each worker's claims
-/// in the order in which the worker made them. The result of every claim follows from this sequence.
+/// workers are numbered from 1, and each reports its progress to the gate under its number, as in [`gather`](ic_atomic::gather). The contract leaves open which
+/// worker gets which place. Each worker gets a rising list, and each place is in exactly one of the lists. One sequence of steps has each worker's claims in
+/// the order in which the worker made them. The result of every claim follows from this sequence.
 ///
 /// The call is refused if `places` is above 4,294,967,296, if there is not enough memory, or if a thread cannot be started. The error for a thread that cannot
 /// be started is also `OutOfMemory`. A refused call first waits until the workers that have begun are done. The call waits for all its threads. The call

@@ -11,7 +11,7 @@ use Rattle.ic_world.specs.Apart.{AreApart, AreAllPlaced}
 use Rattle.ic_world.proofs.CollectionCall.{all_placed}
 use Rattle.ic_world.proofs.Readings.{collection_at}
 
--- NO MEMBER IS SHARED: this follows if the tables, objects and collections are those of a whole world
+-- NO MEMBER IS SHARED in the family of a world that is whole (`IsWhole`)
 module _ {A V : Type 0} (adapter : A) {objects : Objects V} {room : ℕ} {ts : List (Table Entry)} {cs : List (Option (Collection V))} (whole : IsWhole objects room ts cs) where
   -- each collection of the family is represented by the tables for a stored collection k
   seen : (o : Option (Collection V)) (s : Sequence) → represented_as ts o ≡ Some s → (k : Collection V) × (o ≡ Some k) × (seen_as k (sequence ts k) ≡ s)

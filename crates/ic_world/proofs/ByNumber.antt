@@ -61,7 +61,8 @@ module _ {V : Type 0} where
   at_number ls (s ∷ ns) zero = refl
   at_number ls (s ∷ ns) (suc c) = at_number ls ns c
 
-  -- if slots and lists lead to the same collection under each number except c, then only the collection with number c has changed, to x
+  -- let the new slot of c lead to x, and let the slot of each other number lead to the same collection as before. Then the collections by number have
+  -- changed only at c, to x
   pub shows : (ls new : Lists V) (ns after : List Slot) (c : ℕ) (x : Option (Collection V)) → length after ≡ length ns
       → ((d : ℕ) → d ≢ c → shown new (slice_get after d) ≡ shown ls (slice_get ns d)) → shown new (slice_get after c) ≡ x → by_number new after ≡ set (by_number ls ns) c x
   shows ls new ns after c x count others here =
@@ -80,12 +81,13 @@ module _ {V : Type 0} where
         let m = are.kept c s is (λ e. let low = are.before s.field s.index n lies in omega (arith, low, e)) in
         ap (λ (x : Numbered V). x.number) (same_Some _ _ (sym lies ∙ m.1))
 
-    -- no two numbers have the same slot, if a live collection is there
+    -- if a slot leads to a live collection, no two numbers have this slot
     pub number_apart : (c d : ℕ) (s t : Slot) (n : Numbered V) → slice_get ns c ≡ Some s → slice_get ns d ≡ Some t → lying ls s.field s.index ≡ Some n → t.field ≡ s.field → t.index ≡ s.index → d ≡ c
     number_apart c d s t n is_s is_t lies f i =
         sym (number_is d t n is_t (ap (λ x. lying ls x t.index) f ∙ ap (lying ls s.field) i ∙ lies)) ∙ number_is c s n is_s lies
 
-  -- `written_here`: another item was written at the index i in the list of the field f
+  -- the collection n was written at the index i in the list of the field f. `written_here` says what this index has then, and `written_apart` what
+  -- any other index has
   written_here : (ls : Lists V) (f i : ℕ) (n : Numbered V) → f < length ls → i < length (live_in ls f) → lying (set ls f (set (live_in ls f) i n)) f i ≡ Some n
   written_here ls f i n in_ls in_f =
       ap (λ xs. slice_get xs i) (get_or-set_same ls f (set (live_in ls f) i n) [] in_ls) ∙ get_written (live_in ls f) i n in_f

@@ -106,7 +106,7 @@ module _ {A V : Type 0} {adapter : A} {objects : Objects V} {room : ℕ} {ts : L
   pub can_be_joined : CanBeJoined before ts cs c d
   can_be_joined = record { list = k; given = l; list_is = fits.is_k; given_is = fits.is_l; differ = fits.differ; can = fit_together }
 
-  -- THE INVARIANT holds after the splice, and THE STEP of the model is the splice
+  -- THE INVARIANT of the world holds after the splice, and the call is THE STEP `StepSplice` of the model
   pub joined : {us : List (Table Entry)} {new : List (Option (Collection V))} → AreJoined before ts us cs new c d
       → IsWhole objects room us new × StepSplice (IsBesideOf before) (can_splice before) old c d done (family_of adapter objects us new)
   joined {us} joins =
@@ -135,7 +135,7 @@ module _ {A V : Type 0} {adapter : A} {objects : Objects V} {room : ℕ} {ts : L
           )
 
 -- TWO COLLECTIONS THAT CAN BE SPLICED, as the call reads them. `field` and `k` are the field and the members of the first collection. `l` are the
--- members of the given collection, which are taken from it before `k` is read
+-- members of the given collection. The call takes them out of this collection before it reads `k`
 module _ {V M : Type 0} {before : Bool} (tables : List (WorldField M)) {cs : List (Option (Collection V))} {c d : ℕ} (can : CanBeJoined before (map table_of tables) cs c d) (field : ℕ) (has : Some field ≡ its_field (at cs c)) where
   field_within : field < length tables
   field_within =
@@ -177,7 +177,7 @@ module _ {V M : Type 0} {before : Bool} (tables : List (WorldField M)) {cs : Lis
         all : members_in t taken ≡ members_in t l
         all = one_sequence t (subst IsLawful (sym read) (lawful_field now.links)) taken (members_in t l) (same t (members_in t l) pair_fits.given).shown
 
-        -- the table keeps the taken members, as the call requires that inserts them beside the cursor of the first list
+        -- the table represents the taken members, as `Held` says. The call that inserts them beside the cursor of the first list requires this
         pub taken_held : Held (table_of now) taken
         taken_held = subst (λ u. Held u taken) read (subst (Keeps t taken) (sym all) (same t (members_in t l) pair_fits.given))
 

@@ -1,4 +1,4 @@
--- A CALL OF ONE COLLECTION, for the world: what the world guarantees is proved once for all calls, from what the call of the collection guarantees.
+-- A CALL OF ONE COLLECTION of a world. What the world guarantees is proved once for all such calls, from the contract of the collection's own call.
 use Rattle.std.proofs.Common.{◌≡◌, ℕ, ◌⊎◌, inl, inr, true, false, List, [], ◌∷◌, ◌++◌, map, set, Option, Some, None, Bool, refl, sym, ap, ◌∙◌, subst, arith, Result, Ok, Err, OnErr, IfOk}
 use Rattle.std.proofs.lemmas.Bool.{cases_eq, and_parts}
 use Rattle.std.proofs.lemmas.List.{map-set, set-get_or}
@@ -38,7 +38,7 @@ use Rattle.ic_world.proofs.Edits.{Edit, after, edited_family, edited_whole, unli
 use Rattle.ic_world.proofs.LeftLinked.{none_on}
 use Rattle.ic_world.proofs.Turned.{turns_still}
 
--- a place q is absent from s, or P holds of q, if P holds of each place of s
+-- if P holds of each place of s, then q is absent from s, or P holds of q
 each_or : (P : Place → Type 0) (s : List Place) (q : Place) → Each P s → IsAbsent q s ⊎ P q
 each_or P [] q h = inl tt
 each_or P (x ∷ s) q h =
@@ -130,7 +130,7 @@ module _ {A V M : Type 0} {adapter : A} {objects : Objects V} {room : ℕ} {tabl
   pub placed_by : ArePlaced objects (members_in (table_of now) k.members)
   placed_by = subst (λ t. ArePlaced objects (members_in t k.members)) at_k.read (all_placed whole c k at_k.is)
 
-  -- a call that only reads finds the collection of the family, stored as k
+  -- a call that only reads finds `k.members`, which represents the collection with number c of the family
   pub sees_by : {old : Family A V} → family_of adapter objects ts cs ≡ old → Sees old c (table_of now) k.members
   sees_by view = subst (λ w. Sees w c (table_of now) k.members) view (record {
     s = seen_as k (sequence ts k);
@@ -152,7 +152,7 @@ module _ {A V M : Type 0} {adapter : A} {objects : Objects V} {room : ℕ} {tabl
     abbrev nf : WorldField M
     nf = record now { links = links }
 
-    -- if nothing has changed, the call has left the collection in the state in which it was
+    -- if the call has changed nothing, the collection is in the state in which it was before
     stays_by : IsUnchanged now.links links k.members m → Turns [] (λ s t. t ≡ s) (table_of now) (table_of nf) k.members m
     stays_by same = rw same.0 (turns_still (lawful_field now.links) same.1 (λ e. e))
 
@@ -167,7 +167,7 @@ module _ {A V M : Type 0} {adapter : A} {objects : Objects V} {room : ℕ} {tabl
         unlinked_family whole edit (ap (λ s. s.linked) stays.accepts) ∙ ap (λ (s : Sequence). with_collection w c (Some s)) seen
         ∙ (λ i. record { adapter = adapter; objects = w.objects; fields = w.fields; collections = back i })
 
-    -- THE INVARIANT and THE STEP after the call, whether its result is a success or a refusal
+    -- THE INVARIANT of the world holds after the call, and the call is THE STEP `StepOn` of the model, whether it is accepted or refused
     whole_by : IsWhole objects room (map table_of (set tables k.field nf)) (set cs c (Some (after k m)))
     whole_by = by r ran.turned ran.unchanged
       where

@@ -48,7 +48,7 @@ module _ {V : Type 0} where
       let collections = map-set (represented_as ts) cs c None in
       λ i. record (family_of adapter objects ts cs) { collections = collections i }
 
--- a step that no test refuses is accepted, so that what an accepted call does holds of it
+-- if no refusal applies to a step, the step is accepted: the statement `accepts` holds of its reply and of the new family
 taken_step : {A V : Type 0} (refusal : Option Refusal) (accepts : Reply → Family A V → Type 0) (old : Family A V) (reply : Reply) (new : Family A V) → refusal ≡ None → StepBy refusal accepts old reply new → accepts reply new
 taken_step None accepts old reply new e h = h
 taken_step (Some r) accepts old reply new e h = absurd cc

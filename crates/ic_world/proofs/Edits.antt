@@ -17,7 +17,8 @@ use Rattle.ic_world.specs.Tables.{table, no_table, field_in, sequence, seen_as, 
 use Rattle.ic_any_collection.proofs.AllKinds.{one_sequence, keeps_frame}
 use Rattle.ic_world.proofs.Linked.{side}
 
--- two functions that agree at each index except c give the same list, if the item at c is set to y
+-- let the functions f and g agree on each item of xs except the item at c. Then `map f xs` and `map g xs` are equal, if the item at c is set to y in
+-- both
 pub set_map_same : {A B : Type 0} (f g : A → B) (xs : List A) (c : ℕ) (y : B) (d : A)
     → ((i : ℕ) → i ≢ c → i < length xs → g (get_or xs i d) ≡ f (get_or xs i d)) → set (map g xs) c y ≡ set (map f xs) c y
 set_map_same f g [] c y d same = refl
@@ -86,7 +87,7 @@ module _ {V : Type 0} where
           | inr other ↦ rw (table_other ts k.field f t other) (lawful whole f)
         ]
 
-    -- each other collection is still kept by its table after the edit of c
+    -- after the edit of c, the table of each other collection still represents its members
     kept_beside : (d : ℕ) (l : Collection V) → d ≢ c → at cs d ≡ Some l → Keeps (table (set ts k.field t) l.field) l.members (sequence ts l)
     kept_beside d l n is =
         elim (cases_eq l.field k.field) [

@@ -132,7 +132,7 @@ module _ {V M : Type 0} (old lists : List (Vec (Numbered V) M)) (same : HaveList
     others = elsewhere;
   }
 
--- a push that succeeded has appended the item x, and a push that failed has left the list as it was
+-- a push that succeeded has appended the item x (`pushed`), and a push that failed has left the list as it was (`not_pushed`)
 pub pushed : {X U E : Type 0} (result : Result U E) → false ≡ is_err result → (old : List X) (x : X) {new : List X} → new ≡ (if is_ok result then old ++ x ∷ [] else old) → new ≡ old ++ x ∷ []
 pushed (Ok u) e old x items = items
 pushed (Err u) e old x items = absurd cc

@@ -28,7 +28,7 @@ module _ {A V M : Type 0} {adapter : A} {objects : Objects V} {room : ℕ} {tabl
   same_tables : map table_of (set tables k.field nf) ≡ map table_of tables
   same_tables = map-set table_of tables k.field nf ∙ sym (map-set table_of tables k.field now) ∙ ap (map table_of) at_k.table_back
 
-  -- THE INVARIANT holds after `fast_clear`, and THE STEP of the model is `fast_clear`
+  -- THE INVARIANT of the world holds after `fast_clear`, and the call is THE STEP `FastClear` of the model
   pub fast_cleared_kept : IsKept adapter objects room (set tables k.field nf) (set cs c (Some (after k m)))
   fast_cleared_kept =
       let left = map-set (λ (x : WorldField M). x.left_linked) tables k.field nf in

@@ -100,7 +100,7 @@ module _ {A V M : Type 0} {adapter : A} {objects : Objects V} {room : ℕ} (tabl
   abbrev whole : IsWhole objects room (map table_of tables) cs
   whole = kept.0
 
-  -- the table that a call reads for the field f keeps each collection of the field
+  -- the table that a call reads for the field f represents the members of each collection of the field
   pub held_read : (c : ℕ) (k : Collection V) (t : WorldField M) → at cs c ≡ Some k → k.field ≡ f → t ≡ get_or tables f t → Held (table_of t) k.members
   held_read c k t is same read =
       let in_bounds : f < length tables = let a = whole.in_field c k is in omega (arith, a, same, length-map tables table_of) in
@@ -109,7 +109,8 @@ module _ {A V M : Type 0} {adapter : A} {objects : Objects V} {room : ℕ} (tabl
   has_at : (c : ℕ) → has_member_in f p (get_or (map (represented_as (map table_of tables)) cs) c None) ≡ has_member_in f p (represented_as (map table_of tables) (at cs c))
   has_at c = ap (has_member_in f p) (map_at (represented_as (map table_of tables)) cs c None)
 
-  -- a collection of the field f has p as a member in the family exactly if the table says so
+  -- let b be true exactly if the table represents p as a member of the collection k of the field f. Then b is `has_member_in` of this collection in
+  -- the family
   here_is : (c : ℕ) (k : Collection V) (t : WorldField M) → at cs c ≡ Some k → k.field ≡ f → t ≡ get_or tables f t → (b : Bool) → (IsTrue b ↔ IsMember p (members_in (table_of t) k.members))
       → has_member_in f p (get_or (map (represented_as (map table_of tables)) cs) c None) ≡ b
   here_is c k t is same read b tells =
@@ -119,7 +120,7 @@ module _ {A V M : Type 0} {adapter : A} {objects : Objects V} {room : ℕ} (tabl
       ∙ ap (λ x. x && is_among p (sequence (map table_of tables) k)) (eq-eqb k.field f same)
       ∙ ap (is_among p) (sym seen) ∙ among_is p (members_in (table_of t) k.members) b tells
 
-  -- a collection of another field does not count as a collection of f with the member p, and a number without a collection does not count
+  -- `has_member_in f p` is false of a collection of another field, and of a number without a collection
   other_is : (c : ℕ) (k : Collection V) → at cs c ≡ Some k → k.field ≢ f → has_member_in f p (get_or (map (represented_as (map table_of tables)) cs) c None) ≡ false
   other_is c k is other =
       has_at c ∙ ap (λ o. has_member_in f p (represented_as (map table_of tables) o)) is ∙ ap (λ x. x && is_among p (sequence (map table_of tables) k)) (ne_eqb k.field f other)
@@ -127,7 +128,7 @@ module _ {A V M : Type 0} {adapter : A} {objects : Objects V} {room : ℕ} (tabl
   none_is : (c : ℕ) → at cs c ≡ None → has_member_in f p (get_or (map (represented_as (map table_of tables)) cs) c None) ≡ false
   none_is c is = has_at c ∙ ap (λ o. has_member_in f p (represented_as (map table_of tables) o)) is
 
-  -- p is a member of no collection of the family's field f, if no stored collection of the field has it
+  -- if no stored collection of the field f has p as a member, then no collection of the family's field f has it
   none_has : (t : WorldField M) → t ≡ get_or tables f t → ((c : ℕ) (k : Collection V) → at cs c ≡ Some k → k.field ≡ f → IsMember p (members_in (table_of t) k.members) → ⊥)
       → is_member_in (family_of adapter objects (map table_of tables) cs) f p ≡ false
   none_has t read lacks =
@@ -148,7 +149,7 @@ module _ {A V M : Type 0} {adapter : A} {objects : Objects V} {room : ℕ} (tabl
   in_none t read free =
       none_has t read (λ c k is same there. there (unlinked_absent (table_of t) k.members (members_in (table_of t) k.members) (held_read c k t is same read).shown free))
 
-  -- A SEARCH OF ALL COLLECTIONS OF THE FIELD for an object gives the right result: b is true exactly if the object is a member of one of them
+  -- A TEST OF ALL COLLECTIONS OF THE FIELD f: if its result b is true exactly if p is a member of one of them, then b is `is_member_in` of the family
   pub asked : (t : WorldField M) → t ≡ get_or tables f t → (b : Bool) → (IsTrue b ↔ HasMember cs f (table_of t) p) → b ≡ is_member_in (family_of adapter objects (map table_of tables) cs) f p
   asked t read true tells =
       let h = tells.0 refl in

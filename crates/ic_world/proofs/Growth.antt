@@ -59,7 +59,7 @@ grown_more ts us f t so in_bounds more = record {
   ];
 }
 
--- a table covers at least as many places as before, after a call that should make it cover n places
+-- after a call that should make a table cover n places, the table covers at least as many places as before
 covers_more : {A E : Type 0} (r : Result A E) (old new : Extent) (n : ℕ) → OnOk r (new.places ≡ max old.places n) → OnErr r (new ≡ old) → old.places ≤ new.places
 covers_more (Ok a) old new n ok err = omega (arith, ok)
 covers_more (Err e) old new n ok err = let same = ap (λ (x : Extent). x.places) err in omega (arith, same)
@@ -111,7 +111,7 @@ grows_all room room' count f ts us so past e = record {
   covered = λ old g h. let n = so.grown.count in let a = (grows_some room ts us so.grown).covered old g h in let b = so.done g (omega (arith, h, n, past)) in omega (arith, a, b, e);
 }
 
--- OTHER TABLES THAT KEEP EACH COLLECTION with its sequence represent the same sequences
+-- OTHER TABLES `us`: each represents the sequences that the old table of the same field represents
 module _ {V : Type 0} {objects : Objects V} {room : ℕ} {ts : List (Table Entry)} {cs : List (Option (Collection V))} (whole : IsWhole objects room ts cs) (us : List (Table Entry))
     (law : (f : ℕ) → IsLawful (table us f)) (kept : (c : ℕ) (k : Collection V) → at cs c ≡ Some k → Keeps (table us k.field) k.members (sequence ts k)) where
   kept_sequence : (c : ℕ) (k : Collection V) → at cs c ≡ Some k → sequence us k ≡ sequence ts k
@@ -196,7 +196,7 @@ module _ {V : Type 0} {objects : Objects V} {room : ℕ} {ts : List (Table Entry
     | inr in_bounds ↦ rw (last f past in_bounds) (none q)
   ]
 
-  -- in each table, with the added one, only covered places are linked, and each collection is still kept
+  -- in each table, also in the added one, only covered places are linked. The table of each collection still represents its members
   law : (f : ℕ) → IsLawful (table more f)
   law f q h = elim (side (length ts) f) [
     | inl past ↦ absurd (let both : true ≡ false = sym h ∙ unlinked f q past in cc)
@@ -226,7 +226,7 @@ module _ {V : Type 0} {objects : Objects V} {room : ℕ} {ts : List (Table Entry
         | inr old ↦ whole.placed f q (rw (in_old f old) at h)
       ])
 
--- adding the field is the step `AddField` of the model, and keeps the invariant of the world
+-- adding the field is the step `AddField` of the model, and the invariant of the world holds after it
 module _ {A V K M : Type 0} {adapter : A} {objects : Objects V} {room : ℕ} (tables : List (WorldField M)) {cs : List (Option (Collection V))} (kept : IsKept adapter objects room tables cs)
     {old : Family A V} (view : family_of adapter objects (map table_of tables) cs ≡ old) (cmp : K → K → Ordering) (key_of : A → V → K) where
   pub field_added : (kind : Kind) (links : AnyTable M) → IsFresh kind room (table_in links) → (r : Result ℕ Refusal) (news : List (WorldField M)) → Appends tables (record { links = links; left_linked = false }) r news

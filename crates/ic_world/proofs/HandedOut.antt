@@ -1,4 +1,4 @@
--- A CALL THAT GIVES A PART AWAY, for the world: the collection is edited, and then the world has one more collection.
+-- A CALL THAT GIVES A PART OF A COLLECTION AWAY: the collection is edited, and the world gets a new collection for the part.
 use Rattle.std.proofs.Common.{◌≡◌, ℕ, ◌<◌, inl, inr, Bool, true, false, List, [], ◌∷◌, ◌++◌, length, map, set, Option, Some, None, refl, sym, ap, ◌∙◌, subst}
 use Rattle.std.proofs.lemmas.List.{length-map, length-set, map-set, get_or_append_left, get_or_at, set_at, set-append_left}
 use Rattle.ic_link_ops.specs.Prelude.{Objects, IsDisjoint, Table}
@@ -92,7 +92,7 @@ module _ {A V M : Type 0} {adapter : A} {objects : Objects V} {room : ℕ} (tabl
     pub part_unroomed : has_part part (kind_in k.members) ≡ true → StepOut old c part (refused OutOfMemory) old
     part_unroomed has = rw (← view, tested_by true has) refl
 
-  -- the call is not refused: it is the step of the model, and the invariant holds after it
+  -- if the call is not refused, it is a step of the model, and the invariant of the world holds after it
   module _ {now : WorldField M} (at_k : Found tables cs c k now) (links : AnyTable M) (m handed : AnyCollection V) (parts : HandsOut (PartsOf part) (table_of now) (table_of (record now { links = links })) k.members m handed)
       (has : has_part part (kind_in k.members) ≡ true) where
     abbrev nf : WorldField M
@@ -113,7 +113,7 @@ module _ {A V M : Type 0} {adapter : A} {objects : Objects V} {room : ℕ} (tabl
     handed_kept =
         (rw map-set (part_whole kept.0 c k at_k.is part there), rw (left_back tables k.field now links at_k.table_back) (none_out (subst (NoneLeftLinked (left_in tables)) view kept.1) c part (opened (length cs)) (handed_step (length cs) refl)))
 
--- the list of collections, if an empty collection was appended for the part before the part was taken
+-- the call appends an empty collection for the part to the list `cs` of collections, before it takes the part from the collection with number c
 module _ {V : Type 0} (cs : List (Option (Collection V))) (c : ℕ) {k : Collection V} (is : at cs c ≡ Some k) (empty : Collection V) where
   pub still_there : at (cs ++ Some empty ∷ []) c ≡ Some k
   still_there = get_or_append_left cs (Some empty ∷ []) None c (some_within cs c is) ∙ is

@@ -1,4 +1,4 @@
--- What a world guarantees of a call that inserts an object into a gap, or replaces a member by an object, and when such a call is refused.
+-- What a world guarantees of a call that inserts an object into a gap or replaces a member by an object, and when it refuses the call.
 use Rattle.std.proofs.Common.{◌≡◌, ◌∙◌, Bool, true, false, not, is_some, Option, Some, None, [], ◌∷◌, Ok, Err, refl, sym, ap}
 use Rattle.ic_link_ops.specs.Prelude.{Place, Cut, join, first, IsCovered, IsLinked}
 use Rattle.ic_any_collection.specs.declared.gap.Gap.{Gap}
@@ -23,7 +23,7 @@ use Rattle.ic_world.proofs.Tested.{goes_on, stops}
 use Rattle.ic_world.proofs.Turned.{turns_put, turns_swap}
 
 module _ {V M : Type 0} (K : Type 0) (old new : AnyTable M) (at : Gap) (p : Place) (m m' : AnyCollection V) where
-  -- the world's test whether p is unlinked gives the result that the entry of p in the table gives
+  -- the model's test whether p is unlinked in the field has the result of the test whether p's entry in the table is unlinked
   linked_so : {b : Bool} → is_linked ((table_in old).entry p) ≡ b → not (is_linked_in (state_of (table_in old) m) p) ≡ not b
   linked_so e = ap not (in_linked (table_in old) (lawful old) p ∙ e)
 

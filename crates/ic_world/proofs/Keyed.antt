@@ -21,7 +21,7 @@ use Rattle.ic_world.proofs.Linked.{in_linked}
 use Rattle.ic_world.proofs.Tested.{goes_on, stops}
 use Rattle.ic_world.proofs.Turned.{turns_by, turns_put}
 
--- a call that only moves the cursor meets what the world requires of a call, whatever objects it names
+-- a call that only moves the cursor meets what the world requires of a call (`Turns`), whatever objects the call names
 still : {V M : Type 0} (links : AnyTable M) {m m' : AnyCollection V} {names : List Place} {cursor : Option Place} {Accepts : State → State → Type 0} → (e : Moves (table_in links) m m' cursor)
     → (state_of (table_in links) m' ≡ moved (state_of (table_in links) m) cursor → Accepts (state_of (table_in links) m) (state_of (table_in links) m'))
     → Turns names Accepts (table_in links) (table_in links) m m'

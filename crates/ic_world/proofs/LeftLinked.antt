@@ -32,7 +32,7 @@ use Rattle.ic_world.proofs.Linked.{side}
 use Rattle.ic_world.proofs.Readings.{some_within}
 use Rattle.ic_world.proofs.CanSplice.{can_splice_of}
 
--- a place other than q that is in the set l with q added is in l. A place that is in l without q is in l, and is not q
+-- if p is in the set l with q added, and is not q, then p is in l. If p is in the set l without q, then p is in l, and is not q
 module _ (l : set_of.FinSet nat_cmp) (q p : Place) where
   was_in : p ≢ q → set_of.contains (set_of.insert l (index_of q)) (index_of p) ≡ true → set_of.contains l (index_of p) ≡ true
   was_in d h =
@@ -59,7 +59,7 @@ still_unlinked l (x ∷ s) p h =
 abbrev IsBeside : Place → State → Type 0
 IsBeside p s = (is_linked_in s p ≡ true) × IsAbsent p s.members
 
--- A PLACE THAT IS LINKED BUT NOT A MEMBER after a call of the collection s was linked and not a member before it. So the call left no member linked
+-- IF p IS LINKED BUT NO MEMBER of the collection after a call, p was linked but no member before the call, too. So the call left no member linked
 module _ (p : Place) (s : State) where
   -- the members of the collection are cut at `gap`
   module _ (gap : Cut) (cut : join gap ≡ s.members) where
@@ -115,14 +115,15 @@ module _ (p : Place) (s : State) where
     was_beside (one.Enter key q) (refused AlreadyLinked) h = left_as h.2 (λ k. k)
     was_beside _ _ h = absurd h
 
-  -- a linked place that is a member neither of the part that stays nor of the part that was given away was no member before the call
+  -- a call divides the collection into a part that stays and a part that it gives away. If p is linked but a member of neither part, p was no member
+  -- before the call
   beside_parts : (part : TakenPart) (t handed : State) → PartsOf part s t handed → IsAbsent p handed.members → IsBeside p t → IsBeside p s
   beside_parts All t handed h out = left_as h.0 (λ k. (k.0, subst (λ (x : State). IsAbsent p x.members) h.1 out))
   beside_parts After t handed h out = left_as h.2.1 (λ k. (k.0, absent_there h.0 h.1 k.1 (subst (λ (x : State). IsAbsent p x.members) h.2.2 out)))
   beside_parts Before t handed h out = left_as h.2.1 (λ k. (k.0, absent_there h.0 h.1 (subst (λ (x : State). IsAbsent p x.members) h.2.2 out) k.1))
 
 module _ {A V : Type 0} (w : Family A V) (f : ℕ) (p : Place) where
-  -- if the linked places of the field f are set to l, a place that is then linked in f is in l
+  -- if the set of the linked places of the field f is replaced by l, each place that is then linked in f is in l
   linked_now : (l : set_of.FinSet nat_cmp) → set_of.contains (linked_of (with_linked w f l) f) (index_of p) ≡ true → set_of.contains l (index_of p) ≡ true
   linked_now l h = elim (side (length w.fields) f) [
     | inl past ↦ absurd (let no = ap (λ (fs : List LinkField). set_of.contains (field_of (record w { fields = fs }) f).linked (index_of p)) (set_past w.fields f _ past) ∙ ap (λ (x : LinkField). set_of.contains x.linked (index_of p)) (get_or_past w.fields f _ past) ∙ contains-empty nat_cmp (index_of p) in let both : false ≡ true = sym no ∙ h in cc)
@@ -141,7 +142,7 @@ module _ {A V : Type 0} (w : Family A V) (f : ℕ) (p : Place) where
     h.1,
   )
 
-  -- if the collection c is replaced by o, a place that is then left linked was left linked before, provided that it was no member of c
+  -- let p be no member of the collection c. If p is left linked after o replaces this collection, p was left linked before
   replaced : (c : ℕ) (o : Option Sequence) → ((s : Sequence) → collection w c ≡ Some s → s.field ≡ f → IsAbsent p s.members)
       → IsLeftLinked (with_collection w c o) f p → IsLeftLinked w f p
   replaced c o back h = (
@@ -156,7 +157,8 @@ module _ {A V : Type 0} (w : Family A V) (f : ℕ) (p : Place) where
   replaced_is c o is = get_or-set_same w.collections c o None (some_within w.collections c is)
 
 module _ {A V : Type 0} (w : Family A V) (f : ℕ) (p : Place) where
-  -- if the collection c gets the state t, a place that is then left linked was left linked before, provided that it was no member of c
+  -- let the collection c get the state t, in which p is linked but no member only if it was so before. If p is then left linked, p was left linked
+  -- before
   restated : (c : ℕ) (s : Sequence) → collection w c ≡ Some s → (t : State) → (s.field ≡ f → IsBeside p t → IsBeside p (state_in w s))
       → IsLeftLinked (with_state w c s.field t) f p → IsLeftLinked w f p
   restated c s is t back h = elim (cases_eq f s.field) [
@@ -173,7 +175,7 @@ module _ {A V : Type 0} (w : Family A V) (f : ℕ) (p : Place) where
       mid : Family A V
       mid = with_collection w c (Some (sequence_of s.field t))
 
-  -- if one more collection x is opened, a place that is left linked was left linked before, and is no member of x
+  -- if p is left linked after one more collection x is opened, p was left linked before, and is no member of x if x is in the field f
   not_opened : (x : Sequence) → IsLeftLinked (with_opened w x) f p → IsLeftLinked w f p × (x.field ≡ f → IsAbsent p x.members)
   not_opened x h = (
     (h.0, λ d s is field. h.1 d s (get_or_append_left w.collections (Some x ∷ []) None d (some_within w.collections d is) ∙ is) field),
@@ -252,7 +254,7 @@ module _ {A V : Type 0} {left : List Bool} {old : Family A V} (none : NoneLeftLi
         by (Some r) h = none_as h.1 (λ g p k. k)
         by None h = none_as h.1 (λ g p. relinked old g p f _ (λ e k. (still_in _ q p k).1))
 
--- `fast_clear` leaves members linked, but it sets the mark of the field, so that no field without the mark has members that are left linked
+-- `fast_clear` leaves members linked, but it sets the mark of the field. So no field without the mark has places that are left linked
 pub none_cleared : {A V : Type 0} {left : List Bool} {old : Family A V} → NoneLeftLinked left old → (c : ℕ) (s : Sequence) → collection old c ≡ Some s
     → NoneLeftLinked (set left s.field true) (with_collection old c (Some (with_members s [] None)))
 none_cleared {left = left} {old = old} before c s is = record {

@@ -84,7 +84,7 @@ beyond t i h =
       | inr k ↦ below t n i k ∙ linked_index_past t i h (place_at (8 * (i + 1))) refl
     ]
 
--- a set is the linked set of t, if it has the linked places and no other index
+-- if the set s has the indexes of all linked places of t, and no other index, then s is the linked set of t
 is_linked_set : (t : Table Entry) → IsLawful t → (s : set.FinSet nat_cmp) → ((p : Place) → set.contains s (index_of p) ≡ is_linked (t.entry p))
     → ((i : ℕ) → 8589934591 ≤ i → set.contains s i ≡ false) → linked_in t ≡ s
 is_linked_set t law s in_bounds past =
@@ -101,11 +101,11 @@ pub linked_empty : linked_in no_table ≡ set.empty
 unfolding linked_in
 linked_empty = refl
 
--- the linked set stays the same, if each place is linked in the new table exactly if it was linked in the old one
+-- if the same places are linked in both tables, both tables have the same linked set
 pub linked_same : (old new : Table Entry) → IsLawful old → IsLawful new → ((q : Place) → is_linked (new.entry q) ≡ is_linked (old.entry q)) → linked_in new ≡ linked_in old
 linked_same old new law law' same = is_linked_set new law' (linked_in old) (λ p. in_linked old law p ∙ sym (same p)) (beyond old)
 
--- if p is linked now and nothing else changes, p is added to the linked set
+-- if p is linked in the new table, and all other places are linked as in the old one, the new linked set is the old one with p
 pub linked_gains : (old new : Table Entry) → IsLawful old → IsLawful new → (p : Place) → is_linked (new.entry p) ≡ true
     → ((q : Place) → q ≢ p → is_linked (new.entry q) ≡ is_linked (old.entry q)) → linked_in new ≡ set.insert (linked_in old) (index_of p)
 linked_gains old new law law' p now same =
@@ -121,7 +121,7 @@ linked_gains old new law law' p now same =
     ∙ ap (λ b. b || set.contains (linked_in old) i) (unsigned_tied i (index_of p) ∙ ne_eqb i (index_of p) (λ e. omega (arith, e, h, index_small p)))
     ∙ beyond old i h)
 
--- if p is now unlinked and nothing else changes, p is removed from the linked set
+-- if p is unlinked in the new table, and all other places are linked as in the old one, the new linked set is the old one without p
 pub linked_loses : (old new : Table Entry) → IsLawful old → IsLawful new → (p : Place) → is_linked (new.entry p) ≡ false
     → ((q : Place) → q ≢ p → is_linked (new.entry q) ≡ is_linked (old.entry q)) → linked_in new ≡ set.remove (linked_in old) (index_of p)
 linked_loses old new law law' p now same =
@@ -149,7 +149,8 @@ absent_or (x ∷ s) q =
       ]
     ]
 
--- if the places of s are now unlinked and nothing else changes, they are removed from the linked set
+-- let the places of s be unlinked in the new table, and all other places be linked as in the old one. Then the new linked set is the old one without
+-- the places of s
 pub linked_unlinks : (old new : Table Entry) → IsLawful old → IsLawful new → (s : List Place) → ((q : Place) → (IsAbsent q s → ⊥) → is_linked (new.entry q) ≡ false)
     → ((q : Place) → IsAbsent q s → is_linked (new.entry q) ≡ is_linked (old.entry q)) → linked_in new ≡ unlinked (linked_in old) s
 linked_unlinks old new law law' s now same =

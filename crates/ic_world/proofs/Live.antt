@@ -17,7 +17,7 @@ use Rattle.ic_world.specs.ByNumber.{items_of, live_in, lying, in_field, by_numbe
 use Rattle.ic_world.proofs.ByNumber.{Lists, shown, represented_is, some_not_none}
 
 module _ {V : Type 0} {cs : List (Option (Collection V))} (ls : Lists V) (ns : List Slot) (are : AreNumbered ls ns) (view : by_number ls ns ≡ cs) where
-  -- a collection in the list of the field f is the collection of its number
+  -- if the list of the field f has the collection n, then n is the collection with the number `n.number`
   live_represented : (f i : ℕ) (n : Numbered V) → lying ls f i ≡ Some n → at cs n.number ≡ Some (record { field = f; members = n.members })
   live_represented f i n lies = represented_is ls ns n.number (record { field = f; index = i }) view ∙ ap (shown ls) (are.found f i n lies) ∙ ap (in_field f) lies
 

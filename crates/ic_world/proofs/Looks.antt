@@ -1,4 +1,4 @@
--- How few looks (key comparisons) a search has made whose probe had compared nothing before.
+-- Limits for the number of looks (key comparisons) of a search, if its probe had compared nothing before.
 use Rattle.std.proofs.Common.{◌≡◌, ℕ, Bool, true, false, List, refl, sym, subst, arith}
 use Rattle.std.specs.Bool.{OnTrue}
 use Rattle.std.specs.declared.cmp.Ordering.{Ordering}

@@ -1,4 +1,4 @@
--- What the tests of members and their neighbors return, if the sequence is cut at a gap beside the member.
+-- What `is_among`, `before_or` and `after_of` return for a member of a sequence, if the sequence is cut at a gap beside the member.
 use Rattle.std.proofs.Common.{◌≡◌, ◌≢◌, ◌↔◌, IsTrue, inl, inr, Bool, true, false, cond, Option, Some, None, List, [], ◌∷◌, ◌++◌, refl, sym, ap, ◌∙◌, subst, drop, append_assoc, eq-eqb, ne_eqb}
 use Rattle.std.proofs.lemmas.Bool.{false_from_ne_true}
 use Rattle.ic_link_ops.specs.Prelude.{Place, index_of, Cut, join, first, last, last_or, but_last, IsAfter, IsBefore, IsAbsent, IsMember, IsDistinct}
@@ -13,8 +13,8 @@ same_here p = eq-eqb (index_of p) (index_of p) refl
 other_there : (x p : Place) → p ≢ x → same_place x p ≡ false
 other_there x p n = ne_eqb (index_of x) (index_of p) (λ e. n (sym (same_index x p e)))
 
--- in a sequence with the member p, the test finds that p is a member. If p is not among the members before it, its neighbors are the last of them and
--- the next member
+-- in the sequence of f, p and b, the test `is_among` finds that p is a member. If p is not in f, its neighbors are the last place of f and the first
+-- place of b
 among_at : (f b : List Place) (p : Place) → is_among p (f ++ p ∷ b) ≡ true
 among_at [] b p = rw (same_here p) refl
 among_at (x ∷ f) b p = elim (same_place x p) as (λ c. cond c true (is_among p (f ++ p ∷ b)) ≡ true) [ true ↦ refl | false ↦ among_at f b p ]
@@ -62,7 +62,7 @@ next_gap gap (Some p) {s} distinct cut is =
     let out = absent_left p (but_last gap.front) gap.back (distinct_middle (but_last gap.front) gap.back p (subst IsDistinct all distinct)) in
     ap (λ t. after_of t p) all ∙ after_at (but_last gap.front) gap.back p out
 
--- a test b that is true exactly if p is a member of s gives the result of `is_among`
+-- if b is true exactly if p is a member of s, then b is the result of `is_among`
 pub contains_tells : (s : List Place) (p : Place) (b : Bool) → IsTrue b ↔ IsMember p s → is_among p s ≡ b
 contains_tells s p b tells = elim (absent_or s p) [
   | inl out ↦ not_among s p out ∙ sym (false_from_ne_true b (λ h. tells.0 h out))

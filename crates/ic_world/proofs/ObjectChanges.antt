@@ -88,7 +88,7 @@ module _ {V : Type 0} {objects : Objects V} {room : ℕ} {ts : List (Table Entry
       ]
 
 module _ {V : Type 0} {old new : Objects V} {room : ℕ} {ts : List (Table Entry)} {cs : List (Option (Collection V))} (whole : IsWhole old room ts cs) where
-  -- A VALUE IS PUT at a place for which there is room, and the invariant of the world still holds
+  -- if A VALUE IS PUT at a place for which there is room, the invariant of the world still holds
   pub put_whole : (p : Place) (v : V) → new.values ≡ map_of.insert old.values (index_of p) v → (index_of p < room) × (index_of p < 2 ^ 32) → IsWhole new room ts cs
   put_whole p v values reach = record {
     in_bounds = λ i has. elim (put_at old new p v values i) [
@@ -105,7 +105,7 @@ module _ {V : Type 0} {old new : Objects V} {room : ℕ} {ts : List (Table Entry
     apart = whole.apart;
   }
 
-  -- AN OBJECT IS REMOVED that is linked in no field, and the invariant of the world still holds
+  -- if AN OBJECT IS REMOVED that is linked in no field, the invariant of the world still holds
   pub removed_whole : (p : Place) → new.values ≡ map_of.remove old.values (index_of p) → list_any (λ (f : LinkField). set_of.contains f.linked (index_of p)) (map field_in ts) ≡ false
       → IsWhole new room ts cs
   removed_whole p values none = record {

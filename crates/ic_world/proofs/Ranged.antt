@@ -18,12 +18,12 @@ use Rattle.ic_world.specs.Seen.{Sees}
 use Rattle.ic_world.specs.Tables.{family_of}
 use Rattle.ic_world.proofs.Steps.{step_accepted}
 
--- the test whether the collection is a tree was made with the kind of this collection
+-- if the test whether k is the tree has the result `answer`, and k is `kind`, then `is_tree kind` is `answer`
 pub kind_tested : {k kind : Kind} {b answer : Bool} → k ≡ kind → b ≡ is_tree k → b ≡ answer → is_tree kind ≡ answer
 kind_tested e is tested = ap is_tree (sym e) ∙ sym is ∙ tested
 
 module _ {A V K : Type 0} (cmp : K → K → Ordering) (key_of : A → V → K) (min max : Bound K) (places : List Place) (first second : ℕ) where
-  -- the places are the members of s between the two bounds, and the numbers of looks are within what is allowed
+  -- `places` are the members of s between the two bounds. The numbers of looks, `first` and `second`, are within the limits for the bounds
   abbrev Ranges : Family A V → List Place → Type 0
   Ranges w s = IsRange (bound_at cmp (key_of w.adapter) (objects_of w) min) (bound_at cmp (key_of w.adapter) (objects_of w) max) (runs_up cmp (key_of w.adapter) (objects_of w)) s places
       × WithinBound min first s × WithinBound max second s

@@ -40,7 +40,7 @@ pub some_within : {X : Type 0} (xs : List (Option X)) (c : ℕ) {x : X} → get_
 some_within xs c is = grind (arith, get_or_past)
 
 module _ {V : Type 0} where
-  -- what a call knows that has found the collection k under the number c, and has read the table of its field
+  -- what holds if a call has found the collection k under the number c, and has read the field of k as `now`
   pub record Found {M : Type 0} (tables : List (WorldField M)) (cs : List (Option (Collection V))) (c : ℕ) (k : Collection V) (now : WorldField M) : Type 0 where
     pub is : at cs c ≡ Some k
     pub field : k.field < length (map table_of tables)
@@ -62,7 +62,8 @@ module _ {V : Type 0} where
         table_back = set_back tables k.field now links;
       }
 
-  -- what a call knows after it has read the field under a number: whether there is a collection, and which collection it is
+  -- o is what the world has under a number. If a call has read the field of o, o is a collection (`is_there`). If it has read none, o is none
+  -- (`none_there`)
   pub is_there : (o : Option (Collection V)) {f : ℕ} → Some f ≡ its_field o → IsSome o
   is_there None h = absurd cc
   is_there (Some k) h = refl

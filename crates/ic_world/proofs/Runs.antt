@@ -16,7 +16,8 @@ module _ {A V K : Type 0} (cmp : K → K → Ordering) (key_of : A → V → K) 
   runs_more [] (r ∷ replies) call reply old mid new run step = absurd run
   runs_more (c ∷ calls) [] call reply old mid new run step = absurd run
 
-  -- a loop over the calls that appends each answer to a list makes a run: after each turn it is a run of one more call
+  -- a loop over the calls appends each answer to the list `given`. If the first i calls are a run, the turn for the call i makes it a run of the
+  -- first i + 1 calls
   pub runs_next : {X : Type 0} (replied : X → Reply) (calls : List (Command V K)) (i : ℕ) (call : Command V K) (given : List X) (answer : X) (old mid new : Family A V)
       → i < length calls → call ≡ get_or calls i call → Runs cmp key_of old (take i calls) (map replied given) mid → Step cmp key_of mid call (replied answer) new
       → Runs cmp key_of old (take (i + 1) calls) (map replied (given ++ answer ∷ [])) new

@@ -20,7 +20,7 @@ use Rattle.ic_world.specs.Turns.{Ran}
 use Rattle.ic_world.proofs.Tested.{goes_on, stops}
 use Rattle.ic_world.proofs.Turned.{turns_still, turns_kept, unmoved}
 
--- no kind of collection both can make a cursor from a member's place alone, and needs a neighbor to make it
+-- if the place of a member suffices to put a cursor on it (`has_pointer`), the kind is not the XOR list
 pub pointer_not_xor : (k : Kind) → has_pointer k ≡ true → is_xor k ≡ true → ⊥
 pointer_not_xor kind.Singly e h = cc
 pointer_not_xor kind.Doubly e h = cc

@@ -30,7 +30,7 @@ last_member : (gap : Cut) (s : List Place) (p : Place) → join gap ≡ s → So
 last_member gap s p cut e out =
     (absent_right p (but_last gap.front) (p ∷ []) (subst (IsAbsent p) (split_last gap.front (sym e)) (absent_left p gap.front gap.back (subst (IsAbsent p) (sym cut) out)))).0 refl
 
--- a cursor whose position is in s, and is not null, is on a member of s
+-- if the cursor of m is at a position in s and is not null, it is on a member of s
 stands_on : {V : Type 0} (m : AnyCollection V) (s : List Place) → IsCursorIn s m → (p : Place) → cursor_in m ≡ Some p → IsMember p s
 stands_on (Singly l at) s h p e = last_member h.0 s p h.1 (sym e ∙ h.2)
 stands_on (Doubly l at) s h p e = last_member h.0 s p h.1 (sym e ∙ h.2)

@@ -17,7 +17,7 @@ use Rattle.ic_world.proofs.Linked.{linked_same}
 use Rattle.ic_world.proofs.Edits.{Edit, after, lawful, edited_lawful, edited_whole, unlinked_family, at_after}
 use Rattle.ic_world.proofs.Opened.{disjoint_none}
 
--- a collection with other members t and another cursor is the old collection of the family with t and this cursor, if its kind is the same
+-- after an edit puts m in place of `k.members`, with the same kind, the family has the old collection with the members t and the cursor of m
 pub seen_after : {V : Type 0} (m : AnyCollection V) (k : Collection V) (s t : List Place) {cursor : Option Place} → Alike k.members m → cursor_in m ≡ cursor
     → seen_as (after k m) t ≡ with_members (seen_as k s) t cursor
 seen_after m k s t alike cursor_is = λ i. record { field = k.field; kind = alike i; members = t; cursor = cursor_is i }

@@ -103,7 +103,7 @@ module _ {V : Type 0} where
         let slots : (let t : Slot = record { field = f; index = end } in t) ≡ record { field = g; index = j } = same_Some _ _ (sym last_slot ∙ ap (slice_get ns) (sym same) ∙ are.found g j x e) in
         differ (sym (ap (λ (t : Slot). t.field) slots)) (sym (ap (λ (t : Slot). t.index) slots))
 
-    -- each collection that is left has a slot under its number that leads to it, and its index is below the mark of disposed collections
+    -- for each collection that is left, the slot of its number leads to it, and its index is below the mark of disposed collections
     found : (g j : ℕ) (x : Numbered V) → lying fewer g j ≡ Some x → (slice_get after x.number ≡ Some (record { field = g; index = j })) × (j < disposed)
     found g j x e = elim (cases_eq g f) [
       | inr other ↦ same (λ at_f _. other at_f) (λ at_f _. other at_f)

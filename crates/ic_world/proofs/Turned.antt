@@ -27,7 +27,7 @@ abbrev after_call : {V : Type 0} → AnyCollection V → List Place → Option P
 after_call m s cursor linked = record { kind = kind_in m; members = s; cursor = cursor; linked = linked }
 
 module _ {V : Type 0} {old new : Table Entry} {m m' : AnyCollection V} (law : IsLawful old) (law' : IsLawful new) where
-  -- WHAT A CALL CHANGES, from the newly linked places `fresh`, the new members and cursor of the collection, and the new linked set
+  -- WHAT A CALL CHANGES (`Turns`) follows from the newly linked places `fresh`, the new members and cursor of the collection, and the new linked set
   pub turns_by : {names s : List Place} {cursor : Option Place} {linked : set.FinSet nat_cmp} {Accepts : State → State → Type 0} (fresh : List Place)
       → (fresh ≡ []) ⊎ (fresh ≡ names) → Each (IsUnlinked is_linked old) fresh
       → ((q : Place) → IsAbsent q fresh → is_linked (new.entry q) ≡ true → is_linked (old.entry q) ≡ true)
@@ -112,7 +112,7 @@ module _ {V : Type 0} where
       → Moves t m m' None
   nulled {t} {m} held kept alike null = record { kept = kept t (members_in t m) held; alike = alike; cursor_is = null }
 
-  -- the table stays as it is, and keeps other members s for the collection
+  -- the table stays as it is, and represents other members s for the collection
   pub turns_kept : {t : Table Entry} {m m' : AnyCollection V} {cursor : Option Place} {Accepts : State → State → Type 0} (law : IsLawful t) (s : List Place) → Keeps t m' s → Alike m m'
       → cursor_in m' ≡ cursor → ((q : Place) → IsAbsent q (members_in t m) → IsAbsent q s) → (state_of t m' ≡ having (state_of t m) s cursor → Accepts (state_of t m) (state_of t m'))
       → Turns [] Accepts t t m m'

@@ -1,9 +1,9 @@
--- Which reply of the model each answer of a call stands for.
+-- The `Reply` by which contracts describe each answer of a call.
 use Rattle.ic_world.specs.declared.call.Answer.{Answer}
 use Rattle.ic_world.specs.declared.call.Answer.TheVariants as answer
 use Rattle.ic_world.specs.Calls.{Reply, done, nothing, object, field, opened, items, linked, found, looked, range, entry, refused}
 
--- the reply in the model for which an answer of the program stands
+-- the reply by which contracts describe an answer
 abbrev pub reply_in : {M : Type 0} → Answer M → Reply
 reply_in answer.Done = done
 reply_in answer.Nothing = nothing

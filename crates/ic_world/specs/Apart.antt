@@ -1,4 +1,4 @@
--- Collections share no member, and all their members are objects.
+-- Collections of one field share no member, and there is an object at the place of each member.
 use Rattle.std.specs.Prelude.{◌≡◌, ◌≢◌, ℕ, Some}
 use Rattle.ic_link_ops.specs.Prelude.{IsDistinct, IsDisjoint, ArePlaced}
 use Rattle.ic_world.specs.Family.{Family, Sequence, collection, objects_of}

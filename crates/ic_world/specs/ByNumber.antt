@@ -1,5 +1,5 @@
--- The collections of a world by number and by field: each live collection is stored in a list of its field. A slot under its number has the field,
--- and the index in that list.
+-- The collections of a world by number and by field. Each live collection, which is not disposed of, is stored in a list of its field. For each
+-- number there is a slot with the field of the collection, and its index in the list of this field.
 use Rattle.std.specs.Prelude.{◌≡◌, ◌≢◌, ℕ, ◌<◌, List, [], ◌∷◌, ◌++◌, length, map, Option, Some, None, slice_index_or, slice_get, slice_set}
 use Rattle.std.specs.declared.vec.Vec.{Vec}
 use Rattle.ic_link_ops.specs.Prelude.{Place, IsMember, Table}
@@ -10,7 +10,7 @@ use Rattle.ic_world.specs.declared.collection.Collection.{Collection}
 use Rattle.ic_world.specs.declared.collections_by_number.Slot.{Slot}
 use Rattle.ic_world.specs.declared.collections_by_number.Numbered.{Numbered}
 
--- the collections that one stored list contains
+-- the collections in a stored list of one field
 abbrev pub items_of : {V M : Type 0} → Vec (Numbered V) M → List (Numbered V)
 items_of v = v.items
 
@@ -26,7 +26,7 @@ disposed = 4294967295
 abbrev pub lying : {V : Type 0} → List (List (Numbered V)) → ℕ → ℕ → Option (Numbered V)
 lying ls f i = slice_get (live_in ls f) i
 
--- a collection from the list of the field f, now with the number of the field in place of its own number
+-- a collection from the list of the field f, with the number of the field instead of its own number
 abbrev pub in_field : {V : Type 0} → ℕ → Option (Numbered V) → Option (Collection V)
 in_field f None = None
 in_field f (Some n) = Some (record { field = f; members = n.members })
@@ -61,7 +61,7 @@ pub record IsTakenOut {V : Type 0} (old : List (Numbered V)) (i : ℕ) (number :
 abbrev pub HaveLists : {V : Type 0} → (old new : List (List (Numbered V))) → Type 0
 HaveLists old new = (g : ℕ) → live_in new g ≡ live_in old g
 
--- the list of the field f has the collection n as one more at its end, and the slot s leads to it. All other lists are as before
+-- the collection n is appended to the list of the field f, and the slot s leads to n. All other lists are as before
 pub record IsEntered {V : Type 0} (old : List (List (Numbered V))) (f : ℕ) (n : Numbered V) (s : Slot) (new : List (List (Numbered V))) : Type 0 where
   pub field : s.field ≡ f
   pub index : s.index ≡ length (live_in old f)
@@ -69,17 +69,17 @@ pub record IsEntered {V : Type 0} (old : List (List (Numbered V))) (f : ℕ) (n 
   pub more : live_in new f ≡ live_in old f ++ n ∷ []
   pub others : (g : ℕ) → g ≢ f → live_in new g ≡ live_in old g
 
--- if a slot is returned, the list of the field f has the collection n as one more, and the slot leads to it. If none is returned, the lists are as
+-- if a slot is returned, the collection n is appended to the list of the field f, and the slot leads to n. If none is returned, the lists are as
 -- before
 abbrev pub Enters : {V : Type 0} → List (List (Numbered V)) → ℕ → Numbered V → Option Slot → List (List (Numbered V)) → Type 0
 Enters old f n None new = HaveLists old new
 Enters old f n (Some s) new = IsEntered old f n s new
 
--- the table t keeps each collection of `list`
+-- the table t represents the members of each collection of `list`, as `Held` says
 abbrev pub EachHeld : {V : Type 0} → Table Entry → List (Numbered V) → Type 0
 EachHeld {V} t list = (i : ℕ) (n : Numbered V) → slice_get list i ≡ Some n → Held t n.members
 
--- the place p is a member of one of the collections of `list`, whose table is t
+-- the place p is a member of one of the collections of `list`. The table of all these collections is t
 pub record SomeHas {V : Type 0} (t : Table Entry) (p : Place) (list : List (Numbered V)) : Type 0 where
   pub index : ℕ
   pub one : Numbered V

@@ -35,7 +35,7 @@ pub record State : Type 0 where
   pub cursor : Option Place
   pub linked : set.FinSet nat_cmp
 
--- A REPLY is what a call returns in the model. If it returns several places, the reply has them as a sequence
+-- A REPLY is what a call returns, as contracts describe it. If the call returns several places, the reply has them as a sequence
 pub data Reply : Type 0 where
   done : Reply
   nothing : Reply
@@ -50,7 +50,8 @@ pub data Reply : Type 0 where
   entry : Bool → Place → ℕ → Reply
   refused : Refusal → Reply
 
--- a call is refused with r if the test fails. If the test passes, `rest` is the result of the remaining tests
+-- one test of a call, whose result is the first argument. If the test fails, `asks` is the refusal r, and otherwise `rest`, the result of the
+-- remaining tests
 abbrev pub asks : {R : Type 0} → Bool → R → Option R → Option R
 asks true r rest = rest
 asks false r rest = Some r
@@ -64,8 +65,8 @@ object_or_nothing (Some p) = object p
 abbrev pub is_linked_in : State → Place → Bool
 is_linked_in s p = set.contains s.linked (index_of p)
 
--- five functions change the state of a collection. `moved` moves the cursor, and `having` sets the members and the cursor. `put` inserts p into the
--- gap. `taken` removes p, the member after the gap. `swapped` replaces `out`, the member after the gap, by p
+-- five functions change the state of a collection, and each sets the cursor. `moved` changes nothing else, and `having` also sets the members. `put`
+-- inserts p into the gap. `taken` removes p, the member after the gap. `swapped` replaces `out`, the member after the gap, by p
 abbrev pub moved : State → Option Place → State
 moved s cursor = record s { cursor = cursor }
 
@@ -82,8 +83,8 @@ abbrev pub swapped : State → Cut → Place → Place → Option Place → Stat
 swapped s gap p out cursor =
     record { kind = s.kind; members = replace gap p; cursor = cursor; linked = set.remove (set.insert s.linked (index_of p)) (index_of out) }
 
--- `unlinked` removes the members of a sequence from a set of linked places. `cleared` removes all members of a collection, and its cursor is then at
--- null
+-- `unlinked` removes the members of a sequence from a set of linked places. `cleared` removes and unlinks all members of a collection, and puts its
+-- cursor to null
 abbrev pub unlinked : set.FinSet nat_cmp → List Place → set.FinSet nat_cmp
 unlinked l [] = l
 unlinked l (p ∷ s) = set.remove (unlinked l s) (index_of p)
@@ -91,7 +92,7 @@ unlinked l (p ∷ s) = set.remove (unlinked l s) (index_of p)
 abbrev pub cleared : State → State
 cleared s = record { kind = s.kind; members = []; cursor = None; linked = unlinked s.linked s.members }
 
--- the members of the collection s can be cut at a gap of which the statement `Rest` holds
+-- the statement `Rest` holds of some gap of the members of the collection s
 abbrev pub AtGap : State → (Cut → Type 0) → Type 0
 AtGap s Rest = (gap : Cut) × (join gap ≡ s.members) × Rest gap
 
@@ -101,7 +102,7 @@ named_if None = []
 named_if (Some p) = p ∷ []
 
 module _ {K : Type 0} where
-  -- WHICH KINDS HAVE A CALL: a collection of another kind refuses the call with `WrongKind`
+  -- WHICH KINDS HAVE A CALL: whether collections of the kind k have the call. A collection of a kind without the call refuses it with `WrongKind`
   abbrev pub has_call : Call K → Kind → Bool
   has_call (one.Put at p) k = gaps.can_insert at k
   has_call (one.Take at) k = gaps.can_remove at k
@@ -128,7 +129,7 @@ module _ {K : Type 0} where
   names (one.Enter key p) = p ∷ []
   names _ = []
 
--- the gap is directly before the member that a removal takes. For example, a removal at the back takes the last member
+-- `gap` is directly before the member that a removal at `at` takes. For example, a removal at the back takes the last member
 abbrev pub IsFrontOf : Gap → State → Cut → Type 0
 IsFrontOf at s gap = gaps.IsFrontOf at s.members s.cursor gap
 
@@ -155,8 +156,8 @@ refusal_of_seek (On p) s = asks_member s p None
 refusal_of_seek (With way p beside) s = asks_member s p (asks (same_position beside (beside_of way s.members p)) NotANeighbour None)
 refusal_of_seek _ s = None
 
--- THE FIRST REFUSAL of a call whose collection and objects exist. `own_refusal` also assumes that the collection's kind has the call, and
--- `refusal_of` tests this
+-- THE FIRST REFUSAL of a call whose collection and objects exist. `refusal_of` first tests whether the collection's kind has the call, and
+-- `own_refusal` makes only the tests after this one
 module _ {K : Type 0} where
   abbrev pub own_refusal : Call K → State → Option Refusal
   own_refusal (one.Put at p) s = asks_unlinked s p
@@ -169,8 +170,8 @@ module _ {K : Type 0} where
   abbrev pub refusal_of : Call K → State → Option Refusal
   refusal_of call s = asks (has_call call s.kind) WrongKind (own_refusal call s)
 
--- AN ACCEPTED INSERTION puts the object p into the gap and replies `done`. The following definitions say what each other accepted call returns and
--- changes
+-- AN ACCEPTED INSERTION at `at` inserts the object p into the gap, and its reply is `done`. The following definitions say what the other accepted
+-- calls return and change
 abbrev pub PutReplies : Gap → Place → State → Reply → State → Type 0
 PutReplies at p s reply t = (reply ≡ done) × AtGap s (λ gap. IsGapAt at s.cursor gap × (t ≡ put s gap p (rests at s.cursor)))
 
@@ -210,13 +211,13 @@ module _ {V K : Type 0} (cmp : K → K → Ordering) (key_of : V → K) (objects
   abbrev pub own_at : Place → Place → Ordering
   own_at p = compared (own_order cmp key_of objects p) objects
 
-  -- AN OBJECT IS INSERTED BY ITS KEY, after members with the same key. The call returns how many keys it compared
+  -- AN OBJECT IS INSERTED BY ITS KEY, after members with the same key. The call returns how many keys it compared, and its cursor is then at `cursor`
   abbrev pub InsertionReplies : Place → Option Place → State → Reply → State → Type 0
   InsertionReplies p cursor s (looked looks) t = AtGap s (λ gap. IsBorder (less_at (own_at p)) gap × (t ≡ put s gap p cursor)) × WithinComparisonBound looks s.members
   InsertionReplies p cursor s _ t = ⊥
 
-  -- AN ENTRY is occupied by a member with the key, or vacant. If it is vacant and the object is unlinked, the object is inserted into the gap where
-  -- the key belongs
+  -- AN ENTRY is occupied by a member with the key, or vacant. If it is vacant and the object p is unlinked, p is inserted into the gap where the key
+  -- belongs. If it is vacant and p is linked, the call is refused
   abbrev pub EntryReplies : K → Place → State → Reply → State → Type 0
   EntryReplies key p s (entry true q looks) t = Finds (key_at key) s.members (Some q) × WithinComparisonBound looks s.members × (t ≡ moved s (Some q))
   EntryReplies key p s (entry false q looks) t =

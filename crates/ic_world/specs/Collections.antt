@@ -27,7 +27,7 @@ module _ {V : Type 0} where
   abbrev pub with_members : List (Option (Collection V)) → ℕ → AnyCollection V → List (Option (Collection V))
   with_members cs c m = slice_set cs c (having m (at cs c))
 
-  -- the table t of the field f keeps each collection of that field
+  -- the table t of the field f represents the members of each collection of that field, as `Held` says
   abbrev pub AreHeld : List (Option (Collection V)) → ℕ → Table Entry → Type 0
   AreHeld cs f t = (c : ℕ) (k : Collection V) → at cs c ≡ Some k → k.field ≡ f → Held t k.members
 

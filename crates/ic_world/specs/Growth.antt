@@ -19,7 +19,8 @@ pub record Grown (old new : List (Table Entry)) : Type 0 where
   pub count : length new ≡ length old
   pub each : (f : ℕ) → GrowsTo (table old f) (table new f)
 
--- the tables have grown, and `room'` is at least `room`. If each table covered at least `room` places before, each now covers at least `room'` places
+-- the tables have grown, and `room'` is at least `room`. If each old table covers at least `room` places, each new table covers at least `room'`
+-- places
 pub record Grows (room : ℕ) (old : List (Table Entry)) (room' : ℕ) (new : List (Table Entry)) : Type 0 where
   pub grown : Grown old new
   pub more : room ≤ room'

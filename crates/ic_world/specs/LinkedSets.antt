@@ -7,7 +7,8 @@ use Rattle.ic_link_ops.specs.Prelude.{Place, place_at, Table}
 use Rattle.ic_any_collection.specs.declared.entry.Entry.{Entry}
 use Rattle.ic_any_collection.specs.Entries.{is_linked}
 
--- whether a place is linked in the table. The place is given, or computed from an index, and no place is not linked
+-- whether a place is linked in the table. `linked_there` is given the place, or none, which counts as unlinked. `linked_index` is given the index of
+-- the place
 abbrev pub linked_there : Table Entry → Option Place → Bool
 linked_there t None = false
 linked_there t (Some p) = is_linked (t.entry p)

@@ -7,7 +7,7 @@ use Rattle.ic_any_collection.specs.Entries.{is_linked, kind_of}
 use Rattle.ic_world.specs.declared.call.Refusal.{Refusal}
 use Rattle.ic_world.specs.declared.call.Refusal.TheVariants.{NoSuchObject, OutOfMemory}
 
--- the list has one more item x, and the call returns its number. If there is not enough memory, the list is as before
+-- the item x is appended to the list, and the call returns the number of the item. If there is not enough memory, the list is as before
 abbrev pub Appends : {X : Type 0} → List X → X → Result ℕ Refusal → List X → Type 0
 Appends old x (Ok number) new = (number ≡ length old) × (new ≡ old ++ x ∷ [])
 Appends old x (Err refusal) new = (refusal ≡ OutOfMemory) × (new ≡ old)

@@ -1,4 +1,4 @@
--- Which reply of the model the result of each method stands for.
+-- The `Reply` by which contracts describe the result of each method.
 use Rattle.std.specs.Prelude.{Bool, true, false, ℕ, Option, Some, None, Result, Ok, Err}
 use Rattle.ic_unsafe_ref.specs.declared.place.Place.{Place}
 use Rattle.ic_any_collection.specs.declared.kind.Kind.{Kind}
@@ -7,8 +7,8 @@ use Rattle.ic_world.specs.declared.call.Refusal.TheVariants.{AlreadyLinked}
 use Rattle.ic_world.specs.Calls.{Reply, entry, refused}
 use Rattle.ic_world.specs.Family.{Sequence}
 
--- the reply for the result of a method. If the call was accepted, `accepted` makes the reply from what it returned, and otherwise the reply is the
--- refusal
+-- the reply for the result of a method. If the call was accepted, `accepted` makes the reply from what the call returned, and otherwise the reply is
+-- the refusal
 abbrev pub reply_of : {A : Type 0} → (A → Reply) → Result A Refusal → Reply
 reply_of accepted (Ok a) = accepted a
 reply_of accepted (Err r) = refused r

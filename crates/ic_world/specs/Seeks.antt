@@ -9,7 +9,7 @@ use Rattle.ic_world.specs.declared.calls.seek.Seek.{Seek}
 use Rattle.ic_world.specs.Calls.{refusal_of_seek}
 use Rattle.ic_world.specs.Turns.{refusal_in, state_of}
 
--- the seek is refused if one of its tests fails, and then the collection stays as it is. If all pass, the cursor is then on the place p
+-- if one of its tests fails, the seek is refused, and the collection stays as it is. If all tests pass, the cursor is on the place p afterwards
 pub record Sought {V : Type 0} (call : Seek) (p : Place) (t : Table Entry) (m : AnyCollection V) (result : Result Unit Refusal) (m' : AnyCollection V) : Type 0 where
   pub tested : refusal_in result ≡ refusal_of_seek call (state_of t m)
   pub moved : OnOk result (Moves t m m' (Some p))

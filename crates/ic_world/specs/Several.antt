@@ -66,7 +66,8 @@ module _ {A V : Type 0} where
   OpensWith old c part (refused OutOfMemory) new = new ≡ old
   OpensWith old c part _ new = ⊥
 
-  -- ALL MEMBERS OF THE COLLECTION d MOVE into the collection c, which has the same field and kind, and d is then empty
+  -- A SPLICE moves all members of the collection d into the collection c. `refusal_of_splice` is the first refusal, and `has` says which kinds have
+  -- the splice. `SplicesAt` says what an accepted splice does, and `IsBeside` says at which side of the cursor
   abbrev pub refusal_of_splice : Family A V → (Kind → Bool) → (c d : ℕ) → Option Refusal
   refusal_of_splice w has c d = asks_collection (collection w c) (λ s. asks_collection (collection w d) (λ t.
       asks (has s.kind) WrongKind (asks (same_kind s.kind t.kind) WrongKind (asks (not (nat_eq c d)) SameCollection

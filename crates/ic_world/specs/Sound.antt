@@ -7,7 +7,8 @@ use Rattle.ic_world.specs.Family.{Family, Sequence, collection, field_of, linked
 use Rattle.ic_world.specs.Apart.{AreApart}
 
 module _ {A V : Type 0} where
-  -- A COLLECTION IS SOUND: its field exists and can have collections of its kind, its members are linked in it, and its cursor is null or a member
+  -- A COLLECTION IS SOUND: its field exists and can have collections of its kind, its members are linked in this field, and its cursor is null or a
+  -- member
   pub record IsSoundIn (w : Family A V) (s : Sequence) : Type 0 where
     pub in_field : has_field w s.field ≡ true
     pub carried : carries (field_of w s.field).kind s.kind ≡ true

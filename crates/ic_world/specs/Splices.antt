@@ -1,4 +1,4 @@
--- Splices of one collection into another, after or before the cursor of the second.
+-- Splices that move all members of one collection after or before the cursor of another.
 use Rattle.std.specs.Prelude.{◌≡◌, ◌≢◌, ℕ, Bool, true, false, List, [], Option, Some, None, length, ◌<◌, slice_set}
 use Rattle.ic_link_ops.specs.Prelude.{Place, Cut, IsAfter, IsBefore, IsDisjoint, Table}
 use Rattle.ic_any_collection.specs.declared.entry.Entry.{Entry}
@@ -9,7 +9,7 @@ use Rattle.ic_any_collection.specs.Edits.{AtGap, PutsAll}
 use Rattle.ic_world.specs.declared.collection.Collection.{Collection}
 use Rattle.ic_world.specs.Tables.{table, at}
 
--- a gap is directly before the cursor if `before` is true, and directly after the cursor if it is false
+-- a gap is directly before the cursor if the first argument is true, and directly after the cursor if it is false
 abbrev pub IsBesideOf : Bool → Cut → Option Place → Type 0
 IsBesideOf true = IsBefore
 IsBesideOf false = IsAfter
@@ -26,7 +26,7 @@ module _ {V : Type 0} where
     pub alike : Alike m m'
     pub null : cursor_in m' ≡ None
 
-  -- the members `r` are inserted into the gap directly before the cursor, or directly after it, by the first argument
+  -- the members `r` are inserted into the gap before the cursor if `before` is true, and otherwise into the gap after it
   abbrev pub PutsBeside : Bool → (t t' : Table Entry) (m m' : AnyCollection V) (r : List Place) → Type 0
   PutsBeside before t t' m m' r = AtGap (members_in t m) (λ gap. IsBesideOf before gap (cursor_in m) × PutsAll t t' m m' gap r)
 

@@ -1,4 +1,4 @@
--- The family that the tables of a world represent. No sequence of members is stored: each is found by a walk through a table.
+-- The family that the tables of a world represent. No sequence of members is stored. Each sequence is found by a walk through a table.
 use Rattle.std.specs.Prelude.{◌≡◌, ◌≢◌, ℕ, ◌<◌, ◌≤◌, ◌^◌, Bool, true, false, List, [], map, length, Option, Some, None, IsSome, slice_index_or}
 use Rattle.std.specs.FinMap as map_of
 use Rattle.ic_link_ops.specs.Prelude.{Place, index_of, Objects, IsDisjoint, Table}
@@ -12,15 +12,15 @@ use Rattle.ic_world.specs.declared.field.WorldField.{WorldField}
 use Rattle.ic_world.specs.Family.{Family, Sequence, LinkField}
 use Rattle.ic_world.specs.LinkedSets.{linked_in}
 
--- `table_of` is the table of a field of a world. `left_in` lists the mark of each field that says whether `fast_clear` may have left members linked
--- in it
+-- `table_of` is the table of a field of a world. `left_in` lists the marks `left_linked` of the fields. A field's mark says whether `fast_clear` may
+-- have left members linked in the field
 abbrev pub table_of : {M : Type 0} → WorldField M → Table Entry
 table_of f = table_in f.links
 
 abbrev pub left_in : {M : Type 0} → List (WorldField M) → List Bool
 left_in fields = map (λ f. f.left_linked) fields
 
--- the table that a field's number stands for if there is no such field: it covers no place
+-- the table for a number that names no field: it covers no place
 abbrev pub no_table : Table Entry
 no_table = record { extent = record { places = 0; identity = [] }; entry = λ p. record { linked = false; word = 0; prev = None; parent = None; color = Red } }
 
@@ -61,7 +61,7 @@ module _ {V : Type 0} where
   }
 
   -- A WORLD IS WHOLE: the places of objects are below 2 ^ 32 and below `room`, and each table covers the places below `room`. Only places of objects
-  -- are linked, each collection is kept by the table of its field, and the collections of one field share no member
+  -- are linked, the table of each field represents the members of its collections, and collections of one field share no member
   pub record IsWhole (objects : Objects V) (room : ℕ) (ts : List (Table Entry)) (cs : List (Option (Collection V))) : Type 0 where
     pub in_bounds : (i : ℕ) → HasObject objects i → (i < room) × (i < 2 ^ 32)
     pub covered : (f : ℕ) → f < length ts → room ≤ (table ts f).extent.places

@@ -27,8 +27,8 @@ module _ {V : Type 0} where
   abbrev pub state_of : Table Entry → AnyCollection V → State
   state_of t m = record { kind = kind_in m; members = members_in t m; cursor = cursor_in m; linked = linked_in t }
 
-  -- WHAT A CALL OF ONE COLLECTION CHANGES: the collection's state changes as `Accepts` says. Only entries of its members and of places that the call
-  -- names change, and it newly links only such places
+  -- WHAT A CALL OF ONE COLLECTION CHANGES: the collection's state changes as `Accepts` says. The only entries that change are those of its members
+  -- and of the places in `names`. Each place that becomes linked is in `names`
   pub record Turns (names : List Place) (Accepts : State → State → Type 0) (old new : Table Entry) (m m' : AnyCollection V) : Type 0 where
     pub fresh : List Place
     pub named : (fresh ≡ []) ⊎ (fresh ≡ names)
@@ -40,8 +40,8 @@ module _ {V : Type 0} where
     pub alike : Alike m m'
     pub accepts : Accepts (state_of old m) (state_of new m')
 
-  -- A CALL HAS RUN: its result is the refusal that its tests give, and then nothing has changed. If the tests give none, the call was accepted and
-  -- has made its change
+  -- A CALL HAS RUN: if one of its tests fails, its result is the refusal of this test, and nothing has changed. If all pass, the call was accepted
+  -- and has made its change
   pub record Ran {M R : Type 0} (names : List Place) (refusal : State → Option Refusal) (accepts : R → State → State → Type 0)
       (links links' : AnyTable M) (m m' : AnyCollection V) (result : Result R Refusal) : Type 0 where
     pub tested : refusal_in result ≡ refusal (state_of (table_in links) m)

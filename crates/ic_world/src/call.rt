@@ -50,10 +50,10 @@ pub enum Refusal {
     /// The object is already linked in the field of the collection.
     #[error("AlreadyLinked")]
     AlreadyLinked = 10,
-    /// The object is a member of a collection, so that it can't be unlinked by force.
+    /// The object is a member of a collection of the field, so it can't be unlinked by force.
     #[error("IsMember")]
     IsMember = 11,
-    /// The object is still linked in some field, so that it can't be removed.
+    /// The object is still linked in some field, so it can't be removed.
     #[error("StillLinked")]
     StillLinked = 12,
     /// All places are in use.
@@ -119,7 +119,7 @@ pub enum Command<V, K> {
     Range(usize, Bound<K>, Bound<K>),
     /// `is_linked`: returns whether an object is linked in a field
     IsLinked(usize, Place),
-    /// `force_unlink`: unlinks an object in a field, if it is a member of no collection
+    /// `force_unlink`: unlinks an object in a field, if it is a member of no collection of this field
     ForceUnlink(usize, Place),
 }
 
@@ -128,7 +128,7 @@ impl<V: Copy, K: Copy> Clone for Command<V, K> {
 
     ghost is_infallible = { λ _. ⊤ };
 
-    /// Returns a copy of the command. It never fails.
+    /// Returns a copy of the command. This method never fails.
     fn clone(&self) -> Result<Self, AllocError> {
         Ok(*self)
     }

@@ -25,7 +25,7 @@ use ic_rbtree::KeyAdapter;
 use ic_unsafe_ref::Place;
 use std::alloc::Allocator;
 
-// Moves all members of the list `given` into `list`, before or after its cursor.
+// Moves all members of the list `given` into `list`: before the cursor of `list` if `before` is true, and otherwise after it.
 fn put_beside<T, M: Allocator>(
     list: &mut AnyCollection<T>,
     links: &mut AnyTable<M>,
@@ -46,8 +46,8 @@ fn put_beside<T, M: Allocator>(
     }
 }
 
-// Moves all members of the list with the number `given` beside the cursor of another list of the same field. The given list still exists, but is
-// empty.
+// Moves all members of the list number `given` beside the cursor of the list number `list`, which is of the same field. The list number `given` still
+// exists, but is empty.
 fn join<T, M: Allocator + Copy>(
     collections: &mut CollectionsByNumber<T, M>,
     tables: &mut Vec<WorldField<M>, M>,
@@ -127,8 +127,8 @@ impl<A: KeyAdapter, M: Allocator + Copy> World<A, M> {
         self.hand_out(collection, TakenPart::All)
     }
 
-    /// Moves the members after the cursor of a list, or all members if the cursor is at null, into a new list, and returns the number of the new
-    /// list. The cursor stays.
+    /// Moves the members after the cursor of a list into a new list, and returns the number of the new list. If the cursor is at null, all members
+    /// move. The cursor stays.
     ///
     /// Refused: `NoSuchCollection`, `WrongKind` for a tree, `OutOfMemory`. O(1).
     pub fn split_after(&mut self, collection: usize) -> Result<usize, Refusal>
@@ -137,8 +137,8 @@ impl<A: KeyAdapter, M: Allocator + Copy> World<A, M> {
         self.hand_out(collection, TakenPart::After)
     }
 
-    /// Moves the members before the cursor of a list, or all members if the cursor is at null, into a new list, and returns the number of the new
-    /// list. The cursor stays.
+    /// Moves the members before the cursor of a list into a new list, and returns the number of the new list. If the cursor is at null, all members
+    /// move. The cursor stays.
     ///
     /// Refused: `NoSuchCollection`, `WrongKind` for a tree or a singly linked list, `OutOfMemory`. O(1).
     pub fn split_before(&mut self, collection: usize) -> Result<usize, Refusal>
@@ -191,8 +191,8 @@ impl<A: KeyAdapter, M: Allocator + Copy> World<A, M> {
         Some((field, self.collections.members(collection).kind()))
     }
 
-    // Returns why a splice is refused, or `None`. A splice after a cursor needs two lists, and a splice before a cursor needs two lists with calls at
-    // their backs.
+    // Returns why a splice is refused, or `None` if it is not refused. Lists of every kind have a splice after the cursor, but only doubly linked and
+    // XOR lists have a splice before it.
     fn splice_refused(&self, collection: usize, given: usize, before: bool) -> Option<Refusal>
         ensures { result ≡ refusal_of_splice self.now (can_splice before) collection given }
     {
@@ -219,8 +219,7 @@ impl<A: KeyAdapter, M: Allocator + Copy> World<A, M> {
         None
     }
 
-    // Moves all members of the collection `given` into the collection `collection`: before its cursor if `before` is true, and otherwise after its
-    // cursor.
+    // Moves all members of the collection `given` beside the cursor of `collection`: before this cursor if `before` is true, and otherwise after it.
     fn splice(&mut self, collection: usize, given: usize, before: bool) -> Result<(), Refusal>
         ensures { StepSplice (IsBesideOf before) (can_splice before) self.old collection given (reply_of (λ _. done) result) self.new }
     {
@@ -237,10 +236,10 @@ impl<A: KeyAdapter, M: Allocator + Copy> World<A, M> {
         Ok(())
     }
 
-    /// Moves all members of the collection `given` after the cursor of the first collection, or to the front if that cursor is at null. The given
-    /// collection is then empty, with its cursor at null, and the first cursor stays.
+    /// Moves all members of the collection `given` after the cursor of `collection`, or to its front if the cursor is at null. Afterwards `given` is
+    /// empty, and its cursor is at null. The cursor of `collection` stays.
     ///
-    /// Refused: `NoSuchCollection`, `WrongKind` for trees and if the kinds differ, `SameCollection`, `OtherField`. O(1), or O(given members) for
+    /// Refused: `NoSuchCollection`, `WrongKind` for trees and if the kinds differ, `SameCollection`, `OtherField`. O(1), or O(members of `given`) for
     /// singly linked lists. It takes no memory.
     pub fn splice_after(&mut self, collection: usize, given: usize) -> Result<(), Refusal>
         ensures { Step A.Key.cmp A.key_of self.old (Command.SpliceAfter collection given) (reply_of (λ _. done) result) self.new }
@@ -248,8 +247,8 @@ impl<A: KeyAdapter, M: Allocator + Copy> World<A, M> {
         self.splice(collection, given, false)
     }
 
-    /// Moves all members of the collection `given` before the cursor of the first collection, or to the back if that cursor is at null. The given
-    /// collection is then empty, with its cursor at null, and the first cursor stays.
+    /// Moves all members of the collection `given` before the cursor of `collection`, or to its back if the cursor is at null. Afterwards `given` is
+    /// empty, and its cursor is at null. The cursor of `collection` stays.
     ///
     /// Refused: `NoSuchCollection`, `WrongKind` for trees, for singly linked lists and if the kinds differ, `SameCollection`, `OtherField`. O(1). It
     /// takes no memory.
@@ -259,16 +258,18 @@ impl<A: KeyAdapter, M: Allocator + Copy> World<A, M> {
         self.splice(collection, given, true)
     }
 
-    /// Gives a caller's proof what always holds of a world, and does nothing itself. Each object is at one of the first 2^32 places, and each linked
-    /// place has an object. The field of each collection exists and can have collections of its kind. The members of a collection are linked in its
-    /// field, and its cursor is at null or on a member. No place is twice in a collection, or in two collections of one field.
+    /// Ensures what always holds of a world, so that a caller's proof can use it. The call itself does nothing. Each object is at one of the first
+    /// 2^32 places, and each linked place has an object. The field of each collection exists and can have collections of its kind. The members of a
+    /// collection are linked in its field, and its cursor is at null or on a member. No place is twice in a collection, or in two collections of one
+    /// field.
     pub fn family_is_sound(&self)
         ensures { IsSound self.now }
     {
         let _ = &self.collections;
     }
 
-    /// Gives a caller's proof that no place is twice in a collection, or in two collections of one field. It does nothing itself.
+    /// Ensures that no place is twice in a collection, or in two collections of one field. A caller's proof can use this. The call itself does
+    /// nothing.
     pub fn no_member_is_shared(&self)
         ensures { AreApart self.now }
     {
@@ -276,7 +277,7 @@ impl<A: KeyAdapter, M: Allocator + Copy> World<A, M> {
         let _ = &self.collections;
     }
 
-    /// Gives a caller's proof that there is an object at each member of each collection. It does nothing itself.
+    /// Ensures that there is an object at the place of each member of each collection. A caller's proof can use this. The call itself does nothing.
     pub fn every_member_is_placed(&self)
         ensures { AreAllPlaced self.now }
     {

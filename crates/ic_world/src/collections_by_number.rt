@@ -1,5 +1,5 @@
-//! The collections of a world by number. Each live collection is stored in a list of its field. The number of a disposed collection still takes 8
-//! bytes.
+//! The collections of a world by number. A collection is live until it is disposed of. Each live collection is stored in a list of its field. The
+//! number of a disposed collection still takes 8 bytes.
 //!
 //! ```text
 //! let number = collections.push(field, AnyCollection::new(kind))?;
@@ -21,7 +21,7 @@ use ic_unsafe_ref::Place;
 use std::alloc::{AllocError, Allocator, Global};
 use std::marker::Model;
 
-// The position of the collection with a number: its field, and its index among the live collections of that field.
+// Where a collection is stored: the number of its field, and its index in the list of the live collections of this field.
 #[derive(Clone, Copy)]
 struct Slot {
     field: u32,
@@ -43,7 +43,7 @@ struct Numbered<T> {
 pub struct CollectionsByNumber<T, M: Allocator + Copy = Global> {
     alloc: M,
     numbers: Vec<Slot, M>,
-    // The live collections of each field, up to the last field that has had one.
+    // The list of the live collections of each field. A field without a list has no live collection.
     live: Vec<Vec<Numbered<T>, M>, M>,
 }
 
@@ -60,8 +60,8 @@ impl<T, M: Allocator + Copy> Model for CollectionsByNumber<T, M> {
     ghost invariant = { λ c. AreNumbered (map items_of c.live.items) c.numbers.items };
 }
 
-// Removes a live collection from the list of its field. The last collection of the list moves to the index of the removed collection, and the
-// function returns the number of the moved one.
+// Removes the collection at `index` from the list of a field. The last collection of the list moves to this index, and the function returns the
+// number of that last collection.
 fn take_out<T, M: Allocator>(list: &mut Vec<Numbered<T>, M>, index: usize) -> usize
     requires { index < vec_len list.old }
     ensures { IsTakenOut list.old.items index result list.new.items }
@@ -76,7 +76,7 @@ fn take_out<T, M: Allocator>(list: &mut Vec<Numbered<T>, M>, index: usize) -> us
     number
 }
 
-// Adds empty lists until the field has a list, or until memory runs out.
+// Appends empty lists to `live` until the field has a list, or until memory runs out.
 fn cover_field<T, M: Allocator + Copy>(
     live: &mut Vec<Vec<Numbered<T>, M>, M>,
     alloc: M,
@@ -93,7 +93,8 @@ fn cover_field<T, M: Allocator + Copy>(
     Ok(())
 }
 
-// Inserts a collection into a field, and returns its position.
+// Appends the collection `one` to the list of the field, and returns where it is stored. It returns `None` if memory runs out, or if the field's
+// number or the index is too large for a `Slot`.
 fn enter<T, M: Allocator + Copy>(
     live: &mut Vec<Vec<Numbered<T>, M>, M>,
     alloc: M,
@@ -122,7 +123,7 @@ fn enter<T, M: Allocator + Copy>(
     })
 }
 
-// Returns whether one of the collections has the object as a member. It tests one collection after the other.
+// Returns whether one of the collections in `list` has the object as a member. The function tests one collection after the other.
 fn contains_in<T, M: Allocator>(list: &[Numbered<T>], links: &AnyTable<M>, object: Place) -> bool
     requires held { EachHeld (table_in links.now) list.now }
     requires covered { IsCovered (table_in links.now) object }
@@ -223,8 +224,8 @@ impl<T, M: Allocator + Copy> CollectionsByNumber<T, M> {
         self.numbers[number].index = DISPOSED;
     }
 
-    /// Returns whether a live collection of the field has the object as a member. It tests the collections of this field only, until one of them has
-    /// the object.
+    /// Returns whether a live collection of the field has the object as a member. It tests the live collections of this field, one after the other,
+    /// until one of them has the object.
     pub(crate) fn any_contains(&self, field: usize, links: &AnyTable<M>, object: Place) -> bool
         requires held { AreHeld self.now field (table_in links.now) }
         requires covered { IsCovered (table_in links.now) object }

@@ -67,8 +67,7 @@ impl<A: KeyAdapter, M: Allocator + Copy> World<A, M> {
     }
 
     // Returns whether an existing object is a member of a collection of the field. It walks no collection if the object is unlinked, because an
-    // unlinked object is no member. It also walks none if `fast_clear` never left a member linked in the field, because each linked object is then a
-    // member.
+    // unlinked object is no member. It also walks none if `fast_clear` was never called in the field, because each linked object is then a member.
     fn is_member(&self, field: usize, object: Place) -> bool
         requires placed { is_placed self.now object ≡ true }
         requires there { has_field self.now field ≡ true }
@@ -81,7 +80,8 @@ impl<A: KeyAdapter, M: Allocator + Copy> World<A, M> {
         !found.left_linked || self.collections.any_contains(field, &found.links, object)
     }
 
-    /// Unlinks an object that `fast_clear` has left linked in a field, so that it is a member of no collection. An unlinked object stays unlinked.
+    /// Unlinks an object that is linked in a field but is a member of no collection of this field, as `fast_clear` leaves its members. An unlinked
+    /// object stays unlinked.
     ///
     /// Refused: `NoSuchField`, `NoSuchObject`, `IsMember`. It costs O(1) if the object is not linked, or if no [`World::fast_clear`] was made in the
     /// field. Otherwise it tests each live collection of the field, and walks each collection that is a list. It takes no memory.

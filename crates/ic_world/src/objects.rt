@@ -23,7 +23,8 @@ use ic_unsafe_ref::{Objects, Place, UnsafeRef};
 use std::alloc::{AllocError, Allocator};
 use std::mem;
 
-// Covers the first `count` places in each table, until memory runs out. Each table covers at least `room` places, before and after.
+// Makes each table cover at least the first `count` places, and stops if memory runs out. Each table covers at least `room` places, both before and
+// after the call. If memory suffices, `room` is then at least `count`.
 fn cover_all<M: Allocator>(
     tables: &mut [WorldField<M>],
     room: &mut usize,
@@ -42,7 +43,7 @@ fn cover_all<M: Allocator>(
     Ok(())
 }
 
-// Places a value, if there is room for it.
+// Stores `value` as a new object, and returns the object's place. If `has_room` is false or memory runs out, it returns a refusal with the value.
 fn place_in<V, M: Allocator>(
     objects: &mut Objects<V, M>,
     value: V,
@@ -96,7 +97,7 @@ impl<A: KeyAdapter, M: Allocator + Copy> World<A, M> {
 
     /// Stores a value as a new object, after making room for it in each field, and returns its place.
     ///
-    /// Refused: `TooManyObjects`, `OutOfMemory`. If it is refused, the caller gets the value back.
+    /// Refused: `TooManyObjects`, `OutOfMemory`. If the call is refused, the caller gets the value back.
     pub fn place(&mut self, value: A::Value) -> Result<Place, (Refusal, A::Value)>
         ensures step { Step A.Key.cmp A.key_of self.old (Command.Place value) (reply_of_value (λ p. object p) result) self.new }
         ensures handed_back { IfErr result (λ refused. refused.1 ≡ value) }
@@ -111,8 +112,8 @@ impl<A: KeyAdapter, M: Allocator + Copy> World<A, M> {
 
     /// Removes an object that is linked in no field, and returns its value.
     ///
-    /// Refused: `NoSuchObject`, `StillLinked`. It reads the entry of the object in the table of each field, one after the other, until the object is
-    /// linked in one. This costs O(fields), even for an object that was never linked. It takes no memory.
+    /// Refused: `NoSuchObject`, `StillLinked`. The call reads the object's entry in one field after the other, until it finds a field in which the
+    /// object is linked. This costs O(fields), even for an object that was never linked. It takes no memory.
     pub fn remove_object(&mut self, object: Place) -> Result<A::Value, Refusal>
         ensures step { Step A.Key.cmp A.key_of self.old (Command.RemoveObject object) (reply_of (λ _. done) result) self.new }
         ensures value { IfOk result (λ value. map.get self.old.objects (index_of object) ≡ Some value) }
@@ -128,8 +129,8 @@ impl<A: KeyAdapter, M: Allocator + Copy> World<A, M> {
 
     /// Replaces the value of an object by another, and returns the old value. The object stays linked where it was.
     ///
-    /// Refused: `NoSuchObject`. If it is refused, the caller gets the new value back. It takes no memory. If the key of the object changes, trees of
-    /// which it is a member may no longer be sorted.
+    /// Refused: `NoSuchObject`. If the call is refused, the caller gets the new value back. The call takes no memory. If the key of the object
+    /// changes, a tree that has the object as a member may then be unsorted.
     pub fn set_value(
         &mut self,
         object: Place,

@@ -20,7 +20,7 @@ use ic_rbtree::KeyAdapter;
 use ic_unsafe_ref::Place;
 use std::alloc::{AllocError, Allocator};
 
-// The answer of a call that returns nothing.
+// Returns the `Answer` for the result of a call that returns nothing.
 #[inline]
 fn done<M: Allocator>(answer: Result<(), Refusal>) -> Answer<M>
     ensures { reply_in result ≡ reply_of (λ _. state.done) answer }
@@ -31,7 +31,7 @@ fn done<M: Allocator>(answer: Result<(), Refusal>) -> Answer<M>
     }
 }
 
-// The answer of a call that returns an object, or none.
+// Returns the `Answer` for the result of a call that returns an object, or none.
 #[inline]
 fn object<M: Allocator>(answer: Result<Option<Place>, Refusal>) -> Answer<M>
     ensures { reply_in result ≡ reply_of state.object_or_nothing answer }
@@ -43,7 +43,7 @@ fn object<M: Allocator>(answer: Result<Option<Place>, Refusal>) -> Answer<M>
     }
 }
 
-// The answer of a call that returns the number of a collection.
+// Returns the `Answer` for the result of a call that returns the number of a collection.
 #[inline]
 fn opened<M: Allocator>(answer: Result<usize, Refusal>) -> Answer<M>
     ensures { reply_in result ≡ reply_of (λ c. state.opened c) answer }
@@ -54,7 +54,7 @@ fn opened<M: Allocator>(answer: Result<usize, Refusal>) -> Answer<M>
     }
 }
 
-// The answer of a call that returns the members of a collection.
+// Returns the `Answer` for the result of a call that returns the members of a collection.
 #[inline]
 fn listed<M: Allocator>(answer: Result<Vec<Place, M>, Refusal>) -> Answer<M>
     ensures { reply_in result ≡ reply_of (λ places. state.items places.items) answer }
@@ -103,7 +103,8 @@ where
         }
     }
 
-    /// Makes the call of a command, and returns its answer. It drops the value of a removed object, and the old value if a value is set.
+    /// Makes the call of a command, and returns its answer. The value of an object that the call removes is dropped, and so is a value that the call
+    /// replaces.
     pub fn answer(&mut self, command: Command<A::Value, A::Key>) -> Answer<M>
         ensures { Step A.Key.cmp A.key_of self.old command (reply_in result) self.new }
     {

@@ -20,16 +20,16 @@ use std::marker::Model;
 
 /// Objects by place, and link fields and collections by number.
 ///
-/// A field is a table of links, and a collection is the head of a list or tree in such a table, with a cursor. No sequence is stored separately: the
-/// family that a contract sees is what the tables represent. A field also has a mark that says whether `fast_clear` ever left members linked in it.
-/// Fields are numbered 0, 1, 2 in the order of `add_field`. The collections of all fields are numbered together, in the order in which `open`, `take`
-/// and the splits make them. The number of a disposed collection is never used again.
+/// A field is a table of links. A collection is a cursor, and the head of a list or tree whose links are in a field. No sequence is stored
+/// separately: contracts describe a world by the sequences that its tables represent. A field also has a mark, which says whether `fast_clear` was
+/// ever called in the field. Fields are numbered 0, 1, 2 in the order of `add_field`. The collections of all fields are numbered together, in the
+/// order in which `open`, `take` and the splits make them. The number of a disposed collection is never used again.
 #[derive(Drop)]
 pub struct World<A: KeyAdapter, M: Allocator + Copy = Global> {
     pub(crate) adapter: A,
     pub(crate) alloc: M,
     pub(crate) objects: Objects<A::Value, M>,
-    // The number of places that each field covers at least.
+    // Each field covers at least this many places.
     pub(crate) room: usize,
     pub(crate) fields: Vec<WorldField<M>, M>,
     pub(crate) collections: CollectionsByNumber<A::Value, M>,
@@ -86,7 +86,7 @@ impl<A: KeyAdapter, M: Allocator + Copy> World<A, M> {
         }
     }
 
-    /// Returns the objects by place, by a shared reference. [`World::show`] returns the members of a collection.
+    /// Returns a shared reference to the objects of the world. [`World::show`] returns the members of a collection.
     #[inline]
     pub fn objects(&self) -> &Objects<A::Value, M>
         ensures { result.now.values ≡ self.now.objects }
@@ -94,7 +94,7 @@ impl<A: KeyAdapter, M: Allocator + Copy> World<A, M> {
         &self.objects
     }
 
-    // Makes a call of one collection. If the call is a literal, the compiler removes the match over it.
+    // Makes a call of one collection. If the caller passes a literal as `call`, the compiler removes the `match` on it.
     #[inline(always)]
     pub(crate) fn call<C: CollectionCall<A>>(
         &mut self,
@@ -136,7 +136,7 @@ impl<A: KeyAdapter, M: Allocator + Copy> World<A, M> {
         }
     }
 
-    // Returns a collection and the table of its field by shared references.
+    // Returns shared references to a collection and to the table of its field, or `None` if there is no such collection.
     pub(crate) fn found(
         &self,
         collection: usize,

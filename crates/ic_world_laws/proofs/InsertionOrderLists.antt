@@ -57,7 +57,7 @@ was_out p q (x ∷ s) n out = by (same_place x p) refl out (was_out p q s n) whe
   by true e out rest = ((λ same. true≢false (sym e ∙ ap (λ z. same_place z p) (sym same) ∙ other_place q p n)), rest out)
   by false e out rest = (out.0, rest out.1)
 
--- two filters give the same list in either order
+-- two filters, one after the other, leave the same list in either order
 filter_turned : {X : Type 0} (f g : X → Bool) (s : List X) → filter f (filter g s) ≡ filter g (filter f s)
 filter_turned f g [] = refl
 filter_turned {X} f g (x ∷ s) = by (f x) (g x) refl refl (filter_turned f g s) where
@@ -108,7 +108,7 @@ module _ {V K : Type 0} {cmp : K → K → Ordering} (total : IsTotalOrder cmp) 
   pub nothing_in_order : InOrder [] []
   nothing_in_order = (tt, (λ p. ((λ h. h), (λ h. h))), (λ key. refl))
 
-  -- an object whose key is greater than `own` does not have a key equal to `key`, if `key` is equal to `own`
+  -- if `key` is equal to `own`, an object whose key is greater than `own` has no key equal to `key`
   greater_not : (key own : K) → is_eq (cmp key own) ≡ true → (o : Option V) → is_lt (answer_at (order_of cmp key_of own) o) ≡ true → is_eq (answer_at (order_of cmp key_of key) o) ≡ false
   greater_not key own same None less = refl
   greater_not key own same (Some v) less = ap is_eq (total.congr key own (key_of v) (level (cmp key own) same)) ∙ apart (cmp own (key_of v)) less where
@@ -214,7 +214,7 @@ AreEqual cmp [] [] = Unit {0}
 AreEqual cmp (k ∷ ks) (l ∷ ls) = (cmp k l ≡ Equal) × AreEqual cmp ks ls
 AreEqual cmp _ _ = ⊥
 
--- OTHER OBJECTS, in which each member has a key equal to its old key, leave a list in order
+-- IF THE OBJECTS CHANGE, but each member has a key equal to its old key, a list in order stays in order
 module _ {V K : Type 0} {cmp : K → K → Ordering} (total : IsTotalOrder cmp) (key_of : V → K) where
   pub equal_keys_itself : (o : Option V) → HaveEqualKeys cmp key_of o o
   equal_keys_itself None = tt
@@ -254,6 +254,6 @@ module _ {V K : Type 0} {cmp : K → K → Ordering} (total : IsTotalOrder cmp) 
         ∙ sym (filter_alike (has total key_of new key) (has total key_of old key) e (λ q there. test q (same q (λ out. there ((ordered.1 q).0 out)))))),
   )
 
-  -- other objects, in which each member has its old value, leave a list in order
+  -- if the objects change, but each member has its old value, a list in order stays in order
   pub same_in_order : (old new : Objects V) (e s : List Place) → ((q : Place) → IsMember q s → object_at new q ≡ object_at old q) → InOrder total key_of old e s → InOrder total key_of new e s
   same_in_order old new e s same = equal_in_order old new e s (λ q there. subst (λ o. HaveEqualKeys cmp key_of o (object_at old q)) (sym (same q there)) (equal_keys_itself (object_at old q)))

@@ -110,13 +110,15 @@ module _ {A V K : Type 0} {cmp : K → K → Ordering} (total : IsTotalOrder cmp
   same_order : {new : Family A V} (e : List Place) → new ≡ old → e ≡ insertion_order → IsValidCursor new e
   same_order e is same = left e is (s, there, subst (λ x. Ordered x s.members) (sym same) order)
 
-  -- a step keeps the insertion order if it is refused, or if what an accepted call does keeps it
+  -- after a step the collection has the insertion order e, if e is the old order whenever the step is refused, and `Accepted` implies that it has
+  -- this order
   by_step : (o : Option Refusal) (Accepted : Reply → Family A V → Type 0) (reply : Reply) (new : Family A V) (e : List Place) → StepBy o Accepted old reply new → ((r : Refusal) → reply ≡ refused r → e ≡ insertion_order)
       → (o ≡ None → Accepted reply new → IsValidCursor new e) → IsValidCursor new e
   by_step (Some r) Accepted reply new e h refused_same accepted = same_order e h.1 (refused_same r h.0)
   by_step None Accepted reply new e h refused_same accepted = accepted refl h
 
-  -- a call of one collection keeps the insertion order of c, if an accepted call of c keeps it
+  -- a call of one collection leaves c with the insertion order e, if each accepted call of c does. If the call is refused or is a call of another
+  -- collection, e has to be the old order
   on_order : (d : ℕ) (call : Call K) (reply : Reply) (new : Family A V) (e : List Place) → StepOn cmp key_of old d call reply new → ((r : Refusal) → reply ≡ refused r → e ≡ insertion_order) → (d ≢ c → e ≡ insertion_order)
       → (d ≡ c → list_all (is_placed old) (names call) ≡ true → (t : State) → Replies cmp (key_of old.adapter) (objects_of old) call (state_in old s) reply t → Ordered e t.members) → IsValidCursor new e
   on_order d call reply new e step refused_same elsewhere here = by (refusal_on old d call) refl step where
@@ -213,7 +215,7 @@ module _ {A V K : Type 0} {cmp : K → K → Ordering} (total : IsTotalOrder cmp
       (λ same names_placed t h. subst (λ e. Ordered e t.members) (sym (ap (λ b. cond b (insertion_order ++ p ∷ []) insertion_order) (eq-eqb d c same)))
       (vacant_here key p q n t (own same) (and_parts (is_placed old p) true names_placed).0 h))
 
-  -- A MEMBER IS REMOVED from the collection, and it is then no longer in the insertion order
+  -- A MEMBER IS REMOVED from the collection, and `taken_by` removes it from the insertion order, too
   abbrev taken_by : Reply → List Place
   taken_by (object p) = without p insertion_order
   taken_by _ = insertion_order
@@ -265,7 +267,8 @@ module _ {A V K : Type 0} {cmp : K → K → Ordering} (total : IsTotalOrder cmp
         (left insertion_order h.3 (s, get_or-set_other old.collections d c _ None (λ x. differ (sym x)) ∙ there, order))
   ]
 
-  -- a call that gives a part of another collection away keeps the insertion order of c. If all of c is given away, its order is then empty
+  -- a call that gives a part of another collection away keeps the insertion order of c. If c itself gives all its members away, its insertion order
+  -- is then empty
   part_order : (d : ℕ) (part : TakenPart) (reply : Reply) (new : Family A V) → d ≢ c → StepBy (refusal_of_part old d part) (OpensWith old d part) old reply new → IsValidCursor new insertion_order
   part_order d part reply new differ step = by (refusal_of_part old d part) reply step where
     by : (o : Option Refusal) (reply : Reply) → StepBy o (OpensWith old d part) old reply new → IsValidCursor new insertion_order
@@ -297,7 +300,7 @@ module _ {A V K : Type 0} {cmp : K → K → Ordering} (total : IsTotalOrder cmp
   splice_order Beside is d e reply new differ_d differ_e step = by_step (refusal_of_splice old is d e) (SplicesAt Beside old d e) reply new insertion_order step (λ r e. refl) (λ none h.
       left insertion_order h.8 (s, get_or-set_other (set old.collections e _) d c _ None (λ x. differ_d (sym x)) ∙ get_or-set_other old.collections e c _ None (λ x. differ_e (sym x)) ∙ there, order))
 
-  -- OTHER OBJECTS, with the old value at each member, keep the insertion order
+  -- IF THE OBJECTS CHANGE, but the values at the members stay, the insertion order stays
   objects_order : (p : Place) (m : map_of.FinMap nat_cmp V) → IsAbsent p s.members → ((q : Place) → q ≢ p → map_of.get m (index_of q) ≡ map_of.get old.objects (index_of q)) → IsValidCursor (record old { objects = m }) insertion_order
   objects_order p m out same = (
     s,
@@ -383,7 +386,7 @@ module _ {A V K : Type 0} {cmp : K → K → Ordering} (total : IsTotalOrder cmp
   take_refused d OutOfMemory new h = same_order insertion_order h refl
   take_refused d _ new h = absurd h
 
-  -- a call keeps the insertion order, if each accepted call of this sort keeps it
+  -- a call keeps the insertion order, if it keeps the order whenever it is accepted
   plain : (command : Command V K) (reply : Reply) (new : Family A V) → Step cmp key_of old command reply new → (refusal old command ≡ None → Accepts cmp key_of old command reply new → IsValidCursor new insertion_order) → IsValidCursor new insertion_order
   plain command reply new step accepted = by_step (refusal old command) (Accepts cmp key_of old command) reply new insertion_order step (λ r e. refl) accepted
 

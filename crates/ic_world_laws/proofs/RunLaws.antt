@@ -26,7 +26,7 @@ module _ {A V K : Type 0} (cmp : K → K → Ordering) (key_of : A → V → K) 
   join_lawful old (c ∷ cs) [] mid ds ss new a b = absurd a
 
 module _ {A V K : Type 0} {cmp : K → K → Ordering} (total : IsTotalOrder cmp) (key_of : A → V → K) where
-  -- a sorted collection stays sorted by an orderly call, because its own members are an insertion order of it
+  -- an orderly call leaves a sorted collection sorted, because the members of a sorted collection are an insertion order of it
   pub stays_sorted : (old : Family A V) → IsSound old → (command : Command V K) (reply : Reply) (new : Family A V) → Step cmp key_of old command reply new → StaysSorted cmp key_of old command new
   stays_sorted old sound command reply new step c s is sorted orderly t is_t =
       let after = keeps_order total key_of old sound command reply new step c s.members (s, is, (sorted, (λ p. ((λ h. h), (λ h. h))), (λ key. refl))) orderly in

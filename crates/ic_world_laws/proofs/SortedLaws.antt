@@ -1,4 +1,4 @@
--- If a tree is sorted, each keyed call returns the first, the last or all of the members that a filter by keys gives.
+-- If a tree is sorted, each keyed call returns the first, the last or all of the members that a filter by keys leaves.
 use Rattle.std.proofs.Common.{◌≡◌, ℕ, true, false, ◌&&◌, List, [], ◌∷◌, length, get_or, set, Option, Some, None, inl, inr, refl, sym, ap, ◌∙◌, subst}
 use Rattle.std.proofs.lemmas.Bool.{cases_lt, and_parts}
 use Rattle.std.proofs.lemmas.List.{get_or-set_same, get_or_past}
@@ -24,14 +24,14 @@ use Rattle.ic_world.specs.Several.{state_in, with_state, sequence_of}
 use Rattle.ic_world_laws.specs.Sorted.{IsSortedIn, has_key, has_greater, is_greater, is_from, is_until, FindsFirst, FindsEnd, IsWithinBoth, PutsAfter, GoesAfter}
 use Rattle.ic_world_laws.proofs.StepLaws.{of_reply, of_range}
 
--- if there was an item at the index i, a read at i after the item was set to y gives y
+-- if there was an item at the index i, and it was set to y, then a read at i returns y
 set_there : {X : Type 0} (xs : List (Option X)) (i : ℕ) {x : X} (y : X) → get_or xs i None ≡ Some x → get_or (set xs i (Some y)) i None ≡ Some y
 set_there xs i y is = elim (cases_lt i (length xs)) [
   | inl inside ↦ get_or-set_same xs i (Some y) None inside
   | inr past ↦ let none = sym (get_or_past xs i None past) ∙ is in absurd cc
 ]
 
--- a statement P about what a reply contains. The statement P is made only of replies of one sort, for example of the replies of a search
+-- if a reply is of one sort, for example the reply of a search, the statement P holds of what the reply contains. Nothing is said of other replies
 abbrev IfFound : (Option Place → Type 0) → Reply → Type 0
 IfFound P (found p n) = P p
 IfFound P _ = Unit
@@ -80,7 +80,7 @@ module _ {A V K : Type 0} {cmp : K → K → Ordering} (total : IsTotalOrder cmp
       (λ replies. range_filter total key_of old.adapter (objects_of old) (placed c s is) sorted min max (apart.0 c s is) replies.0)
   is_within_both apart _ new _ step = tt
 
-  -- an object that is inserted at the border of the searched key comes after all members whose keys are not greater than it
+  -- an object that is inserted at the border of a key comes after all members whose keys are not greater than this key
   there_is : (c : ℕ) (s : Sequence) → collection old c ≡ Some s → (new : Family A V) (t : State) → new ≡ with_state old c s.field t → collection new c ≡ Some (sequence_of s.field t)
   there_is c s is new t left = subst (λ w. collection w c ≡ Some (sequence_of s.field t)) (sym left) (set_there old.collections c (sequence_of s.field t) is)
 

@@ -26,7 +26,7 @@ use Rattle.ic_world.specs.Calls.{State, Reply, found, looked, entry, refused, is
 use Rattle.ic_world.proofs.Linked.{absent_or}
 use Rattle.ic_world.proofs.Steps.{asks_none}
 
--- a member of a part of a sequence is a member of the sequence, and so are its first and its last member
+-- a member of a part of a sequence is a member of the whole sequence. The first and the last member of a sequence are members of the sequence
 pub member_left : (s t : List Place) (p : Place) → IsMember p s → IsMember p (s ++ t)
 member_left s t p there out = there (absent_left p s t out)
 
@@ -97,7 +97,7 @@ module _ (l : set_of.FinSet nat_cmp) (p : Place) where
       ∙ ap (λ b. not b && set_of.contains l (index_of q)) (unsigned_tied (index_of q) (index_of p) ∙ ne_eqb (index_of q) (index_of p) (λ e. n (same_index q p e)))
       ∙ h
 
-  -- a place other than p that is in the set l with p added is in l. A place that is in l without p is in l, and is not p
+  -- if q is in the set l with p added, and is not p, then q is in l. If q is in the set l without p, then q is in l, and is not p
   pub was_in : (q : Place) → q ≢ p → set_of.contains (set_of.insert l (index_of p)) (index_of q) ≡ true → set_of.contains l (index_of q) ≡ true
   was_in q n h =
       sym (contains-insert nat_cmp_total l (index_of p) (index_of q)
@@ -276,7 +276,7 @@ module _ (has : Place → Bool) where
                   );
             }
 
-    -- the position of the cursor after an insertion is null, or a member of the state before it
+    -- the position of the cursor after an insertion is null, or a member of the state before the insertion
     rests_in : (at : Gap) (q : Place) → rests at s.cursor ≡ Some q → IsMember q s.members
     rests_in Front q e = absurd (none_not q e)
     rests_in Back q e = absurd (none_not q e)

@@ -250,7 +250,8 @@ module _ {A V : Type 0} (w : Family A V) (sound : IsSound w) (kind : Kind) where
     apart = sound.apart;
   }
 
--- OTHER OBJECTS leave a family sound, if all are at the first 2 ^ 32 places, and if there is an object at each linked place
+-- IF THE OBJECTS ARE REPLACED by the objects m, the family stays sound, provided that all are at the first 2 ^ 32 places, and that each linked place
+-- has an object
 pub objects_sound : {A V : Type 0} (w : Family A V) (sound : IsSound w) (m : map_of.FinMap nat_cmp V)
     → ((p : Place) → is_some (map_of.get m (index_of p)) ≡ true → index_of p < 2 ^ 32) → ((f : ℕ) (p : Place) → set_of.contains (linked_of w f) (index_of p) ≡ true → is_some (map_of.get m (index_of p)) ≡ true) → IsSound (record w { objects = m })
 objects_sound w sound m below placed = record {

@@ -1,4 +1,4 @@
--- What users rely on follows from the steps of the calls.
+-- The laws of a single call follow from the step that the call makes.
 use Rattle.std.proofs.Common.{◌≡◌, ◌↔◌, ℕ, Bool, true, false, not, List, [], ◌∷◌, Option, Some, None, is_some, refl, sym, ap, ◌∙◌, subst}
 use Rattle.std.specs.List.{list_all}
 use Rattle.std.specs.declared.cmp.Ordering.{Ordering}
@@ -34,7 +34,7 @@ not_object None e = cc
 not_object (Some p) e = cc
 
 module _ {V K : Type 0} (cmp : K → K → Ordering) (key_of : V → K) (objects : Objects V) where
-  -- the number of looks that a keyed call replies is at most that of one search
+  -- the number of looks in the reply of a keyed call is at most the number that one search may make
   abbrev Tells : Command V K → Call K → Type 0
   Tells command call = (s : State) (reply : Reply) (t : State) → Replies cmp key_of objects call s reply t → WithinBoundFor s.members command reply
 
@@ -64,7 +64,8 @@ module _ {V K : Type 0} (cmp : K → K → Ordering) (key_of : V → K) (objects
   entry_few c key p s (refused r) t h = tt
   entry_few c key p s _ t h = absurd h
 
-  -- a call that no test refused replies a refusal only if an entry is vacant and its object is already linked. Then the state stays
+  -- a call that no test refused has a refusal as its reply only if it is an `entry` that finds no member with its key, and whose object is already
+  -- linked. In this case the state stays
   replies_stay : (call : Call K) (s : State) (r : Refusal) (t : State) → Replies cmp key_of objects call s (refused r) t → t ≡ s
   replies_stay (one.Put at p) s r t h = absurd (let no = h.0 in cc)
   replies_stay (one.Take at) s r t h = absurd (not_object (first h.0.back) h.2.1)
@@ -139,7 +140,8 @@ module _ {A V K : Type 0} (cmp : K → K → Ordering) (key_of : A → V → K) 
   by_tests o true true true true e Accepted old new reply step never named = ((λ _. refl), (λ _. (rw e at step).0))
   by_tests o true true true false e Accepted old new reply step never named = ((λ is. absurd (never (subst (λ x. Accepted x new) is (rw e at step)))), (λ is. absurd cc))
 
-  -- a call with one object, which tests the kind of the collection, then the position and then the object, is refused exactly if the object is linked
+  -- let a call with one object test the kind of the collection, then the position, and then the object. If no other refusal applies, it is refused
+  -- exactly if the object is linked
   insert_on : (c : ℕ) (p : Place) (call : Call K) (there : State → Bool) → names call ≡ p ∷ []
       → ((s : State) → refusal_of call s ≡ asks (has_call call s.kind) WrongKind (asks (there s) NothingThere (asks_unlinked s p)))
       → ((w : Family A V) (s t : State) → Replies cmp (key_of w.adapter) (objects_of w) call s (refused AlreadyLinked) t → ⊥)

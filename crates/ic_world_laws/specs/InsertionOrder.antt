@@ -14,8 +14,8 @@ use Rattle.ic_world.specs.Step.{Step}
 use Rattle.ic_world_laws.specs.Sorted.{IsSortedIn, WhileSorted, IsSortedAfter, has_key}
 
 module _ {A V K : Type 0} (cmp : K → K → Ordering) (key_of : A → V → K) (w : Family A V) where
-  -- s IS `insertion_order`, STABLY SORTED: s is sorted and has the same members as `insertion_order`, and members with equal keys are in the order
-  -- that they have there
+  -- s IS `insertion_order`, STABLY SORTED: s is sorted and has the same members as `insertion_order`, and members with equal keys are in the same
+  -- order in both
   abbrev pub IsInOrderOf : List Place → List Place → Type 0
   IsInOrderOf insertion_order s = IsSortedIn cmp key_of w s
       × ((p : Place) → IsAbsent p s ↔ IsAbsent p insertion_order)
@@ -30,21 +30,23 @@ module _ {A V K : Type 0} (cmp : K → K → Ordering) (key_of : A → V → K) 
 abbrev pub without : Place → List Place → List Place
 without p s = filter (λ q. not (same_place q p)) s
 
--- the insertion order of the collection c after p was inserted into the collection d: if d is c, p is now last in it
+-- the insertion order of the collection c after p was inserted into the collection d. If d is c, p is last in the order. If not, the order is as
+-- before
 abbrev pub put_last : (c d : ℕ) → Place → List Place → List Place
 put_last c d p insertion_order = cond (nat_eq d c) (insertion_order ++ p ∷ []) insertion_order
 
--- the insertion order of the collection c after p was removed from the collection d: if d is c, p is no longer in it
+-- the insertion order of the collection c after p was removed from the collection d. If d is c, the order is without p. If not, it is as before
 abbrev pub taken_out : (c d : ℕ) → Place → List Place → List Place
 taken_out c d p insertion_order = cond (nat_eq d c) (without p insertion_order) insertion_order
 
--- the insertion order of the collection c after all members were removed from the collection d: if d is c, it is empty
+-- the insertion order of the collection c after all members were removed from the collection d. If d is c, the order is empty. If not, it is as
+-- before
 abbrev pub emptied : (c d : ℕ) → List Place → List Place
 emptied c d insertion_order = cond (nat_eq d c) [] insertion_order
 
 module _ {V K : Type 0} (c : ℕ) where
-  -- THE INSERTION ORDER OF COLLECTION c AFTER A CALL: an object that the call inserted by its key is last. An object that the call removed is no
-  -- longer in the order. All other calls leave the order as it was
+  -- THE INSERTION ORDER OF COLLECTION c AFTER A CALL: an object that the call inserted by its key is last. An object that the call removed is not in
+  -- the order. All other calls leave the order as it was
   abbrev pub insertion_order_after : Command V K → Reply → List Place → List Place
   insertion_order_after (call.On d (one.Insertion (Insert p))) (looked n) insertion_order = put_last c d p insertion_order
   insertion_order_after (call.On d (one.Insertion (CursorInsert p))) (looked n) insertion_order = put_last c d p insertion_order
@@ -76,25 +78,24 @@ module _ {A V K : Type 0} (cmp : K → K → Ordering) (key_of : A → V → K) 
   IsOrderly w c insertion_order (call.SetValue p value) = IsAbsent p insertion_order ⊎ (has_key cmp key_of w (key_of w.adapter value) p ≡ true)
   IsOrderly w c insertion_order _ = Unit
 
-  -- ALL CALLS OF A LIST ARE ORDERLY for collection c: the first call is orderly, and whatever family it leads to, the remaining calls are orderly
-  -- from there
+  -- ALL CALLS OF A LIST ARE ORDERLY for collection c: the first call is orderly, and in whatever family it leads to, the remaining calls are orderly
   abbrev pub AreOrderly : Family A V → (c : ℕ) → List (Command V K) → List Reply → List Place → Type 0
   AreOrderly w c (command ∷ commands) (reply ∷ replies) insertion_order = IsOrderly w c insertion_order command
       × ((next : Family A V) → Step cmp key_of w command reply next → AreOrderly next c commands replies (insertion_order_after c command reply insertion_order))
   AreOrderly w c _ _ insertion_order = Unit {0}
 
-  -- A COLLECTION STAYS SORTED by each call that is orderly for it
+  -- EACH COLLECTION STAYS SORTED if it was sorted before the call, and the call is orderly for it
   abbrev pub StaysSorted : Family A V → Command V K → Family A V → Type 0
   StaysSorted old command new = (c : ℕ) → WhileSorted cmp key_of old c (λ s. IsOrderly old c s command → IsSortedAfter cmp key_of c new)
 
-  -- AN ORDERLY CALL KEEPS THE INSERTION ORDER of a collection: if it had one before the call, it now has the one that `insertion_order_after`
-  -- computes
+  -- AN ORDERLY CALL KEEPS THE INSERTION ORDER of a collection: if the collection had an insertion order before the call, it then has the order that
+  -- `insertion_order_after` computes
   abbrev pub KeepsOrder : Family A V → Command V K → Reply → Family A V → Type 0
   KeepsOrder old command reply new = (c : ℕ) (insertion_order : List Place) → KeepsInsertionOrder cmp key_of old c insertion_order → IsOrderly old c insertion_order command
       → KeepsInsertionOrder cmp key_of new c (insertion_order_after c command reply insertion_order)
 
-  -- A NEW COLLECTION has an empty insertion order if `open` made it. If `take` made it, it has the insertion order that the collection had from which
-  -- it was taken
+  -- A NEW COLLECTION has an empty insertion order if `open` made it. If `take` made it, it has the insertion order of the collection whose members
+  -- were taken
   abbrev pub StartsInOrder : Family A V → Command V K → Reply → Family A V → Type 0
   StartsInOrder old (call.Open f kind) (opened d) new = KeepsInsertionOrder cmp key_of new d []
   StartsInOrder old (call.Take c) (opened d) new = (insertion_order : List Place) → KeepsInsertionOrder cmp key_of old c insertion_order → KeepsInsertionOrder cmp key_of new d insertion_order

@@ -30,16 +30,16 @@ module _ {V K : Type 0} where
   descends (call.Range c min max) = Some c
   descends _ = None
 
--- A REPLY IS WELL NAMED if it is not a refusal, or if it is the refusal `AlreadyLinked`. The reply of an `entry` that found a member with its key is
--- not well named
+-- A REPLY IS WELL NAMED if no refusal except `AlreadyLinked` applied to the call: the reply is this refusal, or it is no refusal. The only exception
+-- is the reply of an `entry` that found a member with its key. It is not well named, because the call inserts nothing
 abbrev pub IsWellNamed : Reply → Type 0
 IsWellNamed (refused AlreadyLinked) = Unit
 IsWellNamed (refused _) = ⊥
 IsWellNamed (entry true p looks) = ⊥
 IsWellNamed _ = Unit
 
--- a call makes at most the looks (key comparisons) of one search in a tree with the members s, and none for `Unbounded`. A range makes a search for
--- each bound, and its reply has the looks for the lower bound first
+-- the reply of a call has at most the number of looks (key comparisons) that one search may make in a tree with the members s. A search for
+-- `Unbounded` may make none. A range makes a search for each bound, and its reply has the looks for the lower bound first
 module _ {V K : Type 0} (s : List Place) where
   abbrev pub WithinBoundFor : Command V K → Reply → Type 0
   WithinBoundFor (call.On c (one.Search (LowerBound bound))) (found p looks) = WithinBound bound looks s

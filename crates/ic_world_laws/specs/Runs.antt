@@ -17,7 +17,7 @@ module _ {A V K : Type 0} (cmp : K → K → Ordering) (key_of : A → V → K) 
   pub record IsLawful (old : Family A V) (command : Command V K) (reply : Reply) (new : Family A V) : Type 0 where
     -- the answer, and the sequences, cursors and linked places of each field, are those that the model defines by cuts and joins
     pub step : Step cmp key_of old command reply new
-    -- no two sequences of one field share a member, and all members are linked and are objects
+    -- no two sequences of one field share a member, all members are linked, and there is an object at each member
     pub sound : IsSound new
     -- a refused call changes nothing. An insert with a well-named reply is refused exactly if its object is linked in the field of the collection
     pub refused_changes_nothing : (refusal : Refusal) → reply ≡ refused refusal → new ≡ old

@@ -61,7 +61,8 @@ module _ {A V K : Type 0} (cmp : K → K → Ordering) (key_of : A → V → K) 
   IsWithinBoth (call.Range c min max) (range places first_looks second_looks) = WhileSorted c (λ s. places ≡ filter (λ q. is_from min q && is_until max q) s)
   IsWithinBoth _ _ = Unit
 
-  -- COLLECTION c NOW HAS first the members of s for which `greater` is false, then p, and then the members for which it is true
+  -- IN THE FAMILY `new` COLLECTION c HAS first the members of s for which `greater` is false, then p, and then the members of s for which `greater`
+  -- is true
   abbrev pub PutsAfter : (Place → Bool) → ℕ → Place → Family A V → List Place → Type 0
   PutsAfter greater c p new s = (t : Sequence) × (collection new c ≡ Some t) × (t.members ≡ filter (λ q. not (greater q)) s ++ p ∷ filter greater s)
 

@@ -19,15 +19,15 @@ use std::alloc::{AllocError, Allocator};
 /// Makes a call as [`World::answer`] does. Its contract states what users rely on, whatever the call is.
 ///
 /// - If the call is refused, nothing has changed.
-/// - If the call inserts an object into a collection, and collection, object and kind are right, it is refused exactly if the object
-///   is already linked in the field. For the call `entry` this holds if no member has the key.
+/// - If the call inserts an object into a collection, and no other refusal applies, it is refused exactly if the object is already
+///   linked in the field. For the call `entry` this holds if no member has the key.
 /// - If the call searches a tree of n members, it makes v looks (key comparisons), where `2^v <= (n + 1)^2`. It makes at least one
-///   look if there is a member. A range returns the looks of both its searches. A search for `Unbounded` makes no look.
-/// - If the tree is sorted, `find` and an occupied `entry` return the first member with the key, and no member has the key of
-///   a vacant entry. `lower_bound` and `upper_bound` return the first and the last member within the bound, and `range` returns
-///   all members within both bounds.
-/// - An insert by key adds the object after all members whose keys are not greater than the key of the object. A vacant entry adds
-///   the object after all members whose keys are not greater than the key of the entry.
+///   look if there is a member. A range returns the number of looks of each of its two searches. A search for `Unbounded` makes no
+///   look.
+/// - If the tree is sorted, `find` and `entry` return the first member with the key, if any member has the key. `lower_bound` and
+///   `upper_bound` return the first and the last member within the bound, and `range` returns all members within both bounds.
+/// - If the tree is sorted, an insert by key adds the object after all members whose keys are not greater than the object's key. An
+///   `entry` that finds no member with its key adds the object after all members whose keys are not greater than this key.
 /// - A sorted collection stays sorted, with members of equal keys in the order of their insertion. The exceptions are calls that
 ///   insert an object into the collection by position or by a key that is not the object's own. Calls that reverse, splice, split
 ///   or dispose of the collection, or that give a member another key, are exceptions, too.
@@ -47,12 +47,13 @@ where
     world.answer(command)
 }
 
-/// Makes the calls in order as [`World::run`] does. For each call, with the world before and after it, its contract states what the contract of
-/// [`answer`] states for one call.
+/// Makes the calls in order as [`World::run`] does. Its contract states of each of these calls what the contract of [`answer`]
+/// states of one call.
 ///
-/// It appends the answers to `answers`. After any list of calls, every answer, sequence, cursor and linked place is the one that the model defines.
-/// The model cuts and joins sequences without common members. An insert is refused exactly if its object is already linked. A tree that only inserts
-/// by key and removals have changed has its members with equal keys in the order of their insertion.
+/// It appends the answers to `answers`. After any list of calls, every answer, sequence, cursor and linked place is the one that
+/// the model defines. The model cuts and joins sequences without common members. An insert is refused exactly if its object is
+/// already linked. If only inserts by key and removals have changed a tree, its members with equal keys are in the order of their
+/// insertion.
 ///
 /// If there is not enough memory for the answers, neither the world nor the answers have changed.
 pub fn run<A: KeyAdapter, M: Allocator + Copy>(

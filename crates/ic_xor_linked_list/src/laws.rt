@@ -17,7 +17,7 @@ use ic_link_ops::xor_linked_list::XorLinkedListOps;
 
 /// The law of a reversal: if a table represents a sequence for the list, it represents the reversed sequence for the reversed list.
 ///
-/// No entry of an XOR list states which of its neighbors is before it. The call does not write the table. O(1).
+/// No entry of an XOR list states which neighbor of its place comes first. Therefore the call writes no entry. O(1).
 pub fn reversed_is_represented<T, L: XorLinkedListOps>(list: &mut XorLinkedList<T>, links: &L)
     ensures shown { (s : List Place) → Represents L.linked L.HasNeighbors (L.table links.now) list.old s
         → Represents L.linked L.HasNeighbors (L.table links.now) list.new (reverse s) }

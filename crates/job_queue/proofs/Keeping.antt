@@ -1,4 +1,4 @@
--- Lemmas which show that each call of a queue maintains a list whose members have the waiting jobs.
+-- Lemmas which say that each call of a queue maintains a list whose members have the waiting jobs.
 use Rattle.std.specs.Prelude.{Result, Ok, Err, IfErr, IsErr, IsErrAnd}
 use Rattle.std.proofs.Common.{◌≡◌, ◌^◌, leb, None, Some, List, [], ◌∷◌, drop, refl, sym, ap, subst, ◌∙◌, arith}
 use Rattle.std.proofs.lemmas.Bool.{false_from_ne_true}
@@ -48,7 +48,7 @@ module _ {A : Type 0} (links : DoublyLinkOps A) {objects : Objects Job} {list : 
       let begins = stand_first objects p there (answer k.members k.shown) (record { placed = k.placed; are = k.are }) in
       (begins, (has_taken (λ e. refl) (subst (Has objects links list) begins k) answer removed released refl there frees).1)
 
--- a call passes on the error `e` of the result `r`: what holds of `e` holds of the error in `r`
+-- a call passes on an error, so the result `r` has the error `e`. Therefore, if `P` holds of `e`, it holds of the error in `r`
 pub passed_on : {T E : Type 0} (P : E → Type 0) (r : Result T E) {e : E} → IsErr r × IsErrAnd r (λ passed. passed ≡ e) → P e → IfErr r P
 passed_on P (Err passed) is p = subst P (sym is.1) p
 passed_on P (Ok x) is p = absurd is.1

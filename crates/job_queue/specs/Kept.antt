@@ -1,4 +1,4 @@
--- What a contract sees of a queue of jobs, and what the queue maintains for its pool and its list.
+-- Definitions that say what a contract sees of a queue of jobs, and what the queue maintains for its pool and its list.
 use Rattle.std.specs.Prelude.{◌^◌, leb, Bool, List}
 use Rattle.ic_link_ops.specs.Prelude.{Objects, values_at}
 use Rattle.ic_link_ops.specs.Chains.{Ends}
@@ -19,6 +19,6 @@ module _ {A : Type 0} (objects : Objects Job) (links : DoublyLinkOps A) (list : 
   abbrev pub queue_of : Jobs
   queue_of = record { waiting = jobs_of; is_full = leb (2 ^ 32) objects.next }
 
-  -- WHAT A QUEUE MAINTAINS: the members of the list have the waiting jobs, in order, and no place without a job is linked
+  -- a queue maintains these facts: the members of the list have the waiting jobs, in order, and no place without a job is linked
   abbrev pub IsKept : Type 0
   IsKept = HasValues neighbors_of is_linked (plain_table links) list objects jobs_of

@@ -12,25 +12,26 @@ use Rattle.ic_hash_table.proofs.Chains.{chains_nothing}
 use Rattle.ic_hash_table.proofs.SideBySideSequences.{take_beside}
 use Rattle.ic_hash_table.specs.Searches.{Finds}
 
--- RESULTS OF AN INSERT OF A NEW KEY: if the goal holds for an insert, for a member with the key and for a refusal, then it holds for every result
+-- `Goal` holds for every result of an insert of a new key if it holds in three cases: the object is inserted, a member has the key, and the insert is
+-- refused
 pub unique_either : {Y X P Q R S Goal : Type 0} (W : X → Type 0) (r : Result (Option Y) X) → IfOk r (λ found. IfSome found (λ member. Q)) → IfOk r (λ found. IfNone found P)
     → IfErr r (λ e. W e × S × R) → (P → Goal) → (Q → Goal) → (R → S → Goal) → Goal
 unique_either W (Ok None) same inserted refused puts keeps refuses = puts inserted
 unique_either W (Ok (Some y)) same inserted refused puts keeps refuses = keeps same
 unique_either W (Err e) same inserted refused puts keeps refuses = refuses refused.2 refused.1
 
--- a removal by a key removes a member or finds none: if H holds of some sequence before, then in both cases J holds of some sequence after
+-- a removal by a key removes the member `r`, or finds none. If `H` holds of the sequence `s` before the removal, then `J` holds of some sequence after it
 pub taken_either : (H J : List Place → Type 0) (is : Place → Bool) {Same : Type 0} (r : Option Place) (s : List Place) → H s → Finds is s r
     → IfSome r (λ p. (front back : List Place) → H (front ++ p ∷ back) → J (front ++ back)) → IfNone r Same → (Same → J s) → (u : List Place) × J u
 taken_either H J is None s held found removed nothing same = (s, same nothing)
 taken_either H J is (Some p) s held found removed nothing same = (found.0 ++ found.1, removed found.0 found.1 (subst H found.2 held))
 
--- if the goal holds for a call that returns true and for a call that returns false, then it holds for each call that returns whether it did something
+-- the result `b` of a call says whether the call did something. If `Goal` holds both for true and for false, then it holds for `b`
 pub told_either : {P Q Goal : Type 0} (b : Bool) → OnTrue b P → OnFalse b Q → (P → Goal) → (Q → Goal) → Goal
 told_either true did not_done does keeps = does did
 told_either false did not_done does keeps = keeps not_done
 
--- each sequence has the gap after its first member, or the gap at null if the sequence is empty
+-- a cursor is on the first member of the sequence `s`, or at null if `s` is empty. Then `s` has a gap after the cursor
 pub gap_after_first : (s : List Place) (r : Option Place) → r ≡ first s → (gap : Cut) × (join gap ≡ s) × IsAfter gap r
 gap_after_first [] r is = (record { front = []; back = [] }, refl, is)
 gap_after_first (x ∷ s) r is = (record { front = x ∷ []; back = s }, refl, is)
@@ -51,7 +52,7 @@ new_beside successor hash fronts eq key_of t table objects new = (
   tt,
 )
 
--- AFTER A REMOVAL, whatever its result is, alike members are still consecutive. H holds of the sequence before the removal, and J of the sequence after
+-- AFTER A REMOVAL, whatever its result is, alike members are still consecutive. `H` holds of the sequence before the removal, and `J` of the sequence after
 -- it
 pub removed_beside : (alike : Place → Place → Bool) → IsPartialEquivalence alike → (H J : List Place → Type 0) {Same : Type 0} (answer : Bool) {p : Place} (s : List Place) → H s
     → AreSideBySide alike s → (IsTrue answer ↔ IsMember p s) → ((front back : List Place) → H (front ++ p ∷ back) → J (front ++ back)) → OnFalse answer Same → (Same → J s)

@@ -57,7 +57,7 @@ module _ (test : Place → Bool) (s : List Place) where
       counted = omega (arith, k.counted, rest_is);
     }
 
-    -- the count is below the number of all places, because no place occurs twice in the sequence
+    -- the count is below 8589934591, because the sequence has no place twice, and such a sequence has at most 8589934591 places
     pub few_counted : IsDistinct s → count < 8589934591
     few_counted distinct = omega (arith, k.counted, rest_is, length-filter_both test (λ q. not (test q)) (λ q. refl) s, few_places s distinct)
 

@@ -32,12 +32,12 @@ nothing_summed {n = n} z t e = rw e (record {
 pub nothing_consistent : {E S : Type 0} {n : E → Node} (z : Summaries S) (t : Table E) {root : Option Place} → root ≡ None → RepresentsConsistent n z t root []
 nothing_consistent {n = n} z t e = ((nothing_summed {n = n} z t e).shows, λ q member but x fresh. absurd (omega (arith, member)))
 
--- if a result is `Ok`, then what is known for `Ok` holds
+-- `OnOk r P` says that `P` holds if the result `r` is `Ok`. So if `r` is `Ok`, then `P` holds
 pub on_ok : {X Y P : Type 0} (r : Result X Y) → is_ok r ≡ true → OnOk r P → P
 on_ok (Ok x) e holds = holds
 on_ok (Err y) e holds = let never : false ≡ true = e in absurd (cc)
 
--- if Q follows from P, and P holds if a result is `Ok`, then Q holds if the result is `Ok`
+-- if `Q` follows from `P`, and `P` holds if the result `r` is `Ok`, then `Q` holds if `r` is `Ok`
 pub on_ok_map : {X Y P Q : Type 0} → (P → Q) → (r : Result X Y) → OnOk r P → OnOk r Q
 on_ok_map follows (Ok x) holds = follows holds
 on_ok_map follows (Err y) holds = tt
@@ -46,13 +46,13 @@ pub if_err_map : {X Y : Type 0} {F G : Y → Type 0} → ((y : Y) → F y → G 
 if_err_map follows (Ok x) holds = tt
 if_err_map follows (Err y) holds = follows y holds
 
--- if the goal holds for an insert that is accepted and for an insert that is refused, then it holds for each result of an insert
+-- `Goal` holds for each result of an insert if it holds for an accepted insert and for a refused insert
 pub either_answer : {X Y P Q Goal : Type 0} (F : Y → Type 0) (r : Result X Y) → OnOk r P → OnErr r Q → IfErr r F → (P → Goal) → (Q → (y : Y) → F y → Goal) → Goal
 either_answer F (Ok x) holds refused unchanged accepts refuses = accepts holds
 either_answer F (Err y) holds refused unchanged accepts refuses = refuses refused y unchanged
 
--- AFTER AN INSERT, whatever its result is, each fresh summary is right, the table covers as many places, and each place still has its room for a
--- summary
+-- AFTER AN INSERT, whatever its result is, each fresh summary is right, and the table covers as many places as before. Each place that had room for a
+-- summary still has it
 module _ {N M E S A : Type 0} (Trace : N → N → List LinkStep → Type 0) (n : E → Node) (table : N → Table E) (summaries : M → Summaries S) (Covers : M → Place → Type 0) (Refused : N → N → Place → Type 0)
     (keeps : (a b : N) (p : Place) → Refused a b p → table b ≡ table a) (old new : Augmented N M) (tree after : RBTree A (Option Place)) (p : Place) where
   pub record AfterInsert : Type 0 where
@@ -76,7 +76,8 @@ module _ {N M E S A : Type 0} (Trace : N → N → List LinkStep → Type 0) (n 
         extent = ap (λ (t : Table E). t.extent) same;
       }
 
--- if a call does not change the extent of a table, then there is room at each place that the table covers afterwards, and at each linked place
+-- there is room at each place that the table `old` covers. If a call does not change the table's extent, then there is room at each covered place and at
+-- each linked place after the call
 module _ {L E : Type 0} (node : E → Node) (table : L → Table E) (linked : E → Bool) (alike : (e : E) → (node e).linked ≡ linked e)
     (law : (t : L) (q : Place) → IsLinked linked (table t) q → IsCovered (table t) q) (Room : Place → Type 0) (old : L) (room : (q : Place) → IsCovered (table old) q → Room q) where
   pub room_covered : (new : L) → (table new).extent ≡ (table old).extent → (q : Place) → IsCovered (table new) q → Room q

@@ -40,7 +40,7 @@ module _ {E V : Type 0} {n : E → Node} {objects : Objects V} where
         other_placed = q.other_placed;
       }
 
--- if P holds and Q holds in case a result is `Ok`, then both hold in that case
+-- if `P` holds when the result `r` is `Ok`, and `Q` also holds then, then `P × Q` holds when `r` is `Ok`
 pub both_ways : {A X : Type 0} (P Q : Type 0) (r : Result A X) → OnOk r P → OnOk r Q → OnOk r (P × Q)
 both_ways P Q (Ok a) p q = (p, q)
 both_ways P Q (Err e) p q = tt

@@ -1,4 +1,5 @@
--- What the tests know of a tree with summaries: its summaries are fresh, and there is room for a summary at each place of the table.
+-- Facts about a tree with summaries, which each call of a test maintains: its summaries are fresh, and there is room for a summary at each place of the
+-- table.
 use Rattle.std.specs.Prelude.{Option, ℕ, ◌<◌, List}
 use Rattle.ic_link_ops.specs.Prelude.{Place, index_of, Objects, Table, IsCovered}
 use Rattle.ic_link_ops.specs.RedBlackTree.{Node, Represents}
@@ -14,16 +15,16 @@ use Rattle.ic_augmented.specs.declared.augmented_table.AugmentedTable.{Augmented
 use Rattle.ic_augmented.specs.declared.augmented.Augmented.{Augmented}
 
 module _ {N M E S A : Type 0} (n : E → Node) (table : N → Table E) (summaries : M → Summaries S) (Covers : M → Place → Type 0) where
-  -- THE TREE IS READY FOR READS AND EDITS: it represents some members, all its summaries are fresh and right, and each covered place has room for a
-  -- summary
+  -- the table represents `members` for the tree, all summaries of the members are fresh and right, and each covered place has room for a summary. So the
+  -- tree is ready for reads and edits
   pub record IsReady (tree : RBTree A (Option Place)) (summed : Augmented N M) : Type 0 where
     pub members : List Place
     pub shown : RepresentsAugmented n (summaries (summaries_of summed)) (table (links_of summed)) (root_of tree) members
     pub consistent : RepresentsConsistent n (summaries (summaries_of summed)) (table (links_of summed)) (root_of tree) members
     pub room : (q : Place) → IsCovered (table (links_of summed)) q → Covers (summaries_of summed) q
 
--- INTERVALS: the tree is ready for reads and edits, and its members are intervals, in the order of their starts. The start of a member is its key, and
--- its end is its number in the table of summaries
+-- the tree is ready for reads and edits, and its members are intervals, in the order of their starts. The start of a member is its key, and its end is its
+-- number in the table of summaries
 module _ {N E A B : Type 0} (n : E → Node) (table : N → Table E) (starts : N → Objects ℕ) where
   pub record AreIntervals (tree : RBTree A (Option Place)) (summed : Augmented N (AugmentedTable ℕ ℕ B)) : Type 0 where
     pub ready : IsReady n table greatest (λ summaries q. index_of q < room_of summaries) tree summed

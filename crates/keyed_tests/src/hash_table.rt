@@ -127,7 +127,7 @@ fn a_table_over_an_array(rt: HostRuntime) {
     assert_true(&rt, play(&mut table, &mut links, &objects, EDITS));
 }
 
-// The edits of a hash table over buckets that are lent must have the results that they have over buckets of its own.
+// The edits of a hash table over buckets that are lent must have the results that they have over buckets that the table owns.
 #[test]
 fn a_table_over_a_slice(rt: HostRuntime) {
     let (objects, mut links): (_, LinkOps) = eight_objects(rt.alloc(), NUMBERS).expect(
@@ -139,7 +139,7 @@ fn a_table_over_a_slice(rt: HostRuntime) {
     assert_true(&rt, play(&mut table, &mut links, &objects, EDITS));
 }
 
-// A search in a chain of two members, which looks at both of them.
+// A search looks at both members of a chain of two.
 const SEARCH: &[Step] = &[
     Step::Insert(0),
     Step::Insert(3),
@@ -175,8 +175,8 @@ fn entries(rt: HostRuntime) {
     assert_true(&rt, play(&mut table, &mut links, &objects, ENTRIES));
 }
 
-// An object is entered into a table that has the object at place 0. The member that then has the key is the object at 0 if the keys are equal, or else
-// the given object.
+// An object is entered into a table that has the object at place 0. If both objects have the same key, the call must return the object at place 0, and
+// otherwise the entered object.
 const ENTERED_EQUAL: &[Step] = &[
     Step::Insert(0),
     Step::EnterOrFind(2, Some(0)),
@@ -245,7 +245,7 @@ fn a_table_by_stds_hash(rt: HostRuntime) {
     assert_true(&rt, play(&mut table, &mut links, &objects, FOUND));
 }
 
-// The contents of a table in which several objects have the same key.
+// The steps of a test of a table in which several objects have the same key.
 const EQUAL_KEYS: &[EqualStep] = &[
     EqualStep::Insert(0),
     EqualStep::Insert(6),

@@ -81,7 +81,7 @@ enum Kept {
     Rest,
 }
 
-// Keeps one part of the members in `tree`, and returns a tree of the remaining members.
+// Keeps in `tree` the members that `part` names, and returns a tree of the remaining members.
 fn parted<L: RBTreeOps>(
     tree: &mut RBTree<OwnKey>,
     links: &mut L,
@@ -99,7 +99,7 @@ fn parted<L: RBTreeOps>(
     }
 }
 
-// Moves to `tree` the members of `other` whose keys `tree` does not have, and returns a tree of the members of `other` whose keys both have.
+// Moves to `tree` the members of `other` whose keys `tree` does not have, and returns a tree of the members of `other` whose keys both trees have.
 fn united<L: RBTreeOps>(
     tree: &mut RBTree<OwnKey>,
     links: &mut L,
@@ -143,7 +143,7 @@ fn write_merged<L: RBTreeOps>(
     write_members(notes, &tree, &*links, objects);
 }
 
-// Notes the members of the union of two trees, and the members that both had.
+// Notes the members of the union of two trees, and the members of the second tree whose keys both trees had.
 fn write_united<L: RBTreeOps>(notes: &mut Text, links: &mut L, objects: &Objects<u64>)
     requires covers { (L.table links.old).extent.places ≡ 8 }
     requires placed { (q : Place) → index_of q < 8 → is_placed objects.now q ≡ true }

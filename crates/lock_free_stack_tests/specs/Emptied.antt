@@ -1,4 +1,4 @@
--- A stack is empty at the end if all that was pushed was taken, which follows from the records of all holders.
+-- After a stack is emptied, the records of all holders prove that every place which was pushed to it has been taken.
 use Rattle.std.specs.Prelude.{◌≡◌, ℕ, List, [], Contains}
 use Rattle.ic_unsafe_ref.specs.declared.place.Place.{Place}
 use Rattle.ic_lock_free_stack.specs.declared.step.Entry.{Entry}
@@ -7,8 +7,8 @@ use Rattle.ic_lock_free_stack.specs.OneHistory.{Party, IsHistory}
 use Rattle.ic_lock_free_stack.specs.Orders.{sent, got, of_record, of_history}
 use Rattle.stack_uses.specs.Mail.{IsOnlyReceiver, IsMail}
 
--- ALL THAT WAS PUSHED TO THE STACK WAS TAKEN: each place was taken as often as it was pushed, and in the order of the pushes. If only one holder took
--- places, this holder has received all of them
+-- each place was taken from the stack as often as it was pushed to the stack, and in the order of the pushes. If only one holder took places, this holder
+-- has received all of them
 pub record IsEmptied (stack : ℕ) (order : List Entry) (parties : List Party) : Type 0 where
   pub one : IsHistory order parties
   pub as_often : (p : Place) → in_all (puts stack p) parties ≡ in_all (takes_out stack p) parties

@@ -16,7 +16,7 @@ use std::thread::Threads;
 // The number of places that each sender sends, in the order of their indexes.
 const SENT: usize = 2000;
 
-// The number of turns in which the receiver looks into the mailbox.
+// The number of turns in each of which the receiver tries to receive a place.
 const TURNS: usize = 100_000;
 
 // A holder that works in a thread. The holder is the receiver if `receives` is true, or else the sender with this number.

@@ -33,7 +33,7 @@ module _ {V : Type 0} where
     by true e rest both = omega (arith, both)
     by false e rest both = omega (arith, rest e)
 
-  -- The entries without the one that has a key are at most as many as before. After an entry is touched, there are as many entries as before
+  -- If the entry with a key is removed, there are at most as many entries as before. After an entry is touched, there are as many entries as before
   pub few_without : (key capacity : ℕ) (entries : List (Entry V)) → length entries ≤ capacity → length (without key_of key entries) ≤ capacity
   few_without key capacity entries few = omega (arith, few, length-filter_both (has_key key_of key) (λ d. not (has_key key_of key d)) (λ d. refl) entries)
 

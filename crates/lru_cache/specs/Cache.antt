@@ -1,4 +1,4 @@
--- What contracts see of a cache: its entries, from the one that was touched last to the oldest, and its capacity.
+-- A contract sees the entries of a cache, from the one that was touched last to the oldest, and the cache's capacity.
 use Rattle.std.specs.Prelude.{ℕ, ◌≤◌, Option, List, ◌∷◌, length, take, slice_get}
 use Rattle.std.specs.Option.{option_map, option_or}
 use Rattle.ic_keyed.specs.Keyed as keyed
@@ -41,7 +41,8 @@ module _ {V : Type 0} where
   abbrev pub inserted : Entry V → Cache V → List (Entry V)
   inserted entry cache = take cache.capacity (entry ∷ without entry.key cache.entries)
 
-  -- the entry that leaves the cache when `entry` is inserted: the one with the same key, or else the one that is beyond the capacity then
+  -- the entry that leaves the cache when `entry` is inserted: the entry with the same key, or else the last entry if the cache then has more entries than
+  -- its capacity
   abbrev pub leaves : Entry V → Cache V → Option (Entry V)
   leaves entry cache = option_or (entry_with entry.key cache.entries) (slice_get (entry ∷ cache.entries) cache.capacity)
 
@@ -53,7 +54,7 @@ module _ {V : Type 0} where
   abbrev pub cache_of : ℕ → KeyedValues (Entry V) → Cache V
   cache_of capacity kept = record { entries = kept.values; capacity = capacity; parts = kept.parts }
 
-  -- WHAT HOLDS OF EACH CACHE: no key occurs twice, and there are at most as many entries as the capacity
+  -- in each cache no key occurs twice, and there are at most as many entries as the capacity
   pub record IsSound (cache : Cache V) : Type 0 where
     pub own : keyed.HaveOwnKeys key_of cache.entries
     pub few : length cache.entries ≤ cache.capacity

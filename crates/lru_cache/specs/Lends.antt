@@ -1,4 +1,4 @@
--- Which entries a cache has when a mutable reference into it ends.
+-- Definitions that say which entries a cache has when a mutable reference into the cache ends.
 use Rattle.std.specs.Prelude.{◌≡◌, ℕ, Bool, Option, List, ⊤}
 use Rattle.std.specs.Borrow.{Fml, RattleType, MutBor, follows_so}
 use Rattle.std.specs.declared.alloc.Allocator.{Ghosts}

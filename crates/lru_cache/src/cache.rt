@@ -59,8 +59,8 @@ impl<V, A: Allocator> LruCache<V, RBTree<ByKey<Entry<V>>>, A> {
         LruCache::by_tree(alloc, capacity)
     }
 
-    /// Makes a cache without entries whose capacity is 18,446,744,073,709,551,615. There are fewer places, so that an entry leaves only if a call
-    /// removes or replaces it. It takes no memory.
+    /// Makes a cache without entries whose capacity is 18,446,744,073,709,551,615. There are fewer places than this number, so an entry leaves only if a
+    /// call removes or replaces it. It takes no memory.
     pub fn unbounded(alloc: A) -> TreeLruCache<V, A>
     where
         A: Copy,
@@ -160,7 +160,7 @@ impl<V, I: Index<Entry<V>, A>, A: Allocator> LruCache<V, I, A> {
         Some(&self.entries.peek(key)?.value)
     }
 
-    /// Returns the value of the key, if there is one, and touches the entry: the entry moves to the front, and the other entries keep their order.
+    /// Returns the value of the key, if there is one, and touches the entry. The touched entry moves to the front, and the other entries keep their order.
     /// The call costs what `find` does, and takes no memory.
     pub fn get(&mut self, key: u64) -> Option<&V>
         ensures* touches { sem 𝓛 (EndsAs V.row I.row A.row I.Links.row I.Order.row I.Index I.Links.Tables I.Order.unlinked I.Order.is_linked I.Order.width I.Order.next_word I.Order.KeepsOthers I.Order.prev A.Allocator self.entry (touched key self.old.entries)) }

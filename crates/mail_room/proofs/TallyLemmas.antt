@@ -16,7 +16,8 @@ use Rattle.ic_lock_free_stack.proofs.MomentLemmas.{by_test}
 use Rattle.stack_uses.specs.Delivery.{of_sender, IsDelivered}
 use Rattle.mail_room.specs.Tally.{in_order_from, in_order_of, IsNext}
 
--- one further place of a sender: if it is the sender's next place, then the number rises by 1, and otherwise it stays
+-- one further place `p` of a sender comes. If `p` is the sender's next place, then the number of its places that came in order rises by 1, and otherwise
+-- this number stays
 next_more : (first : ℕ) (ps : List Place) (p : Place) → index_of p ≡ first + in_order_from first ps → in_order_from first (ps ++ p ∷ []) ≡ in_order_from first ps + 1
 next_more first [] p e = ap (λ b. cond b 1 0) (eq-eqb (index_of p) first (omega (arith, e)))
 next_more first (q ∷ ps) p e =
@@ -37,7 +38,7 @@ other_more first (q ∷ ps) p ne =
     (λ _ ne. other_more first ps p ne)
     ne
 
--- the further place is one of the places of the sender with the number `k`, and of no other sender
+-- if `p` is a place of the sender with the number `k`, then it is added to the places of this sender. The places of every other sender stay (`others_stay`)
 own_more : (count k : ℕ) (ps : List Place) (p : Place) → index_of p / count ≡ k → of_sender count k (ps ++ p ∷ []) ≡ of_sender count k ps ++ p ∷ []
 own_more count k [] p e = ap (λ b. cond b (p ∷ []) []) (eq-eqb (index_of p / count) k e)
 own_more count k (q ∷ ps) p e =
@@ -78,7 +79,7 @@ sum_more f g q a (suc n) low high more same =
     omega (arith, one, rest)) in
     sum_by-cons g a (range_with_len (a + 1) n) ∙ (both ∙ ap (λ m. m + 1) (sym (sum_by-cons f a (range_with_len (a + 1) n))))
 
--- THE TALLY: `numbers` has, for each sender, how many of its places came in order, and `all` is their sum
+-- `numbers` has, for each sender, how many of its places came in order, and `all` is their sum
 pub record IsTally (senders count : ℕ) (numbers : List ℕ) (all : ℕ) (came : List Place) : Type 0 where
   pub len : length numbers ≡ senders
   pub each : 0 < count → (k : ℕ) → k < senders → slice_index_or numbers k 0 ≡ in_order_from (k * count) (of_sender count k came)

@@ -1,4 +1,4 @@
--- How many places came in the order in which their sender sent them.
+-- Definitions that count the places which came in the order in which their sender sent them.
 use Rattle.std.specs.Prelude.{◌≡◌, ℕ, ◌+◌, ◌*◌, ◌/◌, ◌%◌, ◌<◌, ◌==◌, if◌then◌else◌, List, [], ◌∷◌, length, slice_index_or, sum_by}
 use Rattle.std.specs.List.{range_with_len}
 use Rattle.ic_unsafe_ref.specs.declared.place.Place.{Place}

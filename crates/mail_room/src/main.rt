@@ -26,7 +26,7 @@ struct Request {
     places: usize,
 }
 
-// Returns the number that the program's argument at this position is, or `None` if there is no number at this position.
+// Reads the program's argument at this position as a number. Returns `None` if there is no number at this position.
 fn number(rt: &impl Env, argument: usize) -> Option<usize> {
     let mut word = [0; LONGEST];
     let length = rt.arg(argument, &mut word).ok()?;
@@ -47,7 +47,7 @@ fn asked(rt: &impl Env) -> Option<Request>
     Some(Request { senders, places })
 }
 
-// Lets the senders send their places, and prints how many were sent, came, came out of order and were lost.
+// Lets the senders send their places. Prints how many places were sent, how many came, how many came out of order, and how many were lost.
 fn run<R: Print + AllocGlobal + Threads + Sync>(rt: &R, asked: Request) -> io::Result<()>
     requires senders { asked.senders ≤ 64 }
     requires places { asked.places ≤ 100000 }

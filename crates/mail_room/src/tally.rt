@@ -7,8 +7,8 @@ ghost use Rattle.mail_room.specs.Tally.{in_order_of, IsNext};
 use ic_unsafe_ref::Place;
 use std::alloc::{AllocError, Allocator};
 
-/// Returns how many of the places in `came` came as the next place of their sender, if each sender sends `places` places. The sender with the number
-/// k sends the places from the index `k * places` on.
+/// Returns how many of the places in `came` came as the next place of their sender, if each sender sends `places` places. The sender with the number `k`
+/// sends the places from the index `k * places` on.
 ///
 /// A place that comes a second time does not count, and a place of the same sender after a lost place does not count either.
 pub fn in_order<A: Allocator>(

@@ -1,4 +1,4 @@
--- What contracts see of a phone book: its entries by their places.
+-- A contract sees a phone book as its entries by their places.
 use Rattle.std.specs.Prelude.{◌≡◌, ◌^◌, ℕ, leb, None, Some, refl}
 use Rattle.std.specs.Coded.{Coded, code_by, coded×, coded_ℕ}
 use Rattle.ic_link_ops.specs.Prelude.{Place, Objects, Places, Frees, object_at}
@@ -31,7 +31,8 @@ pub record Removes (number : ℕ) (entry : Entry) (old new : Objects Entry) : Ty
   pub has : entry.number ≡ number
   pub freed : Frees old new place
 
--- WHY AN ENTRY IS REFUSED: Another entry has its number. Or no entry has it, but all places are in use or there is not enough memory
+-- an entry is refused for one of two reasons. Another entry has its number, or no entry has the number, but all places are in use or there is not enough
+-- memory
 abbrev pub IsRefused : Entry → Objects Entry → InsertError → Type 0
 IsRefused entry old (NumberTaken refused) = (refused ≡ entry) × (other : Entry) × IsFoundObject number_of old entry.number (Some other)
 IsRefused entry old (NotPlaced refused) = (value_of refused ≡ entry) × IsFoundObject number_of old entry.number None × (lacks_place refused ≡ leb (2 ^ 32) old.next)

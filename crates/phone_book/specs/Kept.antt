@@ -1,4 +1,4 @@
--- What a phone book maintains for its pool and its trees.
+-- The facts that a phone book maintains for its pool and its trees.
 use Rattle.std.specs.Prelude.{Option}
 use Rattle.ic_link_ops.specs.Prelude.{Place, Objects}
 use Rattle.ic_rbtree.specs.PlainTrees.{TreeLinkOps}

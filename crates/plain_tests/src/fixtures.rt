@@ -23,7 +23,7 @@ pub(crate) fn covering<W: Words>(rt: &impl Abort, alloc: Global) -> PlainTable<W
     links
 }
 
-/// Returns the reference to the object at the place with this index, which is covered and not linked.
+/// Returns the reference to the object at the place with this index. The place is covered and not linked.
 pub(crate) fn unlinked<W: Words, T>(
     rt: &impl Abort,
     links: &PlainTable<W>,

@@ -1,4 +1,4 @@
--- Lemmas which show that each call of `Slots` maintains `IsKept`, and what each handle names after one slot has changed.
+-- Lemmas which say that each call of `Slots` maintains `IsKept`, and what each handle names after one slot has changed.
 use Rattle.std.specs.Prelude.{⊤}
 use Rattle.std.proofs.Common.{◌≡◌, ◌≢◌, ℕ, ◌+◌, ◌-◌, ◌≤◌, ◌<◌, true, false, cond, List, [], ◌∷◌, ◌++◌, drop, length, Option, Some, None, IsSome, is_some, inl, inr, refl, sym, ap, subst, ◌∙◌, arith, length-append, true≢false}
 use Rattle.std.proofs.lemmas.Bool.{cases_eq, eqb-false, le-leb}
@@ -40,7 +40,8 @@ module _ {T : Type 0} where
   named_slot None g is = absurd (cc)
   named_slot (Some slot) g is = (slot, refl, grind (arith, nat_tests), grind (arith, nat_tests))
 
-  -- if one slot changes and its other generations name what they named before, then every handle except `handle` names what it named before
+  -- the slot of `handle` changes. If the slot's handles with other generations name what they named before, then every handle except `handle` names what it
+  -- named before
   others_said : {old new : Objects (Slot T)} (handle : Handle) {was : Option (Slot T)} {now : Slot T} (m n : ℕ) → object_at old handle.place ≡ was → Puts old new handle.place now
       → ((k : ℕ) → k ≢ handle.generation → (named_in (Some now) k ≡ named_in was k) × (given_in (Some now) k ≡ given_in was k))
       → (h : Handle) → h ≢ handle → (named (naming_of new n) h ≡ named (naming_of old m) h) × (is_given (naming_of new n) h ≡ is_given (naming_of old m) h)
@@ -84,7 +85,7 @@ module _ {T : Type 0} where
       vacant = left;
     }
 
--- how the list of vacant slots reads its table: the members and the links of a singly linked list
+-- the list of vacant slots reads its table as a singly linked list does
 pub slot_reading : {K A : Type 0} → Reading {L = PlainTable (OneWord K) A ⊤} (Represents successor) is_linked (list_from None) plain_table members_of
 slot_reading = record {
   kind = singly_lists (λ e. refl);
@@ -107,7 +108,7 @@ absent_off owner p none i [] own = tt
 absent_off owner p none i (x ∷ s) own = ((λ e. none_not i (sym none ∙ ap owner e ∙ own.0)), absent_off owner p none i s own.1)
 
 module _ {T : Type 0} {objects : Objects (Slot T)} {len : ℕ} (k : IsCounted objects len) where
-  -- THERE ARE FEW VALUES, because there are few places: at most 8,589,934,591
+  -- at most 8,589,934,591 slots have a value, because no place is counted twice
   pub few : len ≤ 8589934591
   few = omega (arith, k.count, few_places k.taken k.once)
 
@@ -196,7 +197,7 @@ module _ {T K A : Type 0} {objects : Objects (Slot T)} {links : PlainTable (OneW
       (popped : (s : List Place) → Represents successor (plain_table links) vacant s → Represents successor (plain_table after) front (drop 1 s)) (off : Unlinks is_linked (plain_table links) (plain_table after) p)
       (frame : (s : List Place) → Represents successor (plain_table links) vacant s → ChangesOnlyIn (plain_table links) (plain_table after) s)
       (fills : (s : Slot T) → object_at objects p ≡ Some s → (g ≡ s.generation) × (new ≡ with_object objects p (record s { value = Some value }))) where
-    -- the slot at the place `p` of the list's first member, before it gets the value
+    -- before the list's first member gets the value, its slot at the place `p` is vacant
     first_vacant : (was : Slot T) × (object_at objects p ≡ Some was) × IsUsable (Some was)
     first_vacant = owner_usable (object_at objects p) (subst (AllByRecursion (λ q. owner_or vacant_owner (object_at objects q) ≡ Some 0)) (first_is members (answer members shown)) (k.holds.owned.own 0)).0
 
@@ -248,7 +249,8 @@ module _ {T K A : Type 0} {objects : Objects (Slot T)} {links : PlainTable (OneW
     pub emptied_usable : h.generation + 1 ≢ 18446744073709551615 → IsUsable (object_at new h.place)
     emptied_usable more = subst IsUsable (sym (put_there puts)) (refl, omega (arith, emptied_below, own.2, more))
 
-    -- the slot is used up if its next generation is the last one. Otherwise the slot is inserted at the front of the list
+    -- if the slot's next generation is the last one, then the slot is used up. Otherwise the slot is inserted at the front of the list (`kept_vacated`). In
+    -- both cases the slots still maintain `IsKept`
     pub kept_used_up : h.generation + 1 ≡ 18446744073709551615 → IsKept new links vacant (len - 1)
     kept_used_up last = record {
       holds = holds_changed slot_reading vacant_owner objects k.holds puts (ap (λ b. cond b None (Some 0)) (le-leb 18446744073709551615 (own.0.generation + 1) (omega (arith, own.2, last))) ∙ sym owner_was);

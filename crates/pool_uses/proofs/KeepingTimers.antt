@@ -124,7 +124,8 @@ module _ {V : Type 0} {now : ℕ} {had : List (ℕ × V)} where
   pub takes_none : (start : List (Waiting V)) → TakesAll now had had start start
   takes_none start = record { taken = []; were = refl; due = tt; out = sym (append-nil had) }
 
-  -- if due timers were removed and then the first of the others is removed because it is due, then the first timers were removed, each of them due
+  -- if the first timers were removed because they were due, and then the first of the others is removed because it is due, then `TakesAll` holds of all
+  -- removed timers
   pub takes_one : {has more : List (ℕ × V)} {start old new : List (Waiting V)} {deadline : ℕ} {value : V} → TakesAll now had has start old → TakesFirst now deadline value old new
       → more ≡ has ++ (deadline, value) ∷ [] → TakesAll now had more start new
   takes_one {new = new} {deadline} {value} k one is =

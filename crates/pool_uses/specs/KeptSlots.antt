@@ -1,4 +1,4 @@
--- What `Slots` maintains for its pool and for its list of vacant slots.
+-- The facts that `Slots` maintains for its pool and for its list of vacant slots.
 use Rattle.std.specs.Prelude.{◌≡◌, ◌<◌, ◌^◌, cond, leb, ℕ, Bool, Option, Some, None, IsSome, List, [], length, ⊤}
 use Rattle.ic_link_ops.specs.Prelude.{Place, Objects, object_at, IsDistinct, Table}
 use Rattle.ic_link_ops.specs.declared.link.Link.{Link}
@@ -68,8 +68,8 @@ pub record IsCounted {T : Type 0} (objects : Objects (Slot T)) (len : ℕ) : Typ
   pub owned : EachInItsList (owner_of taken_owner objects) (alone [] taken)
   pub count : len ≡ length taken
 
--- WHAT SLOTS MAINTAIN: The list has exactly the slots without a value whose generation is not the last one. The table covers the place of each slot.
--- `len` is the number of slots with a value
+-- `Slots` maintains these facts. The list has exactly the slots without a value whose generation is not the last one. The table covers the place of each
+-- slot. `len` is the number of slots with a value
 pub record IsKept {T K A : Type 0} (objects : Objects (Slot T)) (links : PlainTable (OneWord K) A ⊤) (vacant : Front) (len : ℕ) : Type 0 where
   pub holds : Holds (Represents successor) is_linked plain_table members_of links (alone (list_from None) vacant) (owner_of vacant_owner objects)
   pub pooled : IsPooled is_linked objects (plain_table links)

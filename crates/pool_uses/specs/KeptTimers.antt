@@ -1,4 +1,4 @@
--- What a contract sees of timers: all timers of the tree wait, in the order of the tree.
+-- A contract sees all timers of the tree as waiting timers, in the order of the tree.
 use Rattle.std.specs.Prelude.{ℕ, ◌^◌, leb, Option, Some, None, List}
 use Rattle.std.specs.List.{filter_map}
 use Rattle.ic_link_ops.specs.Prelude.{Place, Objects, object_at}

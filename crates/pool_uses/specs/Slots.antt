@@ -1,4 +1,4 @@
--- What contracts see of slots: which value each handle names.
+-- A contract sees which value each handle names.
 use Rattle.std.specs.Prelude.{◌≡◌, ◌≢◌, ◌+◌, ◌<◌, ℕ, Bool, true, false, cond, eqb, leb, Option, Some, None, is_some, refl}
 use Rattle.std.specs.Coded.{Coded, code_by, coded×, coded_ℕ, coded_bool, coded_option}
 use Rattle.std.specs.FinMap as map
@@ -38,7 +38,7 @@ module _ {T : Type 0} where
   given_in None g = false
   given_in (Some slot) g = cond (eqb slot.generation g) (is_some slot.value) (leb (g + 1) slot.generation)
 
-  -- `named` is the value that the handle names, if there is one. `is_given` tells whether the handle was ever returned to a caller
+  -- `named` is the value that the handle names, if there is one. `is_given` says whether the handle was ever returned to a caller
   abbrev pub named : Naming T → Handle → Option T
   named slots h = named_in (map.get slots.slots (index_of h.place)) h.generation
 
@@ -58,19 +58,19 @@ module _ {T : Type 0} where
   abbrev pub IsVacantSlot : Handle → Naming T → Type 0
   IsVacantSlot h slots = IsUsable (map.get slots.slots (index_of h.place))
 
-  -- NOTHING IS NAMED: no handle names a value, and none was ever returned to a caller
+  -- no handle names a value, and none was ever returned to a caller
   pub record NamesNothing (slots : Naming T) : Type 0 where
     pub names : (h : Handle) → named slots h ≡ None
     pub given : (h : Handle) → is_given slots h ≡ false
     pub count : slots.count ≡ 0
 
-  -- NO HANDLE HAS CHANGED: each handle names what it named before, and as many handles name a value as before
+  -- each handle names what it named before, and as many handles name a value as before
   pub record IsUnchanged (old new : Naming T) : Type 0 where
     pub names : (h : Handle) → named new h ≡ named old h
     pub given : (h : Handle) → is_given new h ≡ is_given old h
     pub count : new.count ≡ old.count
 
-  -- THE HANDLE IS NEW: no call returned it before, and now it names the value. All other handles name what they named before
+  -- no call returned the new handle before, and now it names the value. All other handles name what they named before
   pub record Inserts (handle : Handle) (value : T) (old new : Naming T) : Type 0 where
     pub never : is_given old handle ≡ false
     pub nothing : named old handle ≡ None
@@ -79,8 +79,8 @@ module _ {T : Type 0} where
     pub others : (h : Handle) → h ≢ handle → (named new h ≡ named old h) × (is_given new h ≡ is_given old h)
     pub count : new.count ≡ old.count + 1
 
-  -- THE HANDLE IS OLD: a call returned it before, and now it names nothing. All other handles name what they named before. Unless the handle is the
-  -- last one of its slot, some slot is vacant
+  -- a call returned the handle before, and now it names nothing. All other handles name what they named before. Unless the handle is the last one of its
+  -- slot, some slot is vacant
   pub record Removes (handle : Handle) (old new : Naming T) : Type 0 where
     pub given : is_given new handle ≡ true
     pub nothing : named new handle ≡ None

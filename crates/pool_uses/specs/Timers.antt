@@ -1,4 +1,4 @@
--- What contracts see of timers: values that wait, in the order in which they are due.
+-- A contract sees timers as values that wait, in the order in which they are due.
 use Rattle.std.specs.Prelude.{◌≡◌, ◌≢◌, ◌<◌, ◌≤◌, ℕ, Bool, List, ◌∷◌, ◌++◌, map, refl}
 use Rattle.std.specs.Coded.{Coded, code_by, coded×, coded_ℕ, coded_bool, coded_list}
 use Rattle.std.specs.List.{AllByRecursion}

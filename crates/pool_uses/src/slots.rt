@@ -22,7 +22,8 @@ use ic_unsafe_ref::{Place, UnsafeRef};
 use std::alloc::{Allocator, Global};
 use std::marker::Model;
 
-/// The name of a value of [`Slots`]. It has a place and a generation, which distinguishes the values that the slot at this place has one after the other.
+/// The name of a value of [`Slots`]. It has a place and a generation. The generation distinguishes the values that the slot at this place has one after the
+/// other.
 #[derive(Clone, Copy, PartialEq, Eq)]
 pub struct Handle {
     place: Place,
@@ -132,8 +133,8 @@ impl<T: Drop, A: Allocator> Slots<T, A> {
         }
     }
 
-    /// Inserts the value into the slot that became vacant last, or into a new slot if none is vacant, and returns the handle of the value. O(1), and
-    /// it takes memory only for a new slot.
+    /// Inserts the value into the slot that became vacant last, or into a new slot if none is vacant. It returns the handle of the value. O(1), and it
+    /// takes memory only for a new slot.
     ///
     /// No call returned this handle before. If the value is refused, the caller gets it back, and nothing has changed. The error is `NoPlaceLeft`
     /// exactly if all 4,294,967,296 places are in use, and otherwise `OutOfMemory`. While a slot is vacant, no value is refused, and no slot is

@@ -26,13 +26,13 @@ starts_rise [] h = tt
 starts_rise (r ∷ []) h = tt
 starts_rise (r ∷ x ∷ s) h = (is_up r.start x.start (omega (arith, h.1.0)), starts_rise (x ∷ s) h.2)
 
--- TWO PARTS: if a list of regions that are apart is divided in two, then the regions of each part are apart
+-- if a list of regions that are apart is divided in two, then the regions of each part are apart
 pub parts_apart : (front back : List Region) → AreRegionsApart (front ++ back) → AreRegionsApart front × AreRegionsApart back
 parts_apart [] back h = (tt, h)
 parts_apart (x ∷ front) back h =
     let rest = parts_apart front back h.2 in ((h.0, all_front (λ later. end_of x < later.start) front back h.1, rest.0), rest.1)
 
--- CUT AT A REGION: the regions before the region `r` end before it, and the regions after `r` start after it
+-- the regions in `front` end before `r` starts, and the regions in `back` start after `r` ends. The regions are still apart without `r`
 pub cut_apart : (front : List Region) (r : Region) (back : List Region) → AreRegionsApart (front ++ r ∷ back)
     → AllByRecursion (λ x. end_of x < r.start) front × IsRegion r × AllByRecursion (λ x. end_of r < x.start) back × AreRegionsApart (front ++ back)
 cut_apart [] r back h = (tt, h.0, h.1, h.2)
@@ -52,7 +52,7 @@ IsOrApart out x = (x ≡ out) ⊎ AreApart out x
 pub apart_from : (front : List Region) (r : Region) (back : List Region) → AreRegionsApart (front ++ r ∷ back) → AllByRecursion (IsOrApart r) (front ++ r ∷ back)
 apart_from front r back h = all_with (IsOrApart r) front r back (inl refl) (all_map (λ x away. inr away) (front ++ back) (others_away front r back h))
 
--- A REGION IS ADDED: if `r` is apart from each region, and is inserted in the order of the addresses, then the regions of the new list are apart
+-- if `r` is apart from each region of a list, and is inserted in the order of the addresses, then the regions of the new list are apart
 pub added_apart : (front back : List Region) (r : Region) → IsRegion r → AreRegionsApart (front ++ back) → AllByRecursion (AreApart r) (front ++ back)
     → AllByRecursion (λ x. x.start < end_of r) front → AllByRecursion (λ x. r.start < end_of x) back → AreRegionsApart (front ++ r ∷ back)
 added_apart [] back r is h apart below above =
@@ -60,7 +60,7 @@ added_apart [] back r is h apart below above =
 added_apart (x ∷ front) back r is h apart below above =
     (h.0, all_with (λ later. end_of x < later.start) front r back (grind arith) h.1, added_apart front back r is h.2 apart.1 below.1 above)
 
--- A REGION IS REPLACED: if the region `r` can replace `out`, then the regions of the list with `r` at the position of `out` are apart
+-- if the region `r` can replace `out`, then the regions of the list with `r` at the position of `out` are apart
 pub changed_apart : (front : List Region) (out : Region) (back : List Region) {r : Region} → AreRegionsApart (front ++ out ∷ back) → FitsFor out r (front ++ out ∷ back) → AreRegionsApart (front ++ r ∷ back)
 changed_apart front out back {r} h fits =
     let cut = cut_apart front out back h in
@@ -68,7 +68,7 @@ changed_apart front out back {r} h fits =
     let apart : AllByRecursion (AreApart r) (front ++ back) = all_three (λ x away either again. grind arith) (front ++ back) (others_away front out back h) each each in
     added_apart front back r fits.is_region cut.3 apart (all_map (λ x low. omega (arith, low, fits.high)) front cut.0) (all_map (λ x high. omega (arith, high, fits.low)) back cut.2)
 
--- FREE ADDRESSES OF TWO PARTS: an address is free in a list exactly if it is free in one of the two parts of the list
+-- an address is free in a list exactly if it is free in one of the two parts of the list
 pub free_parts : (front back : List Region) (a : ℕ) → IsFree (front ++ back) a ↔ (IsFree front a ⊎ IsFree back a)
 free_parts [] back a = (λ free. grind arith, λ either. grind arith)
 free_parts (x ∷ front) back a = let rest = free_parts front back a in (λ free. grind (arith, rest), λ either. grind (arith, rest))
@@ -97,7 +97,7 @@ others_not front r back h a free own =
     let left : IsFree front a → a < r.start = free_below front r.start a (all_map (λ x low. omega (arith, low)) front cut.0) in
     grind (arith, (free_parts front back a).0 free, left, free_above back (end_of r) a cut.2)
 
--- NOTHING FITS BEFORE the first region that is long enough: the free addresses from an address on without a gap are in one region
+-- all regions in `front` are shorter than `length`. So `length` consecutive free addresses can start only in `whole` or after it
 pub lowest_fits : (length start : ℕ) (front : List Region) (whole : Region) (back : List Region) → AreRegionsApart (front ++ whole ∷ back) → AreShorter front length → 0 < length
     → FitsAt (front ++ whole ∷ back) length start → whole.start ≤ start
 lowest_fits length start [] whole back apart short some fits =

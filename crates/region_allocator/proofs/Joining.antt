@@ -29,13 +29,13 @@ beside_not region (x ∷ s) beside a own free = grind (arith, beside.0, beside_n
 adds_free : {r : Region} {old new : List Region} → Adds r old new → (a : ℕ) → IsFree new a ↔ (IsFree old a ⊎ Has r a)
 adds_free {r} adds a = rw (adds.is, adds.was) (free_with adds.front r adds.back a)
 
--- after the region `r` replaced `out`, the free addresses are those of the other regions and those of `r`. Before, they were those of the others and
--- of `out`
+-- before the region `r` replaces `out`, the free addresses are those of `out` and of the other regions. Afterwards they are those of `r` and of the other
+-- regions
 changes_free : {out r : Region} {old new : List Region} (changes : Changes out r old new) (a : ℕ)
     → (IsFree old a ↔ (IsFree (changes.front ++ changes.back) a ⊎ Has out a)) × (IsFree new a ↔ (IsFree (changes.front ++ changes.back) a ⊎ Has r a))
 changes_free {out} {r} changes a = (rw changes.was (free_with changes.front out changes.back a), rw changes.is (free_with changes.front r changes.back a))
 
--- THE REGION IS FREED if no free region shared an address with it, and the free addresses are now those from before and its own
+-- `region` is freed if no free region shared an address with it, and the free addresses are then the old ones and those of `region`
 frees : {region : Region} {old new : List Region} → IsRegion region → AllByRecursion (IsBeside region) old → ((a : ℕ) → IsFree new a ↔ (IsFree old a ⊎ Has region a)) → FreesRegion region old new
 frees {region} {old} is beside free = record { is_region = is; was_taken = beside_not region old beside; free = free }
 
@@ -61,7 +61,7 @@ module _ {A B : Type 0} {objects : Objects Region} {w : TreeLinkOps A} {root : O
   pub adds_frees : {new : List Region} → Touches objects shown region None None → Adds region shown new → FreesRegion region shown new
   adds_frees t adds = frees is t.each (adds_free adds)
 
-  -- THE REGION TOUCHES ONLY the free region before it, which is replaced by the two joined
+  -- `region` touches only the free region `front` before it. Then a region with the addresses of both can replace `front`
   module _ {front : Found} (t : Touches objects shown region (Some front) None) where
     pub front_fits : {out : Region} → object_at objects front.object ≡ Some out → FitsFor out (region_of front.region.start (front.region.length + region.length)) shown
     front_fits {out} there =
@@ -75,7 +75,7 @@ module _ {A B : Type 0} {objects : Objects Region} {w : TreeLinkOps A} {root : O
     front_frees resized = frees is t.each (λ a.
         let c = changes_free (resized front.region t.front_is.0.there) a in (λ free. grind (arith, c, t.front_is.1), λ either. grind (arith, c, t.front_is.1)))
 
-  -- THE REGION TOUCHES ONLY the free region after it, which is replaced by the two joined
+  -- `region` touches only the free region `back` after it. Then a region with the addresses of both can replace `back`
   module _ {back : Found} (t : Touches objects shown region None (Some back)) where
     pub back_fits : {out : Region} → object_at objects back.object ≡ Some out → FitsFor out (region_of region.start (region.length + back.region.length)) shown
     back_fits {out} there =
@@ -89,7 +89,8 @@ module _ {A B : Type 0} {objects : Objects Region} {w : TreeLinkOps A} {root : O
     back_frees resized = frees is t.each (λ a.
         let c = changes_free (resized back.region t.back_is.0.there) a in (λ free. grind (arith, c, t.back_is.1), λ either. grind (arith, c, t.back_is.1)))
 
-  -- THE REGION TOUCHES a free region before it and one after it. The one after it is removed first, and then the one before is replaced by the three joined
+  -- `region` touches the free region `front` before it and the free region `back` after it. After `back` is removed, a region with the addresses of all
+  -- three can replace `front`
   module _ {front back : Found} (t : Touches objects shown region (Some front) (Some back)) (less : Objects Region) {mid : List Region}
       (taken : (out : Region) → object_at objects back.object ≡ Some out → Adds out mid shown) (others : (p : Place) → p ≢ back.object → object_at less p ≡ object_at objects p) where
     front_there : object_at less front.object ≡ Some front.region
@@ -120,7 +121,7 @@ module _ {A B : Type 0} {objects : Objects Region} {w : TreeLinkOps A} {root : O
         let c = changes_free (resized front.region front_there) a in let d = adds_free adds a in
         (λ free. grind (arith, c, d, t.front_is.1, t.back_is.1), λ either. grind (arith, c, d, t.front_is.1, t.back_is.1)))
 
--- CUT: the first `length` addresses of a found region are removed, and the rest of the region stays free
+-- the first `length` addresses of a found region are removed, and the rest of the region stays free
 module _ {A B : Type 0} {objects : Objects Region} {w : TreeLinkOps A} {root : Option Place} {z : AugmentedTable ℕ ℕ B} (k : Keeps objects w root z) {found : Found} (is : IsFound objects found)
     (length : ℕ) (enough : length ≤ found.region.length) where
   abbrev rest : Region
@@ -168,7 +169,7 @@ module _ {objects : Objects Region} {regions : List Region} where
     none_starts : AllByRecursion (λ x. x.start ≢ end_of region) beside.back → AllByRecursion (λ x. x.start ≢ end_of region) regions
     none_starts back = rw beside.cut (all_both (λ x. x.start ≢ end_of region) beside.front beside.back (all_map (λ x below same. omega (arith, below, same, is.some)) beside.front beside.starts_below) back)
 
-    -- NO REGION BEFORE the address ends after the start of `region`, if the call for the region before it was not refused
+    -- the regions of `beside.front` end at the start of `region` or before it, if the call `ending_at` was not refused
     front_clear : (below result : Option Found) → IsLast objects beside.front below → EndsBy below region.start (Ok result)
         → AllByRecursion (λ x. end_of x ≤ region.start) beside.front × IsEnding objects regions region.start result
     front_clear None None last ends = (rw last tt, none_ends (rw last tt))
@@ -179,7 +180,7 @@ module _ {objects : Objects Region} {regions : List Region} where
         let last = subst (IsLast objects beside.front) ends.0 last in
         (all_map (λ x low. omega (arith, low, ends.1)) beside.front (last_ends beside.front last.1.0 found.region last.1.1 stand.0), (last.0, ends.1))
 
-    -- no region after the address starts before the end of `region`, if the call for the region after it was not refused
+    -- the regions of `beside.back` start at the end of `region` or after it, if the call `starting_at` was not refused
     back_clear : (above result : Option Found) → IsFirst objects beside.back above → StartsFrom above (end_of region) (Ok result)
         → AllByRecursion (λ x. end_of region ≤ x.start) beside.back × IsStarting objects regions (end_of region) result
     back_clear None None first starts = (rw first tt, none_starts (rw first tt))
@@ -205,7 +206,7 @@ module _ {objects : Objects Region} {regions : List Region} where
       let low = (all_back (λ x. x.start ≤ a) rest.0 (found.region ∷ []) (subst (AllByRecursion (λ x. x.start ≤ a)) rest.1 beside.starts_below)).0 in
       rw beside.cut ((free_parts beside.front beside.back a).1 (inl (rw rest.1 ((free_with rest.0 found.region [] a).1 (inr (low, less))))))
 
-  -- THE REGION OVERLAPS its neighbor before it, or its neighbor after it, if the call for this neighbor was refused. Then the refusal has its reason
+  -- if the call for the neighbor before `region`, or for the neighbor after it, was refused, then `IsRefused` holds of `region` and the error of this call
   pub overlaps_front : {region : Region} {below above : Option Found} → AreNeighbors objects regions region.start below above → IsRegion region → (full : Bool) (error : FreeError)
       → EndsBy below region.start (Err error) → IsRefused region (space_of regions full) error
   overlaps_front {below = None} beside is full error ends = absurd ends
@@ -220,7 +221,7 @@ module _ {objects : Objects Region} {regions : List Region} where
       let free = (free_with beside.front found.region first.1.0 found.region.start).1 (inr (omega arith, omega (arith, first.0.is_region.some))) in
       rw starts.0 (is, (found.region.start, (omega (arith, high), starts.1), rw (beside.cut, first.1.1) free))
 
-  -- WHETHER THE ADDRESS IS FREE: it is free exactly if the last region that starts at it or below it ends after it
+  -- the address `a` is free exactly if the last region that starts at `a` or below it ends after `a`
   module _ (a : ℕ) {above : Option Found} where
     pub free_there : AreRegionsApart regions → {found : Found} → AreNeighbors objects regions a (Some found) above → IsFree regions a ↔ (a < end_of found.region)
     free_there apart {found} beside =

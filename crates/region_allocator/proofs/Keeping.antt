@@ -1,4 +1,4 @@
--- Lemmas which show that each call of an allocator maintains `Keeps`, how its regions change, and what its searches find.
+-- Lemmas which say that each call of an allocator maintains `Keeps`, how the allocator's regions change, and what its searches find.
 use Rattle.std.proofs.Common.{◌≡◌, ◌≢◌, ◌<◌, ◌↔◌, ℕ, nat_lt, map, Option, Some, None, IsSome, List, [], ◌∷◌, ◌++◌, refl, sym, ap, ◌∙◌, subst, arith, true≢false, ◌≤◌, ◌-◌, Bool, true, false, cond}
 use Rattle.std.proofs.lemmas.Bool.{lt-ltb, not-true, not-false, ltb-true, ltb-false}
 use Rattle.std.proofs.lemmas.Bool.Decides.{nat_tests}
@@ -66,7 +66,7 @@ beside_put : {B : Type 0} (new : Objects Region) (z : AugmentedTable ℕ ℕ B) 
     → (q : Place) → IsBeside new z q
 beside_put new z {r} p is told others q = everywhere (IsBeside new z) p q (λ t there. let same : r ≡ t = cc (is, there) in told ∙ ap (λ (x : Region). x.length) same) (others q)
 
--- the regions of the allocator are the values that the tree has, in its order
+-- the regions of the allocator are the values at the members of the tree, in the order of the tree
 pub each_are : {A : Type 0} {objects : Objects Region} {w : TreeLinkOps A} {root : Option Place} {values : List Region} → HasEach start_of w root objects values → represented_regions objects w root ≡ values
 each_are {objects = objects} {w} each = ap (values_at objects) (plain_members w each.sorted.shown) ∙ each.sorted.stand.are
 
@@ -197,8 +197,8 @@ module _ {A B : Type 0} where
           record { front = a.0; back = a.1; was = each_are a.3; is = each_are k.by_start ∙ a.2 },
         )
 
-    -- A REGION IS REPLACED at its place by the region `r`, whose length is stored for it. The object stays between its neighbors, because `r` starts
-    -- between them
+    -- A REGION IS REPLACED at the place `p` by the region `r`, and the length of `r` is stored for `p`. The object at `p` stays between its neighbors in
+    -- the tree, because `r` starts between them
     pub resize : {r : Region} (p : Place) (w' : TreeLinkOps A) → w' ≡ w → (z' : AugmentedTable ℕ ℕ B) → number_at z' p ≡ r.length → ((q : Place) → q ≢ p → number_at z' q ≡ number_at z q)
         → ((s : List Place) → IsConsistent node_of (plain_table w) (greatest z) s → IsConsistent node_of (plain_table w') (greatest z') s)
         → ((out : Region) → object_at objects p ≡ Some out → FitsFor out r (represented_regions objects w root)) → (out : Region) → object_at objects p ≡ Some out
@@ -220,13 +220,13 @@ module _ {A B : Type 0} where
           record { front = a.0; back = a.1; was = same; is = each_are each },
         )
 
--- WHAT THE SEARCHES FIND: the first region that is long enough, and the neighbors of an address
+-- the searches find the first region that is long enough, and the neighbors of an address
 module _ {A B : Type 0} {objects : Objects Region} {w : TreeLinkOps A} {root : Option Place} {z : AugmentedTable ℕ ℕ B} (k : Keeps objects w root z) where
   -- a search that ends at the place `p` finds the region at `p`
   found_is : (p : Place) {r : Region} → object_at objects p ≡ Some r → IsFound objects (record { object = p; region = r })
   found_is p there = record { there = there; is_region = is_region k p there }
 
-  -- THE FIRST REGION THAT IS LONG ENOUGH, with at least the length `n`: its length exceeds the bound `b`, which is `n - 1`
+  -- the search for a region with at least the length `n` finds the first region whose length exceeds the bound `b`, which is `n - 1`
   module _ (n b : ℕ) (bound : b ≡ n - 1) where
     abbrev test : Place → Bool
     test = is_greater (number_at z) b
@@ -272,7 +272,7 @@ module _ {A B : Type 0} {objects : Objects Region} {w : TreeLinkOps A} {root : O
               record { front = c.0; whole = c.1; back = c.2; was = refl; start = refl; long_enough = c.6; shorter = c.4; lowest = λ a some fits. lowest_fits n a c.0 c.1 c.2 apart c.4 some fits },
             )
 
-  -- THE NEIGHBORS OF AN ADDRESS: the gap between the members that start at the address or below it and those that start above it
+  -- `gap` is between the members that start at the address `n` or below it, and the members that start above it
   module _ (n : ℕ) (gap : Cut) (same : join gap ≡ k.by_start.sorted.members) (border : IsBorder (is_beyond (Included (compared (order_of nat_cmp start_of n) objects))) gap) where
     placed : ArePlaced objects (gap.front ++ gap.back)
     placed = subst (ArePlaced objects) (sym same) k.by_start.sorted.stand.placed

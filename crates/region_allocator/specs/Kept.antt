@@ -1,4 +1,4 @@
--- What an allocator maintains for its objects, their links, the length that is stored for each link, and its tree.
+-- The facts that an allocator maintains for its objects, their links and lengths, and its tree.
 use Rattle.std.specs.Prelude.{◌≡◌, ℕ, ◌^◌, leb, Option, Some, List}
 use Rattle.ic_link_ops.specs.Prelude.{Place, Objects, object_at, values_at}
 use Rattle.ic_link_ops.specs.ThreeWords.{node_of}
@@ -17,8 +17,8 @@ use Rattle.region_allocator.specs.Regions.{Space, space_of, AreRegionsApart}
 abbrev pub start_of : Region → ℕ
 start_of region = region.start
 
--- WHAT AN ALLOCATOR MAINTAINS: The tree has every object, sorted by the starts of the regions. The table stores, for each link, the length of its
--- region. Each greatest length that is not stale is right. The regions are apart
+-- An allocator maintains these facts. The tree has every object, sorted by the starts of the regions. The table stores, for each link, the length of the
+-- link's region. Each greatest length that is not stale is right. The regions are apart
 pub record Keeps {A B : Type 0} (objects : Objects Region) (links : TreeLinkOps A) (root : Option Place) (lengths : AugmentedTable ℕ ℕ B) : Type 0 where
   pub starts : List Region
   pub by_start : HasEach start_of links root objects starts
@@ -26,7 +26,7 @@ pub record Keeps {A B : Type 0} (objects : Objects Region) (links : TreeLinkOps 
   pub consistent : (s : List Place) → PlainRepresents links root s → IsConsistent node_of (plain_table links) (greatest lengths) s
   pub apart : AreRegionsApart starts
 
--- the regions at the members of the tree, in the order of the tree, which is the order of their addresses
+-- the regions at the members of the tree, in the order of their addresses
 abbrev pub represented_regions : {A : Type 0} → Objects Region → TreeLinkOps A → Option Place → List Region
 represented_regions objects links root = values_at objects (members_of links root)
 

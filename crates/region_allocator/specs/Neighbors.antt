@@ -23,7 +23,7 @@ module _ (objects : Objects Region) where
     pub there : object_at objects found.object ≡ Some found.region
     pub is_region : IsRegion found.region
 
-  -- THE FIRST REGION THAT IS LONG ENOUGH: the search found the first region with at least this length, or `None` because all are shorter
+  -- the search found the first of `regions` with at least the length `length`, or `None` because all are shorter
   abbrev pub FitsFirst : List Region → ℕ → Option Found → Type 0
   FitsFirst regions length None = AreShorter regions length
   FitsFirst regions length (Some found) = IsFound found × (length ≤ found.region.length) × IsFirstFit (region_of found.region.start length) regions
@@ -56,15 +56,15 @@ module _ (objects : Objects Region) where
   IsStarting regions address None = AllByRecursion (λ region. region.start ≢ address) regions
   IsStarting regions address (Some found) = IsFound found × (found.region.start ≡ address)
 
-  -- THE REGION TOUCHES `front` and `back`, and no other region: `front` ends where it starts, and `back` starts where it ends. It shares no address
-  -- with any region
+  -- `region` touches `front` and `back`, and no other region. `front` ends where `region` starts, and `back` starts where `region` ends. `region` shares no
+  -- address with any of `regions`
   pub record Touches (regions : List Region) (region : Region) (front back : Option Found) : Type 0 where
     pub each : AllByRecursion (λ other. AreApart region other ⊎ ((end_of other ≡ region.start) ⊎ (other.start ≡ end_of region))) regions
     pub front_is : IsEnding regions region.start front
     pub back_is : IsStarting regions (end_of region) back
 
--- The call returns the region `below` if it ends at the address `start`, and `None` if it ends earlier or there is none. If it ends later, the call
--- is refused
+-- The call returns the region `below` if this region ends at the address `start`. It returns `None` if `below` ends earlier or there is no such region. If
+-- `below` ends later, the call is refused
 abbrev pub EndsBy : Option Found → ℕ → Result (Option Found) FreeError → Type 0
 EndsBy below start (Ok (Some found)) = (below ≡ Some found) × (end_of found.region ≡ start)
 EndsBy None start (Ok None) = Unit {0}
@@ -72,8 +72,8 @@ EndsBy (Some found) start (Ok None) = end_of found.region < start
 EndsBy None start (Err error) = ⊥
 EndsBy (Some found) start (Err error) = (error ≡ Overlaps) × start < end_of found.region
 
--- The call returns the region `above` if it starts at the address `end`, and `None` if it starts later or there is none. If it starts earlier, the
--- call is refused
+-- The call returns the region `above` if this region starts at the address `end`. It returns `None` if `above` starts later or there is no such region. If
+-- `above` starts earlier, the call is refused
 abbrev pub StartsFrom : Option Found → ℕ → Result (Option Found) FreeError → Type 0
 StartsFrom above end (Ok (Some found)) = (above ≡ Some found) × (found.region.start ≡ end)
 StartsFrom None end (Ok None) = Unit {0}

@@ -6,12 +6,12 @@ use Rattle.region_allocator.specs.declared.free_error.FreeError.{FreeError}
 use Rattle.region_allocator.specs.declared.free_error.FreeError.TheVariants.{Empty, TooLong, Overlaps, TooManyRegions, OutOfMemory}
 use Rattle.region_allocator.specs.Regions.{Space, end_of, Has, IsFree, IsRegion, AreApart}
 
--- THE REGION IS NEW, so that it needs a place of its own: no free region touches it or shares an address with it
+-- the region is new: no free region touches it or shares an address with it. So it needs a place of its own
 abbrev pub IsNew : Region → Space → Type 0
 IsNew region space = IsRegion region × AllByRecursion (AreApart region) space.regions
 
--- EACH REFUSAL HAS ITS OWN REASON, and no two reasons hold at once: The region is empty. It ends after `u64::MAX`. One of its addresses is already free.
--- The region is new and all places are in use. The region is new and some place is not in use
+-- each refusal has its own reason, and no two reasons hold at once. `Empty`: the region is empty. `TooLong`: it ends after `u64::MAX`. `Overlaps`: one of
+-- its addresses is already free. `TooManyRegions`: it is new and all places are in use. `OutOfMemory`: it is new and some place is not in use
 abbrev pub IsRefused : Region → Space → FreeError → Type 0
 IsRefused region space Empty = region.length ≡ 0
 IsRefused region space TooLong = (0 < region.length) × (2 ^ 64 ≤ end_of region)

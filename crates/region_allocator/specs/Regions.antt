@@ -11,11 +11,11 @@ region_of start length = record { start = start; length = length }
 abbrev pub end_of : Region → ℕ
 end_of region = region.start + region.length
 
--- THE REGION HAS THE ADDRESS: the address is not below the region's start, and is below its end
+-- the region has the address: the address is not below the region's start, and is below its end
 abbrev pub Has : Region → ℕ → Type 0
 Has region address = (region.start ≤ address) × (address < end_of region)
 
--- THE ADDRESS IS FREE: one of the free regions has it
+-- an address is free if one of the free regions has it
 abbrev pub IsFree : List Region → ℕ → Type 0
 IsFree [] address = ⊥
 IsFree (region ∷ regions) address = Has region address ⊎ IsFree regions address
@@ -25,16 +25,16 @@ pub record IsRegion (region : Region) : Type 0 where
   pub some : 0 < region.length
   pub fits : end_of region < 2 ^ 64
 
--- TWO REGIONS ARE APART: they neither share an address nor touch
+-- two regions are apart if they neither share an address nor touch
 abbrev pub AreApart : Region → Region → Type 0
 AreApart region other = (end_of region < other.start) ⊎ (end_of other < region.start)
 
--- REGIONS ARE APART: they are sorted by their addresses, and between any two is an address that is not free
+-- the regions of a list are apart if they are sorted by their addresses, and between any two of them is an address that is not free
 abbrev pub AreRegionsApart : List Region → Type 0
 AreRegionsApart [] = Unit {0}
 AreRegionsApart (region ∷ regions) = IsRegion region × AllByRecursion (λ later. end_of region < later.start) regions × AreRegionsApart regions
 
--- WHAT A CONTRACT SEES of an allocator: its free regions, in the order of their addresses, and whether all places are in use
+-- a contract sees the allocator's free regions, in the order of their addresses, and whether all places are in use
 pub record Space : Type 0 where
   pub regions : List Region
   pub is_full : Bool
@@ -42,13 +42,13 @@ pub record Space : Type 0 where
 abbrev pub space_of : List Region → Bool → Space
 space_of regions is_full = record { regions = regions; is_full = is_full }
 
--- THE REGION IS FREED: none of its addresses was free, and now all of them are free. No other address has changed
+-- none of the addresses of `region` was free, and now all of them are free. No other address has changed
 pub record FreesRegion (region : Region) (old new : List Region) : Type 0 where
   pub is_region : IsRegion region
   pub was_taken : (address : ℕ) → Has region address → ¬ IsFree old address
   pub free : (address : ℕ) → IsFree new address ↔ (IsFree old address ⊎ Has region address)
 
--- THE REGION IS ALLOCATED: each of its addresses was free, and now none of them is. No other address has changed
+-- each of the addresses of `region` was free, and now none of them is free. No other address has changed
 pub record AllocatesRegion (region : Region) (old new : List Region) : Type 0 where
   pub was_free : (address : ℕ) → Has region address → IsFree old address
   pub free : (address : ℕ) → IsFree new address ↔ (IsFree old address × ¬ Has region address)
@@ -57,12 +57,12 @@ pub record AllocatesRegion (region : Region) (old new : List Region) : Type 0 wh
 abbrev pub AreShorter : List Region → ℕ → Type 0
 AreShorter regions length = AllByRecursion (λ region. region.length < length) regions
 
--- THE LENGTH FITS AT THE ADDRESS: the `length` consecutive addresses from `address` on are all free
+-- the `length` consecutive addresses from `address` on are all free
 abbrev pub FitsAt : List Region → ℕ → ℕ → Type 0
 FitsAt regions length address = (a : ℕ) → Has (region_of address length) a → IsFree regions a
 
--- THE FIRST FIT: `region` is the beginning of the free region `whole`, and all free regions before `whole` are shorter than `region`. Therefore its
--- length fits at no lower address
+-- `region` is the beginning of the free region `whole`, and all free regions before `whole` are shorter than `region`. Therefore the length of `region`
+-- fits at no lower address
 pub record IsFirstFit (region : Region) (old : List Region) : Type 0 where
   pub front : List Region
   pub whole : Region

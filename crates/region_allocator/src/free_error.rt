@@ -1,4 +1,4 @@
-//! Why addresses were not freed.
+//! The error of a call that does not free addresses.
 //!
 //! ```text
 //! space.free(90, 20) // Err(FreeError::Overlaps): 90 to 99 are free already

@@ -1,4 +1,4 @@
--- Lemmas which show that each call of a scheduler maintains `IsKept`, and how its schedule changes.
+-- Lemmas which say that each call of a scheduler maintains `IsKept`, and how the schedule of the scheduler changes.
 use Rattle.std.proofs.Common.{◌≡◌, ◌≢◌, ℕ, ◌≤◌, ◌<◌, ◌^◌, true, false, leb, Option, Some, None, is_some, Result, Ok, Err, OnOk, OnErr, ◌↔◌, List, [], ◌∷◌, ◌++◌, length, map, drop, filter, refl, sym, ap, ◌∙◌, subst, arith, append-nil, slice_index_or, true≢false}
 use Rattle.std.proofs.Math.ListN.{get_or-map}
 use Rattle.std.proofs.lemmas.Bool.{lt-leb}
@@ -45,7 +45,7 @@ use Rattle.scheduler.specs.Timers as timers
 pub some_left : {X E : Type 0} {x : X} {e : E} (next : ℕ) → ((let r : Result X E = Ok x in r ≡ Err e) ↔ (2 ^ 32 ≤ next)) → next < 2 ^ 32
 some_left next full = grind (arith, full.1)
 
--- TASKS IN ORDER: if the tree has tasks sorted by their deadlines, then it satisfies what the calls of a sorted tree require
+-- if the tree has tasks sorted by their deadlines, then it satisfies what the calls of a sorted tree require
 pub sorted_values : {V A : Type 0} {objects : Objects (Task V)} (w : trees.TreeLinkOps A) {root : Option Place} {tasks : List (Task V)}
     → HasSorted nat_cmp deadline_of trees.RepresentsTree trees.is_linked (trees.plain_table w) root objects tasks → RepresentsSorted deadline_of (trees.PlainRepresents w root) objects
 sorted_values {objects = objects} w has =
@@ -74,7 +74,7 @@ module _ {V A B : Type 0} where
     pub places_are : (i : ℕ) → places_at (schedule_of objects w root q ends) i ≡ k.numbered.members i
     places_are = listed_is (λ s. s) refl
 
-    -- FEW TASKS WAIT: there are at most 8,589,934,591 waiting tasks
+    -- there are at most 8,589,934,591 waiting tasks
     pub few_wait : length (schedule_of objects w root q ends).waiting ≤ 8589934591
     few_wait = omega (arith, ap length waiting_is, few_values k.sorted.stand (plain_trees.distinct (trees.plain_table w) root k.sorted.members k.sorted.shown))
 
@@ -141,7 +141,7 @@ module _ {V A B : Type 0} where
         pub ready : RepresentsSorted deadline_of (trees.PlainRepresents v root) new
         ready = sorted_values v (has_beside plain_trees nat_cmp_total kept_grown.sorted {new = new} new_unlinked (others_placed places))
 
-        -- THE TASK WAITS: after the new task is inserted into the tree, the scheduler maintains `IsKept`, and the task is added
+        -- after the new task is inserted into the tree, the scheduler maintains `IsKept`, and the task is added to the waiting tasks (`Adds`)
         module _ (u : trees.TreeLinkOps A) (top : Option Place) (room : HasRoom r p) {X : Type 0} (answer : Result Unit X)
             (scheduled : (s : List Place) → trees.PlainRepresents v root s → OnOk answer (InsertsInOrder trees.RepresentsTree (against deadline_of new p) (trees.plain_table v) (trees.plain_table u) top s p))
             (acquired : OnOk answer (LinksAlso trees.is_linked (trees.plain_table v) (trees.plain_table u) p)) (refused : OnErr answer (IsLinked trees.is_linked (trees.plain_table v) p × (u ≡ v))) where

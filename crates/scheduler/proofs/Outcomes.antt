@@ -1,4 +1,4 @@
--- What a call returns if there was no room for a timer.
+-- If there is no room for a timer, the failed call gives this timer back.
 use Rattle.std.proofs.Common.{◌≡◌, ◌∙◌, ap, Result, Ok, Err, [], ◌∷◌}
 use Rattle.std.specs.Result.{IsErrAnd}
 use Rattle.std.specs.declared.alloc.AllocFailed.{AllocFailed}

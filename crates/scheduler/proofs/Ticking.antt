@@ -18,7 +18,8 @@ filter_swap test other [] = refl
 filter_swap test other (x ∷ s) = let rest = filter_swap test other s in grind (arith, nat_tests)
 
 module _ {V : Type 0} where
-  -- A TASK IS ADDED before exactly those tasks whose deadlines are later, and the list is still sorted by deadline, with the task at the end of `w`
+  -- `w` lists the tasks of `old` in the order in which they were added. If `task` is inserted into `old` before exactly the tasks with later deadlines,
+  -- then `IsByDeadline` holds of the new list and `w ++ task ∷ []`
   pub by_deadline_with : {old new w : List (Task V)} {task : Task V} → InsertsValue nat_cmp deadline_of old task new → IsByDeadline old w → IsByDeadline new (w ++ task ∷ [])
   by_deadline_with {old} {new} {w} {task} put stands = record { rises = put.sorted; alike = alike } where
     alike : (d : ℕ) → filter (has_deadline d) new ≡ filter (has_deadline d) (w ++ task ∷ [])
@@ -27,14 +28,14 @@ module _ {V : Type 0} where
         let was = simp filter-append at (ap (filter (has_deadline d)) put.was) in
         rw put.is (simp filter-append (grind (arith, nat_tests, append-nil, none, was, stands.alike d)))
 
-  -- ONLY THE TASKS THAT PASS A TEST: if `tasks` has the tasks of `w` by deadline, then the tasks that pass a test are also by deadline
+  -- if `IsByDeadline` holds of `tasks` and `w`, then it also holds of the tasks of `tasks` and of `w` that pass a test
   pub by_deadline_among : (test : Task V → Bool) {tasks w : List (Task V)} → IsByDeadline tasks w → IsByDeadline (filter test tasks) (filter test w)
   by_deadline_among test {tasks} {w} stands = record {
     rises = sorted_filter deadline_of test tasks stands.rises;
     alike = λ d. filter_swap (has_deadline d) test tasks ∙ ap (filter test) (stands.alike d) ∙ filter_swap test (has_deadline d) w;
   }
 
-  -- A TICK SO FAR: the tasks `taken` were the first waiting tasks, they are due, and they have moved to their queues
+  -- a tick has moved the tasks `taken` so far. They were the first waiting tasks, they are due, and they are in their queues
   pub record Moved (now : ℕ) (start schedule : Schedule V) (moved : ℕ) : Type 0 where
     pub taken : List (Task V)
     pub first : start.waiting ≡ taken ++ schedule.waiting
@@ -58,7 +59,8 @@ module _ {V : Type 0} where
       is_full = m.is_full ∙ k.is_full;
     }
 
-    -- at most `most` tasks waited at first, if at most `most` tasks wait before the first move
+    -- at most `most` tasks waited at the beginning of the tick. After a move this is assumed. Before the first move the waiting tasks are those at the
+    -- beginning, and they are at most `most`
     pub moved_few : (most : ℕ) → (0 < moved → length start.waiting ≤ most) → length schedule.waiting ≤ most → length start.waiting ≤ most
     moved_few most few wait = grind (arith, k.count, ap length k.first, length-append k.taken schedule.waiting)
 

@@ -53,8 +53,8 @@ module _ {L E : Type 0} {n : E → Node} {table : L → Table E} {Trace : L → 
       off.moved (at_front s) shown is ∙ ap first (one_sequence (off.removed (at_front s) shown is).shows here)
 
 module _ {T L E : Type 0} (deadline : T → ℕ) (n : E → Node) (table : L → Table E) (Trace : L → L → List LinkStep → Type 0) (objects : Objects T) (now : ℕ) where
-  -- SOME DUE TIMERS WERE REMOVED: The table `start` represented `s`. The timers `taken` were removed from the front of `s` and appended to `items`,
-  -- which gives `held`. The table `links` represents the others, which are `rest`
+  -- The table `start` represented `s`. The timers `taken` were removed from the front of `s` and appended to `items`, which gives `held`. The table `links`
+  -- represents the others, which are `rest`
   pub record Takes (start : L) (s items : List Place) (links : L) (root : Option Place) (held : List Place) : Type 0 where
     pub taken : List Place
     pub rest : List Place
@@ -78,7 +78,7 @@ module _ {T L E : Type 0} {deadline : T → ℕ} {n : E → Node} {table : L →
   }
 
   module _ {links : L} {root : Option Place} {held : List Place} (k : Takes deadline n table Trace objects now start s items links root held) {p : Place} (is : Some p ≡ if_passes (is_due deadline objects now) (first k.rest)) where
-    -- if the due place is `p`, then the remaining timers begin with `p`
+    -- if the search for a due timer found the place `p`, then the remaining timers begin with `p`
     pub next_due : k.rest ≡ p ∷ drop 1 k.rest
     next_due = first_is k.rest (passed (is_due deadline objects now) (first k.rest) p is).0
 

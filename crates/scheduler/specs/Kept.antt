@@ -1,4 +1,4 @@
--- What a scheduler maintains for its objects, its two tables, its tree and its lists.
+-- The facts that a scheduler maintains for its objects, its two tables, its tree and its lists.
 use Rattle.std.specs.Prelude.{◌≡◌, ℕ, ◌^◌, ◌<◌, true, leb, Option, List, map, slice_index_or}
 use Rattle.std.specs.Ordering.{nat_cmp}
 use Rattle.ic_link_ops.specs.Prelude.{Place, index_of, Objects, is_placed, IsCovered, values_at}
@@ -11,7 +11,7 @@ use Rattle.ic_rbtree.specs.SortedValues.{HasSorted}
 use Rattle.scheduler.specs.declared.task.Task.{Task}
 use Rattle.scheduler.specs.Schedule.{Schedule}
 
--- the ends of the list of the queue with the number `q`; the list is empty if no queue has this number
+-- the ends of the list of the queue with the number `q`. The list is empty if no queue has this number
 abbrev pub list_at : List Ends → ℕ → Ends
 list_at queues q = slice_index_or queues q no_members
 
@@ -38,9 +38,9 @@ module _ {V A B : Type 0} (objects : Objects (Task V)) (deadline_links : trees.T
     queued_at = map (λ list. lists.members_of queue_links list) queues;
   }
 
-  -- WHAT A SCHEDULER MAINTAINS: The tasks in the tree are sorted by their deadlines, and no other place is linked in the tree's table. List q has only
-  -- tasks of queue q, and only members of the lists are linked in the lists' table. Each task is linked in exactly one of the two tables, and the
-  -- lists' table covers its place
+  -- A scheduler maintains these facts. The tasks in the tree are sorted by their deadlines, and no other place is linked in the tree's table. The list with
+  -- the number `q` has only tasks of the queue `q`, and only members of the lists are linked in the lists' table. Each task is linked in exactly one of the
+  -- two tables, and the lists' table covers its place
   pub record IsKept : Type 0 where
     pub waiting : List (Task V)
     pub queued : ℕ → List (Task V)

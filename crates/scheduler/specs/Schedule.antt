@@ -15,7 +15,7 @@ pub record Schedule (V : Type 0) : Type 0 where
   pub queued_at : List (List Place)
 
 module _ {V : Type 0} where
-  -- the tasks of the queue with the number `q`; there are none if no queue has this number
+  -- the tasks of the queue with the number `q`. There are none if no queue has this number
   abbrev pub queue_at : Schedule V → ℕ → List (Task V)
   queue_at schedule q = slice_index_or schedule.queues q []
 
@@ -38,7 +38,8 @@ module _ {V : Type 0} where
   abbrev pub deadlines : List (Task V) → List ℕ
   deadlines tasks = map (λ (task : Task V). task.deadline) tasks
 
-  -- The tests tell whether a task has the deadline `d`, whether it is due at the time `now`, and whether it belongs to the queue `q`
+  -- `has_deadline` tests whether a task has the deadline `d`, `is_due` whether it is due at the time `now`, and `is_for` whether it belongs to the queue
+  -- `q`
   abbrev pub has_deadline : ℕ → Task V → Bool
   has_deadline d task = eqb task.deadline d
 
@@ -48,23 +49,22 @@ module _ {V : Type 0} where
   abbrev pub is_for : ℕ → Task V → Bool
   is_for q task = eqb task.queue q
 
-  -- BY DEADLINE, WITH EQUAL ONES AS IN w: the deadlines of `tasks` never decrease. For each deadline d, `tasks` and `w` have the same tasks with the
-  -- deadline d, in the same order
+  -- the deadlines of `tasks` never decrease. For each deadline `d`, `tasks` and `w` have the same tasks with the deadline `d`, in the same order
   pub record IsByDeadline (tasks w : List (Task V)) : Type 0 where
     pub rises : IsSorted nat_cmp (deadlines tasks)
     pub alike : (d : ℕ) → filter (has_deadline d) tasks ≡ filter (has_deadline d) w
 
-  -- THE SCHEDULE REPRESENTS w, where `w` lists the waiting tasks in the order in which they were added
+  -- `w` lists the waiting tasks of the schedule in the order in which they were added
   abbrev pub IsScheduleOf : Schedule V → List (Task V) → Type 0
   IsScheduleOf schedule w = IsByDeadline schedule.waiting w
 
-  -- THE SCHEDULE IS EMPTY: no task waits, each queue is empty, and some place is not in use
+  -- the schedule is empty: no task waits, each queue is empty, and some place is not in use
   pub record IsEmpty (schedule : Schedule V) : Type 0 where
     pub waiting : schedule.waiting ≡ []
     pub queues : (q : ℕ) → queue_at schedule q ≡ []
     pub is_full : schedule.is_full ≡ false
 
-  -- THE SCHEDULE IS UNCHANGED: all parts of `new` are equal to those of `old`
+  -- all parts of the schedule `new` are equal to those of `old`
   pub record IsUnchanged (old new : Schedule V) : Type 0 where
     pub waiting : new.waiting ≡ old.waiting
     pub queues : (q : ℕ) → queue_at new q ≡ queue_at old q
@@ -77,8 +77,8 @@ module _ {V : Type 0} where
     pub waits : (w : List (Task V)) → IsScheduleOf old w → IsScheduleOf new (w ++ task ∷ [])
     pub queues : (q : ℕ) → queue_at new q ≡ queue_at old q
 
-  -- THE TICK at `now`: the tasks of `w` that are due move to the backs of their queues, sorted by deadline. Tasks with equal deadlines move in the
-  -- order of `w`. The tasks that are not due still wait, in their order
+  -- A TICK at the time `now` moves the due tasks to the backs of their queues, sorted by deadline. Tasks with equal deadlines move in the order in which
+  -- they were added. The tasks that are not due still wait, in their order
   pub record Ticks (now : ℕ) (old new : Schedule V) (moved : ℕ) : Type 0 where
     pub due : List (Task V)
     pub in_order : (w : List (Task V)) → IsScheduleOf old w → IsByDeadline due (filter (is_due now) w)
@@ -94,7 +94,7 @@ module _ {V : Type 0} where
     pub waiting : new.waiting ≡ old.waiting
     pub is_full : new.is_full ≡ false
 
-  -- THE FIRST WAITING TASK MOVES: it is due at `now`, and moves to the back of its queue
+  -- the first waiting task is due at the time `now`, and moves to the back of its queue
   pub record MovesFirst (now : ℕ) (old new : Schedule V) : Type 0 where
     pub task : Task V
     pub first : old.waiting ≡ task ∷ new.waiting

@@ -1,4 +1,4 @@
--- What contracts see of the waiting timers.
+-- Definitions for the contracts of calls on waiting timers.
 use Rattle.std.specs.Prelude.{◌≡◌, ℕ, ◌≤◌, Bool, false, leb, Option, None, Some, Result, Ok, Err, List, [], ◌∷◌, ◌++◌}
 use Rattle.std.specs.List.{AllByRecursion}
 use Rattle.std.specs.declared.alloc.AllocFailed.{AllocFailed}

@@ -84,8 +84,8 @@ impl<V, A: Allocator> Scheduler<V, A> {
         Ok(())
     }
 
-    /// Moves the tasks that are due at `now` to the backs of their queues, the earliest first, and among tasks with equal deadlines the one that was
-    /// added first. It returns how many tasks it moved. It costs O(log n), plus O(1) on average for each moved task, and takes no memory.
+    /// Moves the tasks that are due at `now` to the backs of their queues, the earliest first. Tasks with equal deadlines move in the order in which they
+    /// were added. It returns how many tasks it moved. It costs O(log n), plus O(1) on average for each moved task, and takes no memory.
     pub fn tick(&mut self, now: u64) -> usize
         ensures { Ticks now self.old self.new result }
     {
@@ -110,8 +110,7 @@ impl<V, A: Allocator> Scheduler<V, A> {
         Some((task.deadline, task.value))
     }
 
-    /// States, for use in a caller's proof, that each task is in one collection, the tree of waiting tasks or one queue, and never in both. The call
-    /// itself does nothing.
+    /// States, for use in a caller's proof, that each task is either in the tree of waiting tasks or in one queue. The call itself does nothing.
     pub fn each_task_is_once(&self)
         ensures { IsOnceEach self.now }
     {
@@ -119,8 +118,8 @@ impl<V, A: Allocator> Scheduler<V, A> {
         let _ = self.pool.len();
     }
 
-    /// States, for use in a caller's proof, that the waiting tasks are sorted by deadline, so that there is a list that the scheduler represents. The
-    /// call itself does nothing.
+    /// States, for use in a caller's proof, that the waiting tasks are sorted by deadline. So `IsScheduleOf` holds of the list of these tasks. The call
+    /// itself does nothing.
     pub fn stands_for_what_waits(&self)
         ensures { IsScheduleOf self.now self.now.waiting }
     {

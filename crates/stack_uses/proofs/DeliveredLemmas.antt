@@ -1,4 +1,5 @@
--- All places that the threads sent were received: no claim was refused, and the received places of each sender are those that it was to send.
+-- All places that the threads sent were received: no claim was refused, and the places that came from each sender are the places that the sender was to
+-- send.
 use Rattle.std.proofs.Common.{◌≡◌, ◌≢◌, ℕ, zero, suc, ◌+◌, ◌*◌, ◌/◌, ◌-◌, ◌<◌, ◌≤◌, eqb, Bool, true, false, true≢false, cond, ◌||◌, ◌&&◌, ◌⊎◌, inl, inr, List, [], ◌∷◌, ◌++◌, map, length, length-append, get_or, reverse, All, Contains, refl, sym, ap, ◌∙◌, subst, arith, append-nil, eq-eqb, ne_eqb, ⊎_elim, le_refl}
 use Rattle.std.specs.List.{range_with_len, IsDistinct}
 use Rattle.std.proofs.lemmas.Bool.{or_left, or_right}
@@ -32,7 +33,7 @@ use Rattle.stack_uses.specs.declared.mailbox.Receiver.{Receiver}
 use Rattle.stack_uses.proofs.DeliveryLemmas.{takes_more}
 use Rattle.stack_uses.proofs.MailLemmas.{mail}
 
--- The tests tell whether the step claims the place `p`: `grants` if the claim succeeds, `denies` if it is refused, and `asks` in both cases
+-- Each test is true of a step that claims the place `p`: `grants` if the claim succeeds, `denies` if it is refused, and `asks` in both cases
 abbrev grants : Place → Step → Bool
 grants p (Claim q was) = was && same p q
 grants p (Release q) = false
@@ -77,7 +78,7 @@ denies_asks p (Release q) e = e
 denies_asks p (Push k s) e = e
 denies_asks p (TakeAll k s) e = e
 
--- A PLACE THAT NOBODY HOLDS and that is in no stack stays so until a claim of the place succeeds, and no claim of it is refused before
+-- nobody holds the place `p`, and `p` is in no stack. Then the first step that moves `p` is a claim that succeeds, and no claim of `p` is refused before
 moved_free : (m : Moment) → IsSound m → (a : ℕ) (e : Step) → Fits m a e → (p : Place) → m.place p ≡ nowhere → moves p e ≡ true → grants p e ≡ true
 moved_free m sound a (Claim q was) fits p free mv = mv
 moved_free m sound a (Release q) fits p free mv = absurd (true≢false (ap is_nowhere (sym free ∙ (ap (λ r. m.place r) (one_place p q mv) ∙ fits))))
@@ -120,7 +121,7 @@ first_grant P (x ∷ xs) m sound legal by p free h is =
     (any_rest (denies p) (eqb x.holder h) x.step (steps_of h xs) (not_denied m x.holder x.step legal.0 p free) is) in
     (later.0, later.1, any_cons (grants p) (eqb x.holder later.0) x.step (steps_of later.0 xs) later.2)) refl
 
--- A SENDER claims each of its places once. Their indices are the consecutive numbers from `first` on
+-- the indices of a sender's places are the consecutive numbers from `first` on, so no place is in the list twice
 abbrev IsRow : ℕ → List Place → Type 0
 IsRow first [] = Unit {0}
 IsRow first (p ∷ ps) = (index_of p ≡ first) × IsRow (first + 1) ps
@@ -196,7 +197,8 @@ takes_sent (Release q ∷ es) only = absurd only
 takes_sent (Push k s ∷ es) only = absurd only
 takes_sent (TakeAll k s ∷ es) only = takes_sent es only
 
--- SEVERAL SENDERS: each party of the list sends `count` places, and these follow the places of the party before it
+-- each party of the list sends `count` places. The first party sends the places from the index `first` on, and each later party the places after those of
+-- the party before it
 abbrev pub SentBy : ℕ → ℕ → List Party → Type 0
 SentBy first count [] = Unit {0}
 SentBy first count (x ∷ xs) = Sends first count x.steps × SentBy (first + count) count xs
@@ -215,7 +217,7 @@ asks_part p first count es s ask =
     let high = part.1 in
     (part.0, (omega (arith, high, long)))
 
--- no number is in the parts of two different senders: if `n` is in the parts i and j, then i is j
+-- the part of the sender `i` has the `count` numbers from `i * count` on. If the number `n` is in the part of `i` and in the part of `j`, then `i` is `j`
 apart_parts : (i j count n : ℕ) → i * count ≤ n → n < i * count + count → j * count ≤ n → n < j * count + count → i ≡ j
 apart_parts i j count n a b c d = dite (ℕ_discrete i j) (λ e. e) (λ ne. absurd (dite (dec_le i j)
     (λ le. let m = mul-le (i + 1) count j count (omega (arith, le, ne)) (le_refl count) in omega (arith, m, b, c))
@@ -280,11 +282,11 @@ module _ (count : ℕ) (order : List Entry) (xs : List Party) (z : Party) (was :
       (λ receiver. takes_grant p z.steps takes (ap (λ (u : Party). any (grants p) u.steps) (sym receiver) ∙ granted))
       (which by.0 y by.1.1.0)
 
-  -- the sender with the number i has sent all `count` places from the index `i * count` on, in order
+  -- the sender with the number `i` has sent all `count` places from the index `i * count` on, in order
   sent_all : (i : ℕ) (x : Party) → get_elem? xs i ≡ some x → map index_of (of_record (sent 0) x.steps) ≡ range_with_len (i * count) count
   sent_all i x at = all_of (0 + i * count) count x.steps (sends_at 0 count xs sent_by i x at) (none_denied i x at) ∙ ap (λ n. range_with_len n count) (omega arith)
 
-  -- THE LETTERS of the mailbox, from which all places in `came` were received
+  -- `mail` describes the letters of the mailbox 0, from which the places `came` were received and in which no place is left
   module _ (came : List Place) (mail : IsMail 0 parties came []) where
     abbrev each_sent : Party → Type 0
     each_sent x = sent_from x.name mail.letters ≡ of_record (sent 0) x.steps
@@ -365,7 +367,7 @@ module _ (count : ℕ) (order : List Entry) (xs : List Party) (z : Party) (was :
         go (y ∷ l) zero low = (y, refl)
         go (y ∷ l) (suc i) low = go l i (omega (arith, low))
 
-    -- ALL PLACES CAME: for each sender, `came` has its `count` places in order, and no other place
+    -- `came` has the `count` places of each sender in order, and no other place
     pub delivered : IsDelivered (length xs) count came
     delivered = record {
       rows = λ k low.
@@ -375,7 +377,7 @@ module _ (count : ℕ) (order : List Entry) (xs : List Party) (z : Party) (was :
       inside = subst (All (λ (p : Place). index_of p < length xs * count)) came_is (inside_at mail.letters all_of_senders);
     }
 
--- THE LAST CALL takes all places from the mailbox and leaves none. The party that makes it is the last of the list
+-- the last call takes all places from the mailbox and leaves none. The party `x` that makes this call is the last of the list
 at_last : (l : List Party) (x : Party) → get_elem? (l ++ x ∷ []) (length l) ≡ some x
 at_last [] x = refl
 at_last (y ∷ l) x = at_last l x
@@ -455,7 +457,7 @@ pub ends : {X : Type 0} (P : X → Type 0) (l : List X) (x : X) → All P (l ++ 
 ends P [] x all = (All-nil P, All-head P x [] all)
 ends P (y ∷ l) x all = let r = ends P l x (All-tail P y (l ++ x ∷ []) all) in (All-cons P y l (All-head P y (l ++ x ∷ []) all) r.0, r.1)
 
--- a receiver that has returned all places that it took has returned `ps`, and these are all places that its holder took
+-- the receiver has returned the places `ps`, and no other place that it took is left. Then `ps` are all places that its holder took from the mailbox 0
 pub got_all : {A : Type 0} (stacks : Stacks A) (receiver : Receiver) (ps : List Place) → HasReceived stacks receiver ps → HasOpened stacks receiver [] → receiver.mailbox ≡ 0
     → of_record (got 0) (record_of receiver.holder) ≡ ps
 got_all stacks receiver ps has none box =

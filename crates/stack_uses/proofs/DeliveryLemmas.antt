@@ -13,7 +13,7 @@ use Rattle.stack_uses.specs.declared.delivery.Sender.{Sender}
 use Rattle.stack_uses.specs.Mail.{steps_to_send}
 use Rattle.stack_uses.specs.Delivery.{steps_to_send_each, Sends, OnlyTakes, IsReady, AreReady, HasSent, HaveSent}
 
--- if one further place `p` is sent with the result `b`, then the steps for all places are those from before and the steps for `p`
+-- if one further place `p` is sent with the result `b`, then the steps for all places are the earlier steps, followed by the steps for `p`
 each_more : (k : ℕ) (ps : List Place) (got : List Bool) (p : Place) (b : Bool) → length got ≡ length ps
     → steps_to_send_each k (ps ++ p ∷ []) (got ++ b ∷ []) ≡ steps_to_send_each k ps got ++ steps_to_send k p b
 each_more k [] [] p b e = append-nil (steps_to_send k p b)
@@ -34,7 +34,7 @@ sends_more first count es p b was e = record {
   steps_are = ap (λ l. l ++ steps_to_send 0 p b) was.steps_are ∙ sym (each_more 0 was.places was.got p b was.each);
 }
 
--- steps that only take places from stacks still do so with one further call that takes all places of a stack
+-- if the steps `es` only take places from stacks, then so do `es` and one further call that takes all places of a stack
 pub takes_more : (es : List Step) (k : ℕ) (s : List Place) → OnlyTakes es → OnlyTakes (es ++ TakeAll k s ∷ [])
 takes_more [] k s only = tt
 takes_more (Claim p got ∷ es) k s only = absurd only
@@ -49,7 +49,7 @@ ready_more stacks first count [] x are is = (subst (λ n. IsReady stacks n count
 ready_more stacks first count (y ∷ ys) x are is =
     (are.0, ready_more stacks (first + count) count ys x are.1 (subst (λ n. IsReady stacks n count x) (omega arith) is))
 
--- each sender is ready to send the places that it has stored, and its holder has then sent these places
+-- a sender that is ready for `count` places from `first` on stores these two numbers. So `IsReady` and `HasSent` may use the numbers that the sender stores
 module _ {A : Type 0} (stacks : Stacks A) (count : ℕ) where
   own_part : (first : ℕ) (x : Sender A) → IsReady stacks first count x → IsReady x.stacks.now x.first x.count x
   own_part first x is = subst (λ (s : Stacks A). IsReady s x.first x.count x) (sym is.stacks_are)

@@ -13,11 +13,11 @@ use Rattle.ic_lock_free_stack.proofs.MomentLemmas.{by_test}
 use Rattle.ic_lock_free_stack.proofs.OrderLemmas.{comes_in_turn}
 use Rattle.stack_uses.specs.Mail.{Letter, sent_from, IsOnlyReceiver, IsMail}
 
--- the places of a record with one further step are those of the record before, and those of the step
+-- after one further step `e`, a record has the places that it had before, followed by the places of `e`
 pub of_more : (f : Step → List Place) (es : List Step) (e : Step) → of_record f (es ++ e ∷ []) ≡ of_record f es ++ f e
 of_more f es e = flat_map-append f es (e ∷ []) ∙ ap (λ l. of_record f es ++ l) (append-nil (f e))
 
--- THE LETTERS OF A HISTORY: each place that a step sends is a letter, with the holder of the step as its sender
+-- each place of `s` is a letter that the holder `h` has sent. `letters_of` lists the letters of a history, one for each place that a step sends
 abbrev signed : ℕ → List Place → List Letter
 signed h s = map (λ (p : Place). record { sender = h; place = p }) s
 
@@ -66,7 +66,7 @@ from_letters h k (x ∷ xs) =
     ∙ by_test (λ b. cond b (sent k x.step) [] ++ sent_from h (letters_of k xs) ≡ of_record (sent k) (cond b (x.step ∷ steps_of h xs) (steps_of h xs))) (eqb x.holder h)
     (λ _. ap (λ l. sent k x.step ++ l) rest) (λ _. rest))
 
--- if no holder except `r` has taken a place, then all places that were taken in the history were taken by `r`
+-- if `s ++ t` is empty, then `s` is empty (`no_front`), and `t` is empty (`no_back`)
 no_front : (s t : List Place) → s ++ t ≡ [] → s ≡ []
 no_front [] t e = refl
 no_front (p ∷ s) t e = absurd (cc e)
@@ -75,6 +75,7 @@ no_back : (s t : List Place) → s ++ t ≡ [] → t ≡ []
 no_back [] t e = e
 no_back (p ∷ s) t e = absurd (cc e)
 
+-- `f` lists the places that a step takes. If no holder except `r` has taken a place, then all places that were taken in the history were taken by `r`
 only_by : (f : Step → List Place) (r : ℕ) (names : List ℕ) (order : List Entry) → All (λ (x : Entry). Contains names x.holder) order
     → ((h : ℕ) → h ≢ r → Contains names h → of_record f (steps_of h order) ≡ []) → of_history f order ≡ of_record f (steps_of r order)
 only_by f r names [] by none = refl

@@ -23,7 +23,8 @@ use Rattle.stack_uses.specs.declared.mailbox.Receiver.{Receiver}
 use Rattle.stack_uses.specs.Mail.{HasReceived, IsOut}
 use Rattle.stack_uses.proofs.MailLemmas.{of_more}
 
--- what one further push adds to the places that a holder has sent, and what one further call that takes all adds to those that it got
+-- one further push of `p` adds `p` to the places that a holder has sent. `got_more` says which places one further call that takes all adds to the places
+-- that the holder got
 pub sent_more : (k : ℕ) (es : List Step) (p : Place) → of_record (sent k) (es ++ Push k (p ∷ []) ∷ []) ≡ of_record (sent k) es ++ p ∷ []
 sent_more k es p = of_more (sent k) es (Push k (p ∷ [])) ∙ ap (λ b. of_record (sent k) es ++ Rattle.std.proofs.Common.cond b (p ∷ []) []) (eq-eqb k k refl)
 
@@ -41,7 +42,7 @@ pub none_given : (rest : List Place) → first rest ≡ None → rest ≡ []
 none_given [] e = refl
 none_given (p ∷ s) e = absurd (cc e)
 
--- the last place of a reversed chain is the first place of the chain
+-- the last place of `s ++ p ∷ []` is `p`. So the last place of a reversed chain is the first place of the chain (`last_turned`)
 pub last_snoc : (s : List Place) (p : Place) → last (s ++ p ∷ []) ≡ Some p
 last_snoc [] p = refl
 last_snoc (q ∷ []) p = refl

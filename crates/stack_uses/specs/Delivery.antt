@@ -12,7 +12,8 @@ use Rattle.ic_lock_free_stack.specs.Holders.{places_of, stacks_of, record_of, sp
 use Rattle.stack_uses.specs.Mail.{steps_to_send}
 use Rattle.stack_uses.specs.declared.delivery.Sender.{Sender}
 
--- the steps by which the places are sent one after the other. If the claim of a place is refused, which `false` says, the place is not sent
+-- the steps by which the places are sent one after the other. The list `got` says for each place whether its claim succeeds. If the claim is refused, the
+-- place is not sent
 abbrev pub steps_to_send_each : ℕ → List Place → List Bool → List Step
 steps_to_send_each mailbox [] got = []
 steps_to_send_each mailbox (p ∷ ps) [] = []
@@ -39,7 +40,7 @@ abbrev pub of_sender : ℕ → ℕ → List Place → List Place
 of_sender count k [] = []
 of_sender count k (p ∷ ps) = if index_of p / count == k then p ∷ of_sender count k ps else of_sender count k ps
 
--- ALL PLACES CAME: `came` has the `count` places of each sender, each once and in the order of their indices, and no other place
+-- `came` has the `count` places of each sender, each once and in the order of their indices, and no other place
 pub record IsDelivered (senders count : ℕ) (came : List Place) : Type 0 where
   pub rows : (k : ℕ) → k < senders → map index_of (of_sender count k came) ≡ range_with_len (k * count) count
   pub inside : All (λ (p : Place). index_of p < senders * count) came
@@ -61,8 +62,8 @@ module _ {A : Type 0} where
     pub made : IsOf stacks holder
     pub sends : Sends first count (record_of holder)
 
-  -- `AreReady`: each sender of the list is ready. `HaveSent`: each holder has sent its places. The places of each one follow those of the one before
-  -- it in the list
+  -- `AreReady`: each sender of the list is ready. `HaveSent`: each holder has sent its places. The places of each sender or holder follow the places of the
+  -- one before it in the list
   abbrev pub AreReady : Stacks A → ℕ → ℕ → List (Sender A) → Type 0
   AreReady stacks first count [] = Unit {0}
   AreReady stacks first count (x ∷ xs) = IsReady stacks first count x × AreReady stacks (first + count) count xs

@@ -61,8 +61,8 @@ abbrev pub sent_from : ℕ → List Letter → List Place
 sent_from name [] = []
 sent_from name (x ∷ xs) = if x.sender == name then x.place ∷ sent_from name xs else sent_from name xs
 
--- THE MAIL OF A MAILBOX: The received places and then the places that still wait in the mailbox are those of one list of letters. The letters of each
--- holder in this list are the places that the holder sent, in the order in which it sent them
+-- `letters` lists all places that were sent to the mailbox, each with its sender. The received places come first, and then the places that still wait in
+-- the mailbox. The letters of each holder have the places that the holder sent, in the order in which it sent them
 pub record IsMail (mailbox : ℕ) (parties : List Party) (received waiting : List Place) : Type 0 where
   pub letters : List Letter
   pub all : map (λ (x : Letter). x.place) letters ≡ received ++ waiting

@@ -146,8 +146,8 @@ fn send_and_receive<R: Threads + Sync, A: Allocator + Copy + Send + Sync>(
     Ok((holders, came))
 }
 
-// Receives all places that are still in the mailbox after all senders have sent. An audit of all holders before and one after show that no place
-// comes later.
+// Receives all places that are still in the mailbox after all senders have sent. An audit of all holders before the call, and an audit after it, prove that
+// no place comes later.
 fn receive_rest<A: Allocator>(
     stacks: &Stacks<A>,
     mut holders: Vec<Holder, A>,

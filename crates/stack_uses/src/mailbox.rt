@@ -66,8 +66,8 @@ pub fn send<A: Allocator>(
 }
 
 impl Receiver {
-    /// Makes a receiver for the mailbox with this number. The receiver has received the places that its holder has taken from the mailbox, which are
-    /// none if the holder has made no step.
+    /// Makes a receiver for the mailbox with this number. The receiver has received the places that its holder has taken from the mailbox. If the holder
+    /// has made no step, there are none.
     pub fn new<A: Allocator>(stacks: &Stacks<A>, holder: Holder, mailbox: usize) -> Receiver
         requires mailbox { mailbox < stacks_of stacks.now }
         requires made { IsOf stacks.now holder }

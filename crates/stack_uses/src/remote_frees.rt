@@ -25,7 +25,7 @@ use ic_lock_free_stack::{Chain, Holder, Stacks};
 use ic_unsafe_ref::Place;
 use std::alloc::Allocator;
 
-/// An owner of places, which lends them to other threads, and takes back the places that were freed to the stack with the number `stack`.
+/// An owner of places, which lends them to other threads. It takes back the places that were freed to the stack with the number `stack`.
 #[derive(Drop)]
 pub struct Owner {
     holder: Holder,
@@ -102,8 +102,8 @@ impl Owner {
         is_claimed
     }
 
-    /// Returns a free place, which the owner then holds but no longer counts as free, or returns `None` if the owner has no free place. It waits for
-    /// nobody.
+    /// Returns a free place, or `None` if the owner has no free place. The owner then holds the returned place, but does not count it as free. The call
+    /// waits for nobody.
     ///
     /// It requires that its holder has made fewer than 281,474,976,710,656 pushes and calls that take all. It makes one load. If the owner's chain is
     /// empty, the call also makes one swap, which takes all freed places. O(1).

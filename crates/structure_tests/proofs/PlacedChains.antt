@@ -1,4 +1,4 @@
--- Lemmas on lists at each of whose members there is an object, and on an empty list beside a second list.
+-- Lemmas on a list that has an object at each member, and on a second list, which is empty.
 use Rattle.std.proofs.Common.{◌≡◌, ◌<◌, ℕ, Option, [], refl, ap, ◌∙◌, subst}
 use Rattle.ic_link_ops.specs.Prelude.{Place, index_of, Objects, Extent, Table, IsCovered, RepresentsPlaced}
 use Rattle.ic_link_ops.specs.Chains.{ListHead, RepresentsChain, RepresentsSomeChain, empty_list}
@@ -13,7 +13,8 @@ module _ {E W : Type 0} {between : E → Option Place → Option Place → Type 
   nothing : {other : ListHead W} → other ≡ empty_list kept → RepresentsChain between kept t other []
   nothing none = rw none (record { distinct = tt; chain = tt; head = refl; tail = refl })
 
-  -- an empty list and a list that is represented share no member, and if the list has an object at each member, then both lists have
+  -- the represented list `list` and the empty list `other` share no member. If there is an object at each member of `list`, then there is one at each
+  -- member of both lists
   pub two_placed : {list other : ListHead W} {objects : Objects ℕ} → other ≡ empty_list kept → RepresentsPlaced (RepresentsChain between kept t list) objects
       → TwoRepresented (RepresentsChain between kept) objects t list other
   two_placed none p = record {
@@ -29,7 +30,7 @@ module _ {E W : Type 0} {between : E → Option Place → Option Place → Type 
   pub two_lists : {list other : ListHead W} → other ≡ empty_list kept → RepresentsSomeChain between kept t list → TwoLists (RepresentsChain between kept) t list other
   two_lists none s = record { first = s.0; second = []; shown = s.1; other = nothing none; apart = tt }
 
-  -- there is an object at each member of a list of some of eight objects, because the table covers each member
+  -- there is an object at each member of `list`, because each member is one of the eight covered places, and each of these places has an object
   pub placed_members : {list : ListHead W} {objects : Objects ℕ} → ((q : Place) (b a : Option Place) → between (t.entry q) b a → IsCovered t q)
       → HoldsOfEight between kept t list objects → RepresentsPlaced (RepresentsChain between kept t list) objects
   placed_members {objects = objects} covered h = record {

@@ -8,7 +8,7 @@ use Rattle.ic_ring.specs.RingCursors.{IsOn, IsBefore}
 use Rattle.ic_ring.proofs.Circles.{circles_apart, seen_from, rotated}
 use Rattle.structure_tests.specs.TwoRings.{TwoRings}
 
--- RESULTS OF A CALL THAT MAY REFUSE AN OBJECT: if the goal holds for a call that is accepted and for one that is refused, then it holds for each result
+-- `Goal` holds for each result of a call that may refuse an object, if it holds for an accepted call and for a refused call
 pub either_way : {A X P Q Goal : Type 0} (r : Result A X) → OnOk r P → OnErr r Q → (P → Goal) → (Q → Goal) → Goal
 either_way (Ok a) holds refused accepts refuses = accepts holds
 either_way (Err e) holds refused accepts refuses = refuses refused
@@ -50,7 +50,7 @@ module _ {E : Type 0} (n : E → Neighbors) (t : Table E) where
   pub member_apart : {h k p : Place} (s u : List Place) → Represents n t h s → Represents n t k (p ∷ u) → IsAbsent h (k ∷ p ∷ u) → IsAbsent p (h ∷ s)
   member_apart {h} {k} {p} s u c d out = (disjoint_sym (h ∷ s) (k ∷ p ∷ u) (circles_apart (k ∷ p ∷ u) h s d c out)).1.0
 
-  -- AFTER THE SUCCESSORS OF TWO HEADS ARE EXCHANGED, the table represents one ring with the first head, which has all places of both rings
+  -- AFTER THE SUCCESSORS OF TWO HEADS ARE EXCHANGED, the table represents one ring with the first head. This ring has all places of both rings
   pub joined_heads : (new : Table E) {h k : Place} (s u : List Place) → Represents n t h s → Represents n t k u → IsAbsent h (k ∷ u)
       → ((r v : List Place) → IsCircle n t.entry r → IsCircle n t.entry v → IsDisjoint r v → Some h ≡ last r → Some k ≡ last v → IsCircle n new.entry (r ++ v))
       → InRing n new h
@@ -63,7 +63,8 @@ module _ {E : Type 0} (n : E → Neighbors) (t : Table E) where
       let whole = joins r v (rotated (h ∷ []) s c) (rotated (k ∷ []) u d) (disjoint_sym v r two) (sym (last_of_push s h)) (sym (last_of_push u k)) in
       (v ++ s, rotated s (h ∷ v) (rw (append_assoc s (h ∷ []) v) at whole))
 
--- if a place is not in a ring, then it is not in the ring if its members are written as the first one and the rest
+-- `p ∷ drop 1 s` is the same sequence as `s`, because `p` is the first place of `s`. So if `q` is not in a ring with the members `s`, then it is not in the
+-- ring written with `p ∷ drop 1 s`
 pub first_absent : {q h p : Place} (s : List Place) → Some p ≡ first s → IsAbsent q (h ∷ s) → IsAbsent q (h ∷ p ∷ drop 1 s)
 first_absent {q} {h} s is out = subst (λ s. IsAbsent q (h ∷ s)) (first_is s is) out
 
@@ -71,26 +72,26 @@ first_absent {q} {h} s is out = subst (λ s. IsAbsent q (h ∷ s)) (first_is s i
 pub places_of : {old new : Extent} → new ≡ old → old.places ≡ 8 → new.places ≡ 8
 places_of same covers = ap (λ (e : Extent). e.places) same ∙ covers
 
--- if P holds and Q holds in case a result is `Ok`, then both hold in that case
+-- if `P` holds when the result `r` is `Ok`, and `Q` also holds then, then `P × Q` holds when `r` is `Ok`
 pub both_ways : {A X : Type 0} (P Q : Type 0) (r : Result A X) → OnOk r P → OnOk r Q → OnOk r (P × Q)
 both_ways P Q (Ok a) p q = (p, q)
 both_ways P Q (Err e) p q = tt
 
--- A CURSOR ON THE FIRST MEMBER, or on the head if the ring is empty, returns the first member, or none if the ring is empty
+-- a cursor at the first member of a ring returns this member. If the ring is empty, the cursor is at the head and returns none
 pub on_first : (head h : Place) → h ≡ head → (s : List Place) {at : Place} (r : Option Place) → IsOn h at r → Some at ≡ first_or s (Some head) → IsAbsent head s → r ≡ first s
 on_first head h e [] None on is out = refl
 on_first head h e [] (Some p) on is out = absurd (on.1 (some_same is ∙ sym e))
 on_first head h e (x ∷ s) None on is out = absurd (out.0 (sym e ∙ sym on ∙ some_same is))
 on_first head h e (x ∷ s) (Some p) on is out = ap Some on.0 ∙ is
 
--- if an option is `Some`, then what is known for `Some` holds
+-- `OnSome r P` says that `P` holds if the option `r` is `Some`. So if `r` is `Some`, then `P` holds
 pub holds_there : {P : Type 0} (r : Option Place) {x : Place} → r ≡ Some x → OnSome r P → P
 holds_there None e holds = absurd (none_not _ e)
 holds_there (Some y) e holds = holds
 
 module _ {E : Type 0} (n : E → Neighbors) where
-  -- THE TWO RINGS ARE KEPT by an edit of the first ring that changes only rings with one of the given places, if the second ring has none of these
-  -- places
+  -- an edit of the first ring changes only rings that have one of `places`. If the second ring has none of `places`, then the table still represents two
+  -- rings that share no place
   pub kept : (old new : Table E) {h k : Place} (places : List Place) (two : TwoRings n old h k) → new.extent ≡ old.extent → InRing n new h → OthersStay n old new places
       → IsDisjoint places (k ∷ two.apart.0) → TwoRings n new h k
   kept old new places two extent ring others out = record { covers = places_of extent two.covers; shown = ring; apart = (two.apart.0, others.rings _ two.apart.1 out, two.apart.2) }
@@ -105,7 +106,7 @@ module _ {E : Type 0} (n : E → Neighbors) where
       let apart = (circles_apart u h (s ++ p ∷ []) two.apart.1 shown two.apart.2).1 in
       (disjoint_sym u (p ∷ []) (disjoint_right u s (p ∷ []) (disjoint_sym (s ++ p ∷ []) u apart))).0
 
-  -- the two rings are kept by an edit of the first ring by a cursor, which keeps the head of the ring
+  -- after a cursor has edited the first ring without changing its head, the table still represents two rings that share no place
   pub kept_by : (old new : Table E) {h k before after : Place} (s : List Place) → before ≡ h → after ≡ h → TwoRings n old h k → new.extent ≡ old.extent → Represents n new after s
       → OthersStay n old new (before ∷ []) → TwoRings n new h k
   kept_by old new {h} {k} {before} {after} s e f two extent shown others =
@@ -115,7 +116,7 @@ module _ {E : Type 0} (n : E → Neighbors) where
   pub both_represented : (new : Table E) {h k after : Place} (s u : List Place) → after ≡ h → new.extent.places ≡ 8 → Represents n new after s → Represents n new k u → IsAbsent h (k ∷ u) → TwoRings n new h k
   both_represented new s u e covers shown other out = record { covers = covers; shown = (s, subst (λ h. Represents n new h s) e shown); apart = (u, other, out) }
 
--- THE GAP BEFORE A CURSOR: if the sequence is split after the cursor's place, then it also has a gap before that place
+-- a cursor is on the last place of `front`, or on the head `h` if `front` is empty. Then the sequence `front ++ back` has a gap before the cursor
 pub gap_before : (h : Place) {at : Place} (front back : List Place) → Some at ≡ last_or (Some h) front → (gap : Cut) × (join gap ≡ front ++ back) × IsBefore h gap at
 gap_before h [] back e = (record { front = back; back = [] }, append-nil back, e)
 gap_before h {at} (x ∷ s) back e =

@@ -11,7 +11,7 @@ list_index High = 1
 list_index Normal = 2
 list_index Low = 3
 
--- the index of the list of a job is that of its priority
+-- the index of a job's list is the index of the list of the job's priority
 abbrev pub list_index_of_job : {V : Type 0} → Job V → ℕ
 list_index_of_job job = list_index job.priority
 

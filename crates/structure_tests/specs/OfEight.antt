@@ -1,4 +1,4 @@
--- Each call in the tests of algorithms maintains these facts about a list of some of eight objects.
+-- Each call in the tests of algorithms maintains these facts about a list whose members are some of eight objects.
 use Rattle.std.specs.Prelude.{◌≡◌, ◌<◌, ℕ, true, Option}
 use Rattle.ic_link_ops.specs.Prelude.{Place, index_of, Objects, is_placed, Table}
 use Rattle.ic_link_ops.specs.Chains.{ListHead, RepresentsSomeChain}

@@ -47,7 +47,7 @@ fn write_found(notes: &mut Text, found: Option<usize>) {
     notes.add(answer, " ");
 }
 
-// Returns a list of the objects at the first three places, the last of which is its first member.
+// Returns a list of the objects at the places 2, 1 and 0, in this order.
 fn list_of_three<K: TellsNeighbors<PlainTable<W>>, W: Words>(
     links: &mut PlainTable<W>,
 ) -> LinkList<K, u64>
@@ -109,8 +109,8 @@ fn a_whole_table_is_checked(rt: HostRuntime) {
     assert_true(&rt, notes.has_words("3 none"));
 }
 
-// The check must refuse an XOR list of three members after the second one is unlinked by force, because the other entries still lead to it. The marks
-// are true before the first check, and a check does not depend on them.
+// The check must refuse an XOR list of three members after the second one is unlinked by force, because the other entries still lead to it. A check marks
+// places in the array `marks`. All items are true before the first check, to test that a check does not depend on them.
 #[test]
 fn an_xor_list_is_checked(rt: HostRuntime) {
     let alloc = rt.alloc();
@@ -237,7 +237,7 @@ fn read_links(links: &mut linked_list::LinkOps, words: &[(usize, usize)])
     }
 }
 
-// Returns the list with these ends, if the words of the table represent such a list.
+// Returns the list with these ends, if the table represents a list with these ends.
 fn list_from_file(
     links: &linked_list::LinkOps,
     first: Option<Place>,

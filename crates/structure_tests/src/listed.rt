@@ -59,7 +59,7 @@ fn meet_numbers<A: Allocator, W: PrevPlace>(rt: &impl Abort, numbers: &mut Liste
     assert_same(rt, forget_oldest(numbers), Some(11));
 }
 
-// Inserts a number at the front, which the caller has met for the first time.
+// Inserts at the front a number that the caller has met for the first time.
 fn meet<A: Allocator, W: PrevPlace>(rt: &impl Abort, numbers: &mut Listed<u64, A, W>, number: u64) {
     assert_true(rt, numbers.place_front(number).is_ok());
 }

@@ -173,7 +173,7 @@ fn play_rows<L: LinkedListOps>(
 }
 
 /// Makes the calls of all rows on two new rings. Then the successors of the two heads are exchanged. The first ring is used as the queue of a server's
-/// connections, it is printed, and its first member is bypassed.
+/// connections, and it is printed. At last the neighbors of its first member are linked to each other.
 pub(crate) fn play<L: LinkedListOps>(
     rt: &impl Abort,
     alloc: Global,

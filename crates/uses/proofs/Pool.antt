@@ -1,4 +1,4 @@
--- Lemmas about a call that claims one place after the other, where each claim is refused.
+-- Lemmas about a call that claims one place after the other, and whose claims are all refused.
 use Rattle.std.proofs.Common.{◌≡◌, ◌+◌, ℕ, List, [], ◌∷◌, ◌++◌, length, refl, sym, ap, ◌∙◌, arith, append_assoc, append-nil}
 use Rattle.std.proofs.lemmas.List.{length_push}
 use Rattle.ic_link_ops.specs.Prelude.{Place, index_of}
@@ -28,6 +28,7 @@ refused_more {old} were p is gained = record {
   gained = gained ∙ rw (were.gained, refusals_more were.tried p) (append_assoc old (refusals were.tried) (event (Claim p) 1 ∷ []));
 }
 
--- if a holder held the same places from `old` to `now`, and then the place `p` in addition, then it held `p` in addition from `old` to `new`
+-- a holder holds the same places by the records `old` and `now`. If it holds `p` in addition to these places by the record `new`, then `HoldsAlso` holds
+-- from `old` to `new`
 pub also : {old now new : List Event} {p : Place} → HoldsTheSame old now → HoldsAlso now new p → HoldsAlso old new p
 also {p} same more = record { was = sym (same p) ∙ more.was; is = more.is; others = λ q apart. more.others q apart ∙ same q }

@@ -22,7 +22,8 @@ pub told_is_held : (r : List Event) (p : Place) (answer : Bool) → holds p r �
 told_is_held r p true free = holds_at r (event (Claim p) 0) ∙ ap (λ b. b || true) free
 told_is_held r p false free = holds_at r (event (Claim p) 1) ∙ ap (λ b. b || false) free
 
--- the records `a` and `b` of two holders, each followed by a claim of the place `p`, which returned `x` and `y`
+-- the records of two holders after both have claimed the place `p`: the record `a` and a claim that returned `x`, and the record `b` and a claim that
+-- returned `y`
 abbrev both : Place → List Event → List Event → Bool → Bool → List (List Event)
 both p a b x y = with_claim a p x ∷ with_claim b p y ∷ []
 
@@ -49,7 +50,7 @@ module _ (words : List ℕ) (p : Place) (a b : List Event) (a_free : holds p a �
       let held = last.refused p (sym (ap (λ (e : Event). e.step) is)) (sym (ap (λ (e : Event). e.found) is)) in
       absurd (true≢false (sym held.1 ∙ nobody held.0))
 
--- two holders before their claims (`a` and `b`) and after them (`a'` and `b'`), and the list `items` of all holders after an audit
+-- `a` and `b` are two holders before their claims, and `a'` and `b'` are the same holders after their claims. `items` lists all holders after an audit
 module _ {A : Type 0} {claims : Claims A} {p : Place} {a b a' b' : Holder} {x y : Bool} (one : HasClaimed claims p a a' x) (two : HasClaimed claims p b b' y)
     (a_free : holds p (record_of a) ≡ false) (b_free : holds p (record_of b) ≡ false) (items : List Holder) (same : map record_of items ≡ record_of a' ∷ record_of b' ∷ []) where
   records : map record_of items ≡ both p (record_of a) (record_of b) x y

@@ -10,8 +10,8 @@ use Rattle.ic_link_ops.proofs.EditingWalks.{Walked, walk_leaves, walk_takes}
 use Rattle.uses.specs.Retain.{Parts, TellsOf}
 
 module _ {L E T : Type 0} (n : E → Neighbors) (table : L → Table E) (Trace : L → L → List LinkStep → Type 0) (objects : Objects T) (tells : T → Bool → Type 0) where
-  -- The walk began at the table `start`, which represented `s`, and has the members `ahead` still before it. It has kept the members `after` and
-  -- removed the members `gone`, as the test returned for each of them
+  -- The walk began with the table `start`, which represented `s`, and the members `ahead` are those that the walk has not tested yet. It has kept the
+  -- members `after` and removed the members `gone`, as the test returned for each of them
   pub record Retains (start : L) (s : List Place) (now : CursorState L Ends) (ahead : List Place) : Type 0 where
     pub after : List Place
     pub gone : List Place
@@ -42,7 +42,7 @@ module _ {L E T : Type 0} {n : E → Neighbors} {table : L → Table E} {Trace :
       ),
     )
 
-    -- if the test returns true for the first member ahead and the cursor moves on, then a turn is made, which keeps this member
+    -- if the test returns true for the first member ahead and the cursor moves on, then one turn is made (`Turns`), and the member is kept
     pub retains_kept : {x : T} (ahead : List Place) → Retains n table Trace objects tells start s now ahead → object_there objects now.position ≡ Some x → tells x true
         → {position : Option Place} → MovesOn (Represents n) table now position → Turns n table Trace objects tells start s now (site now.links now.head position)
     retains_kept {x} [] h there answered moves = absurd (none_not x (sym (ap (object_there objects) h.walked.here) ∙ there))
@@ -54,7 +54,8 @@ module _ {L E T : Type 0} {n : E → Neighbors} {table : L → Table E} {Trace :
       placed = h.placed.1;
     })
 
-    -- if the test returns false for the first member ahead and it is removed, then a turn is made, which adds this member to the removed ones
+    -- if the test returns false for the first member ahead and the member is removed, then one turn is made (`Turns`), and the member is added to the
+    -- removed ones
     pub retains_gone : ((a b c : L) (u v : List LinkStep) → Trace a b u → Trace b c v → Trace a c (u ++ v))
         → {x : T} (ahead : List Place) → Retains n table Trace objects tells start s now ahead → object_there objects now.position ≡ Some x → tells x false
         → {new : CursorState L Ends} {r : Option Place} → RemovesThere (Represents n) table Trace now r new → Turns n table Trace objects tells start s now new

@@ -1,4 +1,4 @@
--- A job that is linked in a worker's table is removed from the worker's list.
+-- Lemmas on the removal of a job from a worker's list, if the job is linked in the worker's table.
 use Rattle.std.proofs.Common.{◌≡◌, List, ◌∷◌, ◌++◌, sym, ◌∙◌, subst, true≢false}
 use Rattle.ic_link_ops.specs.Prelude.{Place, Cut, join, insert, IsAbsent, IsMember, IsLinked, IsUnlinked, Unlinks}
 use Rattle.ic_link_ops.specs.Chains.{Ends}

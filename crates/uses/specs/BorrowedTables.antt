@@ -1,4 +1,4 @@
--- What contracts see of a view of a borrowed table: a table of links.
+-- A contract treats a view of a borrowed table as a table of links.
 use Rattle.std.specs.Prelude.{◌≡◌, ◌∷◌}
 use Rattle.std.specs.Borrow.{MutBor}
 use Rattle.ic_link_ops.specs.Tables.{Extent, Table, with_extent}
@@ -9,7 +9,7 @@ module _ {L : Type 0} where
   abbrev pub links_of : BorrowedTable L → L
   links_of t = t.links.now
 
-  -- the view `t` holds the borrow `links`: both have one name and one current content
+  -- the view `t` holds the borrow `links`: their ghost names are equal, and their current contents are equal
   abbrev pub IsBorrowed : MutBor L → BorrowedTable L → Type 0
   IsBorrowed links t = (t.links.ghost_name ≡ links.ghost_name) × (t.links.now ≡ links.now)
 

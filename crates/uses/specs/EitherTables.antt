@@ -1,4 +1,4 @@
--- What contracts see of a value that contains one of two tables: a table of links.
+-- A contract treats a value that contains one of two tables as a table of links.
 use Rattle.std.specs.Prelude.{◌≡◌, Bool, List, [], ◌∷◌, ◌++◌, ℕ}
 use Rattle.std.proofs.Common.{ap}
 use Rattle.ic_link_ops.specs.Prelude.{Place, Extent, Table, IsLinked, IsCovered, with_extent, LinkStep, TraceIs}

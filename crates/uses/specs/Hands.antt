@@ -1,19 +1,19 @@
--- Two hands, which are vectors. The items of a walk are dealt to them from its two ends.
+-- A walk is dealt to two vectors: items from its front are appended to one vector, and items from its back to the other.
 use Rattle.std.specs.Prelude.{◌≡◌, ◌⊎◌, Option, None, List, ◌++◌, length, take, drop}
 use Rattle.ic_link_ops.specs.BothEnds.{Item, Leads, from_front, from_back}
 
 module _ {A : Type 0} where
-  -- the hand now begins with all items that it had before
+  -- the vector `new` begins with all items of the vector `old`
   abbrev pub Keeps : List A → List A → Type 0
   Keeps old new = take (length old) new ≡ old
 
-  -- the items that the hand `new` has after those of `old`
+  -- the items that the vector `new` has after the items of `old`
   abbrev pub gained : List A → List A → List A
   gained old new = drop (length old) new
 
 module _ {S A : Type 0} (next_gives next_back_gives : S → Option A → S → Type 0) where
-  -- Calls to the walk led from its state `s` to its state `t`. The items that they returned from the front were appended to one hand, and the items
-  -- from the back to the other hand
+  -- Calls to the walk led from its state `s` to its state `t`. The items that they returned from the front were appended to `fronts`, which gave
+  -- `new_fronts`. The items from the back were appended to `backs`, which gave `new_backs`
   pub record HasDealt (s t : S) (fronts new_fronts backs new_backs : List A) : Type 0 where
     pub items : List (Item A)
     pub leads : Leads next_gives next_back_gives s items t

@@ -1,4 +1,4 @@
--- How link steps are written down as notes.
+-- The notes that a recording table adds for its link steps.
 use Rattle.std.specs.Prelude.{◌≡◌, List, [], ◌∷◌, ◌++◌}
 use Rattle.std.proofs.Common.{refl, sym, ◌∙◌, ap, append_assoc, append-nil}
 use Rattle.ic_link_ops.specs.LinkSteps.{LinkStep, acquires, releases}

@@ -5,7 +5,8 @@ use Rattle.ic_atomic.specs.declared.step.Step.TheVariants.{Claim}
 use Rattle.ic_atomic.specs.declared.step.Event.{Event}
 use Rattle.ic_atomic.specs.Records.{event, HoldsAlso, HoldsTheSame}
 
--- the events of one claim of each place of the list, in order: each claim found that the word of its place was 1, so that the claim was refused
+-- each place of the list is claimed once, in order, and each claim is refused because it finds the word 1 at its place. The function lists the events of
+-- these claims
 abbrev pub refusals : List Place → List Event
 refusals [] = []
 refusals (p ∷ ps) = event (Claim p) 1 ∷ refusals ps
@@ -22,8 +23,8 @@ pub record WereRefused (count : ℕ) (old new : List Event) : Type 0 where
   pub count_is : length tried ≡ count
   pub gained : new ≡ old ++ refusals tried
 
--- A PLACE WAS TAKEN: the claims of all places with smaller indices were refused, and then the claim of `place` succeeded. The holder holds this place
--- in addition to what it held before
+-- the claims of all places with smaller indices than `place` were refused, and then the claim of `place` succeeded. The holder holds `place` in addition to
+-- what it held before
 pub record TakesOut (places : ℕ) (old new : List Event) (place : Place) : Type 0 where
   pub inside : index_of place < places
   pub refused : List Event
@@ -31,7 +32,7 @@ pub record TakesOut (places : ℕ) (old new : List Event) (place : Place) : Type
   pub had : new ≡ refused ++ event (Claim place) 0 ∷ []
   pub held : HoldsAlso old new place
 
--- NOTHING WAS TAKEN: the claim of every place was refused, and the holder holds what it held before
+-- the claim of every place was refused, and the holder holds the places that it held before
 pub record TakesNone (places : ℕ) (old new : List Event) : Type 0 where
   pub refused : WereRefused places old new
   pub held : HoldsTheSame old new

@@ -1,4 +1,4 @@
--- What must hold before a thread claims a place, and what holds afterwards.
+-- Conditions that must hold before a thread claims a place, and facts that hold afterwards.
 use Rattle.std.specs.Prelude.{◌≡◌, ◌<◌, Bool, if◌then◌else◌, [], ◌∷◌, ◌++◌}
 use Rattle.ic_link_ops.specs.Prelude.{Place, index_of}
 use Rattle.ic_atomic.specs.declared.step.Step.TheVariants.{Claim}

@@ -1,4 +1,4 @@
--- What contracts see of a table that records its steps.
+-- The parts that contracts see of a table which records its steps.
 use Rattle.std.specs.Prelude.{List}
 use Rattle.uses.specs.declared.recorded_table.Note.{Note}
 use Rattle.uses.specs.declared.recorded_table.RecordedTable.{RecordedTable}

@@ -1,10 +1,11 @@
--- Which places of a sequence pass a test and are kept, and which are dropped.
+-- The places of a sequence are divided: places that pass a test are kept, and all others are removed.
 use Rattle.std.specs.Prelude.{◌≡◌, ◌⊎◌, Bool, true, false, Some, List, [], ◌∷◌}
 use Rattle.ic_link_ops.specs.Prelude.{Place, Objects, object_at}
 
--- `Tells p b`: the test may return b for the place p
+-- `Tells p b` says that the test may return `b` for the place `p`
 module _ (Tells : Place → Bool → Type 0) where
-  -- The first list is divided into `kept` and `gone`, both in its order. The test returns true for each place of `kept`, and false for each of `gone`
+  -- `Parts s kept gone` says that the list `s` is divided into `kept` and `gone`, each in the order of `s`. The test may return true for each place of
+  -- `kept`, and false for each place of `gone`
   abbrev pub Parts : List Place → List Place → List Place → Type 0
   Parts [] kept gone = (kept ≡ []) × (gone ≡ [])
   Parts (p ∷ s) kept gone =

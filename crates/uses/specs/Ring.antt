@@ -1,4 +1,4 @@
--- What contracts see of a ring of nodes.
+-- Definitions for the contracts of a ring of nodes.
 use Rattle.std.specs.Prelude.{ℕ, Bool, Option, List, filter}
 use Rattle.std.specs.Ordering.{nat_cmp, is_eq, is_le, is_gt}
 use Rattle.ic_link_ops.specs.Prelude.{Place, Objects, first, first_or, last, last_or}

@@ -1,4 +1,4 @@
--- The list of a worker, which claims the place of a job when it links the job.
+-- A worker has a list of jobs, and claims the place of a job when it links the job.
 use Rattle.std.specs.Prelude.{List}
 use Rattle.ic_link_ops.specs.Prelude.{Place, IsAbsent, IsUnlinked}
 use Rattle.ic_link_ops.specs.Chains.{Ends}

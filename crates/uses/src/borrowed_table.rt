@@ -14,7 +14,7 @@ use ic_link_ops::{AlreadyLinked, LinkOps};
 use ic_linked_list::LinkedList;
 use ic_unsafe_ref::{Place, UnsafeRef};
 
-/// A view of a table of links, which exists while the table is borrowed. No call makes it a view of another table.
+/// A view of a table of links. The view exists while the table is borrowed. No call makes it a view of another table.
 pub struct BorrowedTable<'a, L> {
     links: &'a mut L,
 }

@@ -1,4 +1,4 @@
-//! Deals the members of a list to two hands, which are vectors, in turns from its front and its back.
+//! Deals the members of a list to two vectors, in turns from the front and the back of the list.
 //!
 //! ```text
 //! deal::represent(&list, &links, &objects, &mut seen_first, &mut seen_last)?;
@@ -16,8 +16,8 @@ use ic_linked_list::LinkedList;
 use ic_unsafe_ref::{Objects, UnsafeRef};
 use std::alloc::{AllocError, Allocator};
 
-// Deals the items of a walk to two hands, in turns from its front and its back, until a call for an item returns `None`. It stops earlier only if a
-// hand has no room left.
+// Appends the items of a walk to two vectors, in turns from the walk's front and back, until a call for an item returns `None`. It stops earlier only if a
+// vector has no room left.
 fn in_turns<I: DoubleEndedIterator + Drop, A: Allocator>(
     mut walk: I,
     fronts: &mut Vec<I::Item, A>,
@@ -46,11 +46,11 @@ where
     Ok(())
 }
 
-/// Deals the members of a list to two hands, one from its front and one from its back in turns, until none is left.
+/// Deals the members of a list to two vectors, in turns one from the front and one from the back, until none is left.
 ///
-/// It requires that the table represents a sequence for the list. Each member is unlinked as it is dealt. If a hand cannot grow, the members dealt so
-/// far are unlinked, and so is the member for which the hand had no room. All other members stay linked. The call takes one step for each member, and
-/// memory only for the hands.
+/// It requires that the table represents a sequence for the list. Each member is unlinked as it is dealt. If a vector cannot grow, the members dealt so far
+/// are unlinked, and so is the member for which the vector had no room. All other members stay linked. The call takes one step for each member, and memory
+/// only for the vectors.
 pub fn deal<T, L: LinkedListOps, A: Allocator>(
     list: LinkedList<T>,
     links: &mut L,
@@ -70,10 +70,10 @@ pub fn deal<T, L: LinkedListOps, A: Allocator>(
     in_turns(list.into_iter(links), fronts, backs)
 }
 
-/// Deals references to the objects of a list to two hands, one from its front and one from its back in turns, until all are dealt.
+/// Deals references to the objects of a list to two vectors, in turns one from the front and one from the back. It stops when all are dealt.
 ///
-/// It requires that the table represents a sequence for the list, whose members are placed. If a hand cannot grow, the hands keep the objects that
-/// were dealt before. The call takes one step for each member, and memory only for the hands.
+/// It requires that the table represents a sequence for the list, whose members are placed. If a vector cannot grow, both vectors keep the references that
+/// were dealt before. The call takes one step for each member, and memory only for the vectors.
 pub fn show<'a, T, L: LinkedListOps, A: Allocator, B: Allocator>(
     list: &LinkedList<T>,
     links: &'a L,

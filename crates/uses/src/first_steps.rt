@@ -14,7 +14,7 @@ use ic_linked_list::LinkedList;
 use ic_unsafe_ref::{Place, UnsafeRef};
 use std::alloc::Allocator;
 
-/// Pushes two objects into a new list, moves a new cursor once, and returns the object that the cursor is then on, which is the first of the two objects.
+/// Pushes two objects into a new list, moves a new cursor once, and returns the object on which the cursor then is. This is the first of the two objects.
 ///
 /// It requires that the table covers both places, and consumes the table. If an object is linked already, or pushed twice, the caller gets it back.
 /// O(1), and it takes no memory.

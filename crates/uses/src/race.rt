@@ -28,10 +28,10 @@ fn claim_by(claims: &Claims, mut holder: Holder, place: Place) -> (Holder, bool)
 /// Lets two threads claim the same place, each with its own holder, and returns the results of both claims. Exactly one of the results is true, and
 /// the holder with this result now holds the place.
 ///
-/// Exactly one claim succeeds, in whatever order the threads reach the place. The contract leaves open which claim succeeds. The contract of `claim`
-/// alone does not say that exactly one does, because it speaks only of its own holder. `audit` brings the records of both holders together. If both
-/// results were true, both holders would hold the place, but no place has two holders. If both results were false, another holder would hold the
-/// place, but there is no other holder.
+/// Exactly one claim succeeds, in whatever order the threads reach the place. The contract leaves open which claim succeeds. The contract of `claim` alone
+/// does not say that exactly one does, because it speaks of only one holder. `audit` brings the records of both holders together. If both results were
+/// true, both holders would hold the place, but no place has two holders. If both results were false, another holder would hold the place, but there is no
+/// other holder.
 ///
 /// It requires that `holders` has two holders, which are the only holders of the claims, and that neither of them holds the place. Afterwards each
 /// holder holds the place exactly if its result is true. O(1). It takes no memory except that of one more thread. If that thread cannot be started,

@@ -7,7 +7,7 @@
 //! let (left, hand) = ring::leave(hand.into_inner(), &mut links, &objects, 70); // and on the node that gets its keys
 //! ```
 //!
-//! Each call takes the ring and returns a hand, which is a cursor that owns the ring and is on one of its nodes.
+//! Each call takes the ring and returns a cursor that owns the ring. The cursor is on a node, or at null.
 
 ghost use Rattle.std.specs.Prelude.{◌≡◌, List, filter};
 ghost use Rattle.ic_link_ops.specs.Prelude.{Place, first, site, IsValidCursor};
@@ -49,9 +49,9 @@ impl KeyAdapter for ByPoint {
     }
 }
 
-/// Returns a hand of the ring that is on the node to which a key with this hash belongs, or at null if the ring is empty. O(log n).
+/// Returns a cursor that owns the ring, on the node to which a key with this hash belongs. In an empty ring it is at null. O(log n).
 ///
-/// It requires that the nodes are objects, and sorted by their points.
+/// It requires that there is an object at each member of the ring, and that the nodes are sorted by their points.
 pub fn owner_of<L: RBTreeOps>(
     ring: RBTree<ByPoint>,
     links: &L,
@@ -72,9 +72,10 @@ pub fn owner_of<L: RBTreeOps>(
     hand
 }
 
-/// Returns a hand of the ring that is on the last node before this hash, or at null if the ring is empty. O(log n).
+/// Returns a cursor that owns the ring, on the last node before this hash. O(log n).
 ///
-/// If a new node joins at the hash, it gets the keys between the returned node and the hash. It requires what [`owner_of`] requires.
+/// If no node is before the hash, the cursor is on the last node of all, or at null in an empty ring. A new node that joins at the hash gets the keys
+/// between the cursor's node and the hash. It requires what [`owner_of`] requires.
 pub fn node_before<L: RBTreeOps>(
     ring: RBTree<ByPoint>,
     links: &L,
@@ -95,11 +96,11 @@ pub fn node_before<L: RBTreeOps>(
     hand
 }
 
-/// Removes the first node at this hash from the ring, and returns the node and a hand of the ring. O(log n).
+/// Removes the first node at this hash from the ring, and returns the node and a cursor that owns the ring. O(log n).
 ///
-/// It requires what [`owner_of`] requires. The removed node is unlinked, but keeps its place. The hand is on the node after it, which gets its keys,
-/// or at null if the removed node was the last in the order of points. `None` means that no node is at this hash. Then the hand is at null, and
-/// nothing has changed.
+/// It requires what [`owner_of`] requires. The removed node is unlinked, but keeps its place. The cursor is on the node after the removed one, and this
+/// node gets the removed node's keys. It is at null if the removed node was the last in the order of points. `None` means that no node is at this hash.
+/// Then the cursor is at null, and nothing has changed.
 pub fn leave<L: RBTreeOps>(
     ring: RBTree<ByPoint>,
     links: &mut L,

@@ -20,8 +20,8 @@ use ic_unsafe_ref::UnsafeRef;
 
 /// Gives up a job that this worker has claimed: removes it from the worker's list, so that any worker can claim it. O(1).
 ///
-/// It requires that the table covers the job's place, and that the list has all linked places of the table, which then also holds afterwards. It
-/// takes no memory, and waits for nobody. `false` means that this worker has not claimed the job, and then nothing has changed.
+/// It requires that the table covers the job's place, and that the list has all linked places of the table. Afterwards the list still has all linked
+/// places. It takes no memory, and waits for nobody. `false` means that this worker has not claimed the job, and then nothing has changed.
 pub fn give_up<T>(jobs: &mut LinkedList<T>, links: &mut AtomicLinkOps, job: &UnsafeRef<T>) -> bool
     requires covered { IsCovered (plain_table (links_of links.old)) job.now }
     requires jobs { (s : List Place) × HasAll (links_of links.old) jobs.old s }

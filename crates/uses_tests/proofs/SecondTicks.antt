@@ -3,7 +3,7 @@ use Rattle.std.proofs.Common.{◌≡◌, Bool, not, List, [], ◌∷◌, filter,
 use Rattle.scheduler.specs.declared.task.Task.{Task}
 use Rattle.scheduler.specs.Schedule.{IsByDeadline}
 
--- if only the items that fail a test are kept, then no item passes the test
+-- if a list keeps only its items that fail a test, then none of the kept items passes the test
 pub none_of_others : {X : Type 0} (test : X → Bool) (xs : List X) → filter test (filter (λ x. not (test x)) xs) ≡ []
 none_of_others test [] = refl
 none_of_others test (x ∷ xs) = let rest = none_of_others test xs in grind (arith, rest)

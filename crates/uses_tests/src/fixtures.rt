@@ -77,7 +77,7 @@ pub(crate) fn placed<T: Copy + Debug>(rt: &impl Abort, alloc: Global, values: &[
     objects
 }
 
-/// Returns the reference to the object at the place with this index, which the table covers.
+/// Returns the reference to the object at the place with this index. The table covers this place.
 pub(crate) fn object<T, W: Words>(
     rt: &impl Abort,
     links: &PlainTable<W>,

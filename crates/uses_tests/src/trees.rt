@@ -34,7 +34,7 @@ fn the_earliest_timer_is_taken_first(rt: HostRuntime) {
     let objects = placed(&rt, rt.alloc(), &TIMERS);
     let mut links: LinkOps = covering(&rt, rt.alloc());
     let mut timers = RBTree::new(ByDeadline::new());
-    // the order of the timers is 1, 3, 4, 2, 0, because of the two timers with the deadline 20 the one at place 4 is scheduled first
+    // The order of the timers is 1, 3, 4, 2, 0. The timers at the places 4 and 2 have the same deadline, and the timer at 4 is scheduled first.
     for index in [4, 1, 0, 3, 2] {
         let timer = object(&rt, &links, &objects, index);
         schedule(&mut timers, &mut links, &objects, timer).expect(&rt, UNLINKED);

@@ -1,4 +1,4 @@
--- After calls that are orderly for a tree, the members that the tree shows are in the right order.
+-- After calls that insert objects into a tree only by their own keys (`AreOrderly`), the call `show` returns the tree's members in the right order.
 use Rattle.std.proofs.Common.{◌≡◌, ℕ, List, Some, ap, sym, ◌∙◌, subst}
 use Rattle.std.specs.declared.cmp.Ordering.{Ordering}
 use Rattle.ic_unsafe_ref.specs.declared.place.Place.{Place}

@@ -1,4 +1,4 @@
--- The number of looks that the bound allows in a small tree.
+-- A search in a tree of at most three members makes at most four looks.
 use Rattle.std.proofs.Common.{ℕ, ◌+◌, ◌^◌, ◌≤◌, List, length, inl, inr, arith}
 use Rattle.std.proofs.Math.Pow.{pow_mono}
 use Rattle.std.proofs.Math.Nat.{pow-le-pow_left}

@@ -92,7 +92,7 @@ where
     }
 }
 
-/// Returns the members of two collections. If both collections use one field, they share no member.
+/// Returns the members of two collections. If both collections use the same field, they share no member.
 fn both_represented<A: KeyAdapter, M: Allocator + Copy>(
     world: &World<A, M>,
     first: usize,

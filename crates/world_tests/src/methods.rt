@@ -13,7 +13,7 @@ fn is_found(
     matches!(found, Ok((at, looked)) if at == place && looked == looks)
 }
 
-// Returns whether the entry is at this place, and whether `had_key` says correctly if a member had the key before.
+// Returns whether the entry is at this place, and its first part, which says whether a member had the key before, is `had_key`.
 fn is_entry(entry: Result<(bool, Place, u64), Refusal>, had_key: bool, place: Place) -> bool {
     matches!(entry, Ok((had, at, _)) if had == had_key && at == place)
 }

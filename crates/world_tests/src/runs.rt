@@ -13,8 +13,8 @@ use ic_unsafe_ref::Place;
 use ic_world::{Answer, Command, World};
 use std::alloc::{Allocator, Global};
 
-/// Makes any calls, and returns their answers and the members of a tree afterwards. If the calls are orderly for the tree, the tree is sorted, and
-/// members with equal keys are in the order of their insertion.
+/// Makes any calls, and returns their answers and the members of a tree afterwards. If the calls leave the order of the tree's members to their keys
+/// (`AreOrderly`), the tree is sorted, and members with equal keys are in the order of their insertion.
 fn represented_after<A: KeyAdapter, M: Allocator + Copy>(
     alloc: M,
     world: &mut World<A, M>,

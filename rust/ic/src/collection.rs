@@ -1,17 +1,17 @@
-//! This module has what all lists and trees have in common.
+//! This module has the traits of lists and trees, and the code that all of them share.
 //!
-//! The trait [`Collection`] says how a cursor moves and edits. Views, iterators, cursors and [`retain`] are written once, for every type with
-//! this trait.
+//! The trait [`Collection`] has the calls by which a cursor moves and edits. Views, iterators, cursors and [`retain`] use these calls, so
+//! their code serves every type with this trait.
 
 use crate::link::Link;
 use crate::Error;
 
-/// The position of a cursor: on a member, or on no member, which is the position between the last member and the first.
+/// The position of a cursor, which is on a member, or on no member. A position on no member is between the last member and the first.
 pub trait Position: Copy {
     /// The position on no member.
     const NULL: Self;
 
-    /// The member.
+    /// Returns the member of the position, or `None` on no member.
     fn place(self) -> Option<u32>;
 }
 
@@ -26,7 +26,7 @@ impl Position for Option<u32> {
 
 /// The trait of the lists and trees.
 ///
-/// No call reads a link outside the table. If a word names a place outside the table, a call reads the word as `None`.
+/// No call reads a link outside the table. If a word names a place outside the table, a call treats the word as `None`.
 pub trait Collection: Sized {
     /// The type of the table's links.
     type Link: Link;
@@ -36,7 +36,8 @@ pub trait Collection: Sized {
     /// Returns the position after `at`.
     fn next(&self, table: &[Self::Link], at: Self::Position) -> Self::Position;
 
-    /// Returns the position of the last member, or of no member for a [`Stack`](crate::Stack), which doesn't have it.
+    /// Returns the position of the last member. In a [`Stack`](crate::Stack), which does not store its last member, the call returns the
+    /// position on no member.
     fn end(&self, table: &[Self::Link]) -> Self::Position;
 
     /// Inserts a place after a position.
@@ -46,7 +47,8 @@ pub trait Collection: Sized {
     fn remove_next(&mut self, table: &mut [Self::Link], at: Self::Position) -> Result<Option<u32>, Error>;
 }
 
-/// The trait of the lists and trees whose cursors move in both directions. Each edit returns the position of the cursor after the edit.
+/// The trait of the lists and trees whose cursors move in both directions. Each edit takes the position of a cursor, and returns the position
+/// that the cursor has after the edit.
 pub trait Bidirectional: Collection {
     /// Returns the position before `at`.
     fn prev(&self, table: &[Self::Link], at: Self::Position) -> Self::Position;
@@ -62,11 +64,11 @@ pub trait Bidirectional: Collection {
     /// Removes the member at a position. The cursor moves to the next member.
     fn remove(&mut self, table: &mut [Self::Link], at: Self::Position) -> Result<Self::Position, Error>;
 
-    /// Removes the member at a position, and inserts a place where it was. The cursor moves to this place.
+    /// Removes the member at a position, and inserts a place instead. The cursor moves to this place.
     fn replace(&mut self, table: &mut [Self::Link], at: Self::Position, place: u32) -> Result<Self::Position, Error>;
 }
 
-/// The trait of the lists, which have calls that move all members, or the members after a position.
+/// The trait of the lists. Its calls move all members of a list, or the members after a position.
 pub trait Splice: Collection {
     /// Moves all members of a list after a position.
     fn splice_after(&mut self, table: &mut [Self::Link], at: Self::Position, given: &mut Self) -> Result<(), Error>;
@@ -75,7 +77,8 @@ pub trait Splice: Collection {
     fn split_after(&mut self, table: &mut [Self::Link], at: Self::Position) -> Result<Self, Error>;
 }
 
-/// The trait of the lists whose cursors move in both directions. Each edit returns the position of the cursor, which stays on its member.
+/// The trait of the lists whose cursors move in both directions. Each edit leaves the cursor on its member, and returns the position that the
+/// cursor has after the edit.
 pub trait BidirectionalSplice: Bidirectional + Splice {
     /// Moves all members of a list before a position.
     fn splice_before(
@@ -89,7 +92,8 @@ pub trait BidirectionalSplice: Bidirectional + Splice {
     fn split_before(&mut self, table: &mut [Self::Link], at: Self::Position) -> Result<(Self, Self::Position), Error>;
 }
 
-/// Removes each member for which `keep` returns `false`. If the walk leads to more members than the table has places, the words are wrong.
+/// Removes each member for which `keep` returns `false`. If the walk over the members visits more members than the table has places, the call
+/// returns [`Error::Broken`].
 pub(crate) fn retain<C: Collection>(
     collection: &mut C,
     table: &mut [C::Link],
@@ -112,14 +116,14 @@ pub(crate) fn retain<C: Collection>(
 macro_rules! collection {
     ($Collection:ident, $Link:ident) => {
         impl $Collection {
-            /// Borrows the list or tree together with its table, to print the members or to iterate over them, in O(1).
+            /// Borrows the list or tree together with its table, in O(1). You can print the members of the view, or iterate over them.
             #[inline]
             #[must_use]
             pub fn view<'a>(&'a self, table: &'a [$Link]) -> View<'a, $Collection> {
                 View::new(self, table)
             }
 
-            /// Iterates over the members, in order. This takes O(n) for all members, and in a list O(1) for each member.
+            /// Iterates over the members, in order. The iteration takes O(n) for all members, and in a list O(1) for each member.
             ///
             /// Whatever the words are, the iterator ends after as many members as the table has places.
             #[inline]
@@ -141,8 +145,8 @@ macro_rules! collection {
             /// # Errors
             ///
             /// [`Error::Broken`] if the words lead to more members than the table has places. If the removal of a member is refused, the call
-            /// returns the error of this removal. In both cases the words of the table and of the list or tree contradict each other, and the
-            /// call may already have removed members.
+            /// returns the error of this removal. Whenever the call returns an error, the words of the table and of the list or tree
+            /// contradict each other. The call may have removed members before it returned the error.
             #[inline]
             pub fn retain(&mut self, table: &mut [$Link], keep: impl FnMut(u32) -> bool) -> Result<(), Error> {
                 crate::collection::retain(self, table, keep)
@@ -155,14 +159,14 @@ macro_rules! collection {
                 Cursor::new(self, table, Position::NULL)
             }
 
-            /// Returns a cursor that can edit, on no member, in O(1).
+            /// Returns a [`CursorMut`](crate::CursorMut) on no member, in O(1).
             #[inline]
             #[must_use]
             pub fn cursor_mut<'a>(&'a mut self, table: &'a mut [$Link]) -> CursorMut<'a, $Collection> {
                 CursorMut::new(self, table, Position::NULL)
             }
 
-            /// Returns a cursor on the first member, or on none if there are no members, in O(1) in a list and O(log n) in a tree.
+            /// Returns a cursor on the first member, or on no member if there is none, in O(1) in a list and O(log n) in a tree.
             #[inline]
             #[must_use]
             pub fn front<'a>(&'a self, table: &'a [$Link]) -> Cursor<'a, $Collection> {
@@ -171,8 +175,8 @@ macro_rules! collection {
                 cursor
             }
 
-            /// Returns a cursor that can edit, on the first member, or on none if there are no members, in O(1) in a list and O(log n) in a
-            /// tree.
+            /// Returns a [`CursorMut`](crate::CursorMut) on the first member, or on no member if there is none, in O(1) in a list and O(log n)
+            /// in a tree.
             #[inline]
             #[must_use]
             pub fn front_mut<'a>(&'a mut self, table: &'a mut [$Link]) -> CursorMut<'a, $Collection> {
@@ -188,7 +192,7 @@ macro_rules! collection {
 macro_rules! bidirectional {
     ($Collection:ident, $Link:ident) => {
         impl $Collection {
-            /// Returns a cursor on the last member, or on none if there are no members, in O(1) in a list and O(log n) in a tree.
+            /// Returns a cursor on the last member, or on no member if there is none, in O(1) in a list and O(log n) in a tree.
             #[inline]
             #[must_use]
             pub fn back<'a>(&'a self, table: &'a [$Link]) -> Cursor<'a, $Collection> {
@@ -197,8 +201,8 @@ macro_rules! bidirectional {
                 cursor
             }
 
-            /// Returns a cursor that can edit, on the last member, or on none if there are no members, in O(1) in a list and O(log n) in a
-            /// tree.
+            /// Returns a [`CursorMut`](crate::CursorMut) on the last member, or on no member if there is none, in O(1) in a list and O(log n)
+            /// in a tree.
             #[inline]
             #[must_use]
             pub fn back_mut<'a>(&'a mut self, table: &'a mut [$Link]) -> CursorMut<'a, $Collection> {
@@ -210,7 +214,7 @@ macro_rules! bidirectional {
     };
 }
 
-/// Defines the calls that are the same for the lists and trees in which a cursor needs only its member.
+/// Defines the calls that are the same for the lists and trees in which a cursor needs only its member, and no neighbor of its member.
 macro_rules! from_place {
     ($Collection:ident, $Link:ident) => {
         impl $Collection {
@@ -229,8 +233,8 @@ macro_rules! from_place {
                 Ok(Cursor::new(self, table, Some(place)))
             }
 
-            /// Returns a cursor that can edit, on the member `place`, in O(1). The call cannot detect whether `place` is a member of another
-            /// list or tree.
+            /// Returns a [`CursorMut`](crate::CursorMut) on the member `place`, in O(1). The call cannot detect whether `place` is a member of
+            /// another list or tree.
             ///
             /// # Errors
             ///

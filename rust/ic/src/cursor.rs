@@ -1,14 +1,14 @@
-//! This module has cursors that read or edit. Their calls have the names that the crate `intrusive-collections` gives them.
+//! This module has cursors that read or edit. Their calls have the same names as the calls of cursors in the crate `intrusive-collections`.
 
 use crate::collection::{Bidirectional, BidirectionalSplice, Collection, Position, Splice};
 use crate::view::View;
 use crate::{Error, Stack};
 use core::fmt;
 
-/// A cursor that reads, on a member of a list or tree, or on no member.
+/// A cursor that reads. It is on a member of a list or tree, or on no member.
 ///
-/// The list or tree is of the type `C`. A cursor on no member is between the last member and the first, and [`move_next`](Self::move_next)
-/// moves it to the first member.
+/// `C` is the type of the list or tree. A cursor on no member is between the last member and the first, and [`move_next`](Self::move_next)
+/// moves this cursor to the first member.
 ///
 /// ```
 /// use ic::{Link2, List};
@@ -53,14 +53,15 @@ impl<'a, C: Collection> Cursor<'a, C> {
         self.position.place()
     }
 
-    /// Borrows the list or tree together with its table, to print all members or to iterate over them, in O(1).
+    /// Borrows the list or tree together with its table, in O(1). You can print the members of the view, or iterate over them.
     #[inline]
     #[must_use]
     pub fn view(&self) -> View<'a, C> {
         self.view
     }
 
-    /// Moves to the next member, from no member to the first, and from the last to no member, in O(1) in a list and O(log n) in a tree.
+    /// Moves the cursor to the next member, in O(1) in a list and O(log n) in a tree. From no member the cursor moves to the first member, and
+    /// from the last member to no member.
     #[inline]
     pub fn move_next(&mut self) {
         self.position = self.view.next(self.position);
@@ -76,9 +77,10 @@ impl<'a, C: Collection> Cursor<'a, C> {
     }
 }
 
-/// These are calls of the cursors of all lists and trees except a [`Stack`].
+/// The cursors of all lists and trees except a [`Stack`] have these calls.
 impl<C: Bidirectional> Cursor<'_, C> {
-    /// Moves to the previous member, from no member to the last, and from the first to no member, in O(1) in a list and O(log n) in a tree.
+    /// Moves the cursor to the previous member, in O(1) in a list and O(log n) in a tree. From no member the cursor moves to the last member,
+    /// and from the first member to no member.
     #[inline]
     pub fn move_prev(&mut self) {
         self.position = self.view.prev(self.position);
@@ -109,10 +111,10 @@ impl<C: Collection> fmt::Debug for Cursor<'_, C> {
     }
 }
 
-/// A cursor that edits, on a member of a list or tree, or on no member.
+/// A cursor that edits. It is on a member of a list or tree, or on no member.
 ///
-/// The cursor borrows the list or tree, whose type is `C`, together with its table. So you pass neither to the cursor's calls, and only the
-/// cursor can edit them. An edit that returns an [`Error`] has changed nothing, and has not moved the cursor.
+/// The cursor borrows the list or tree, whose type is `C`, together with its table. So you pass neither the list or tree nor the table to the
+/// cursor's calls, and only the cursor can edit them. An edit that returns an [`Error`] has changed nothing, and has not moved the cursor.
 ///
 /// ```
 /// use ic::{Link2, List};
@@ -159,21 +161,22 @@ impl<'a, C: Collection> CursorMut<'a, C> {
         self.position.place()
     }
 
-    /// Borrows the list or tree together with its table, to print all members or to iterate over them, in O(1).
+    /// Borrows the list or tree together with its table, in O(1). You can print the members of the view, or iterate over them.
     #[inline]
     #[must_use]
     pub fn view(&self) -> View<'_, C> {
         View::new(self.collection, self.table)
     }
 
-    /// Returns a cursor that reads, at the same position, in O(1).
+    /// Returns a cursor that reads, at the position of this cursor, in O(1).
     #[inline]
     #[must_use]
     pub fn as_cursor(&self) -> Cursor<'_, C> {
         Cursor { view: self.view(), position: self.position }
     }
 
-    /// Moves to the next member, from no member to the first, and from the last to no member, in O(1) in a list and O(log n) in a tree.
+    /// Moves the cursor to the next member, in O(1) in a list and O(log n) in a tree. From no member the cursor moves to the first member, and
+    /// from the last member to no member.
     #[inline]
     pub fn move_next(&mut self) {
         self.position = self.peek_next().position;
@@ -186,9 +189,10 @@ impl<'a, C: Collection> CursorMut<'a, C> {
         self.as_cursor().peek_next()
     }
 
-    /// Inserts `place` after the cursor's member, or at the front if the cursor is on none, in O(1) in a list and O(log n) in a tree.
+    /// Inserts `place` after the cursor's member, or at the front if the cursor is on no member, in O(1) in a list and O(log n) in a tree.
     ///
-    /// The cursor does not move. In a tree the call compares no keys, so pass a place that comes there in the order of the members.
+    /// The cursor does not move. In a tree the call compares no keys, so pass a place that belongs at this position in the order of the
+    /// members.
     ///
     /// # Errors
     ///
@@ -200,9 +204,10 @@ impl<'a, C: Collection> CursorMut<'a, C> {
     }
 }
 
-/// These are calls of the cursors of all lists and trees except a [`Stack`].
+/// The cursors of all lists and trees except a [`Stack`] have these calls.
 impl<C: Bidirectional> CursorMut<'_, C> {
-    /// Moves to the previous member, from no member to the last, and from the first to no member, in O(1) in a list and O(log n) in a tree.
+    /// Moves the cursor to the previous member, in O(1) in a list and O(log n) in a tree. From no member the cursor moves to the last member,
+    /// and from the first member to no member.
     #[inline]
     pub fn move_prev(&mut self) {
         self.position = self.peek_prev().position;
@@ -215,9 +220,10 @@ impl<C: Bidirectional> CursorMut<'_, C> {
         self.as_cursor().peek_prev()
     }
 
-    /// Inserts `place` before the cursor's member, or at the back if the cursor is on none, in O(1) in a list and O(log n) in a tree.
+    /// Inserts `place` before the cursor's member, or at the back if the cursor is on no member, in O(1) in a list and O(log n) in a tree.
     ///
-    /// The cursor does not move. In a tree the call compares no keys, so pass a place that comes there in the order of the members.
+    /// The cursor does not move. In a tree the call compares no keys, so pass a place that belongs at this position in the order of the
+    /// members.
     ///
     /// # Errors
     ///
@@ -229,7 +235,8 @@ impl<C: Bidirectional> CursorMut<'_, C> {
         Ok(())
     }
 
-    /// Removes the cursor's member and returns it, or `None` if the cursor is on no member, in O(1) in a list and O(log n) in a tree.
+    /// Removes and returns the cursor's member, in O(1) in a list and O(log n) in a tree. If the cursor is on no member, the call returns
+    /// `None`.
     ///
     /// The cursor moves to the next member.
     ///
@@ -246,14 +253,16 @@ impl<C: Bidirectional> CursorMut<'_, C> {
         Ok(member)
     }
 
-    /// Removes the cursor's member, inserts `place` where it was, and returns the removed member, in O(1).
+    /// Removes the cursor's member, inserts `place` in its position, and returns the removed member, in O(1).
     ///
-    /// The cursor moves to `place`. In a tree the call compares no keys, so pass a place that comes there in the order of the members.
+    /// The cursor moves to `place`. In a tree the call compares no keys, so pass a place that belongs at this position in the order of the
+    /// members.
     ///
     /// # Errors
     ///
-    /// [`Error::Null`] if the cursor is on none. [`Error::OutOfRange`] if `place` is not below the table's length. [`Error::Linked`] if `place`
-    /// is linked already. [`Error::Broken`] or [`Error::NotLinked`] if the words of the table and of the list or tree contradict each other.
+    /// [`Error::Null`] if the cursor is on no member. [`Error::OutOfRange`] if `place` is not below the table's length. [`Error::Linked`] if
+    /// `place` is linked already. [`Error::Broken`] or [`Error::NotLinked`] if the words of the table and of the list or tree contradict each
+    /// other.
     #[inline]
     #[doc(alias = "replace_current")]
     pub fn replace_with(&mut self, place: u32) -> Result<u32, Error> {
@@ -263,11 +272,11 @@ impl<C: Bidirectional> CursorMut<'_, C> {
     }
 }
 
-/// These are calls of the cursors of lists.
+/// The cursors of lists have these calls.
 impl<C: Splice> CursorMut<'_, C> {
-    /// Moves all members of a list of the same table after the cursor's member, or to the front if the cursor is on none.
+    /// Moves all members of `given`, a list of the same table, after the cursor's member, or to the front if the cursor is on no member.
     ///
-    /// The call takes O(1), or O(members of `given`) in a [`Stack`]. Afterwards `given` is empty. The cursor does not move.
+    /// The call takes O(1), but in a [`Stack`] O(members of `given`). After the call `given` is empty. The cursor does not move.
     ///
     /// # Errors
     ///
@@ -278,8 +287,8 @@ impl<C: Splice> CursorMut<'_, C> {
         self.collection.splice_after(self.table, self.position, given)
     }
 
-    /// Moves the members after the cursor's member, or all members if the cursor is on none, to a new list, which the call returns, in O(1).
-    /// The cursor does not move.
+    /// Moves the members after the cursor's member to a new list, which the call returns, in O(1). If the cursor is on no member, all members
+    /// move. The cursor does not move.
     ///
     /// # Errors
     ///
@@ -290,11 +299,12 @@ impl<C: Splice> CursorMut<'_, C> {
     }
 }
 
-/// These are calls of the cursors of a [`List`](crate::List) and an [`XorList`](crate::XorList).
+/// The cursors of a [`List`](crate::List) and an [`XorList`](crate::XorList) have these calls.
 impl<C: BidirectionalSplice> CursorMut<'_, C> {
-    /// Moves all members of a list of the same table before the cursor's member, or to the back if the cursor is on none, in O(1).
+    /// Moves all members of `given`, a list of the same table, before the cursor's member, or to the back if the cursor is on no member, in
+    /// O(1).
     ///
-    /// Afterwards `given` is empty. The cursor does not move.
+    /// After the call `given` is empty. The cursor does not move.
     ///
     /// # Errors
     ///
@@ -306,8 +316,8 @@ impl<C: BidirectionalSplice> CursorMut<'_, C> {
         Ok(())
     }
 
-    /// Moves the members before the cursor's member, or all members if the cursor is on none, to a new list, which the call returns, in O(1).
-    /// The cursor does not move.
+    /// Moves the members before the cursor's member to a new list, which the call returns, in O(1). If the cursor is on no member, all members
+    /// move. The cursor does not move.
     ///
     /// # Errors
     ///
@@ -320,7 +330,7 @@ impl<C: BidirectionalSplice> CursorMut<'_, C> {
     }
 }
 
-/// These are calls of the cursors of a [`Stack`].
+/// The cursors of a [`Stack`] have these calls.
 ///
 /// ```
 /// use ic::{Link1, Stack};
@@ -339,7 +349,7 @@ impl<C: BidirectionalSplice> CursorMut<'_, C> {
 /// # Ok::<(), ic::Error>(())
 /// ```
 impl CursorMut<'_, Stack> {
-    /// Removes the member after the cursor and returns it, or `None` if there is none, in O(1). The cursor does not move.
+    /// Removes and returns the member after the cursor, or returns `None` if there is none, in O(1). The cursor does not move.
     ///
     /// # Errors
     ///
@@ -349,7 +359,8 @@ impl CursorMut<'_, Stack> {
         self.collection.remove_after(self.table, self.position)
     }
 
-    /// Removes the member after the cursor, inserts `place` where it was, and returns the removed member, in O(1). The cursor does not move.
+    /// Removes the member after the cursor, inserts `place` in its position, and returns the removed member, in O(1). The cursor does not
+    /// move.
     ///
     /// # Errors
     ///

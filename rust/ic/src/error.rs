@@ -1,9 +1,9 @@
-//! This module has the errors, which say why a call is refused.
+//! This module has the errors, each of which says why a call was refused.
 
 use core::fmt;
 use ic_sys::*;
 
-/// The reason for which a call was refused and has changed nothing.
+/// The reason for which a call was refused. A refused call has changed nothing, except `retain`, which may have removed members.
 ///
 /// ```
 /// use ic::{Error, Link2, List};
@@ -21,11 +21,11 @@ use ic_sys::*;
 pub enum Error {
     /// A place is not below the table's length, or there are fewer keys, hashes or sums than places, or there is no bucket.
     OutOfRange,
-    /// The place to insert is in a list or tree of this table.
+    /// The place to insert is in a list or tree of this table already.
     Linked,
     /// A place that you name as a member is in no list or tree of this table.
     NotLinked,
-    /// The call needs a member, and you passed none or there is no such member.
+    /// You passed `u32::MAX` for a member or a head that the call needs, or there is no member to remove or find.
     Null,
     /// The words of the table, the list or the tree contradict each other, or do not allow the edit.
     Broken,
@@ -47,7 +47,7 @@ impl fmt::Display for Error {
 
 impl core::error::Error for Error {}
 
-/// Returns the result that a status of C stands for.
+/// Returns the result that corresponds to a status of C.
 #[inline]
 pub(crate) fn done(status: u32) -> Result<(), Error> {
     match status {
@@ -60,7 +60,7 @@ pub(crate) fn done(status: u32) -> Result<(), Error> {
     }
 }
 
-/// Makes a call of C that sets a member, and returns this member, or `None` if the status is `IC_NULL`.
+/// Makes a call of C that sets an out parameter to a member, and returns this member, or `None` if the status is `IC_NULL`.
 #[inline]
 pub(crate) fn handed_out(call: impl FnOnce(&mut u32) -> u32) -> Result<Option<u32>, Error> {
     let mut member = IC_NONE;
@@ -71,7 +71,7 @@ pub(crate) fn handed_out(call: impl FnOnce(&mut u32) -> u32) -> Result<Option<u3
     }
 }
 
-/// Makes a call of C that counts members, and returns how many there are.
+/// Makes a call of C that counts members, and returns their number.
 #[inline]
 pub(crate) fn try_counted(call: impl FnOnce(&mut u64) -> u32) -> Result<u64, Error> {
     let mut members = 0;
@@ -79,7 +79,7 @@ pub(crate) fn try_counted(call: impl FnOnce(&mut u64) -> u32) -> Result<u64, Err
     Ok(members)
 }
 
-/// Makes a call of C that counts members, and returns how many there are, or `None` if the words form no list or tree.
+/// Makes a call of C that counts members, and returns their number, or `None` if the words form no list or tree.
 #[inline]
 pub(crate) fn counted(call: impl FnOnce(&mut u64) -> u32) -> Option<u64> {
     try_counted(call).ok()

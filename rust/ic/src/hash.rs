@@ -1,8 +1,8 @@
-//! Hash tables: a hash table is a slice of buckets, and each bucket is a [`Stack`], which is called a chain.
+//! Hash tables. A hash table is a slice of buckets, and each bucket is a [`Stack`], a singly linked list, which is called a chain.
 //!
-//! Hash tables are good for finding objects by a key, if you need no order. Your hash function computes a number, the hash, from each key, and
-//! you pass the same hash to each call for one object. A member is in the bucket whose index is `hash % buckets.len()`, which is the chain of
-//! its hash. If there are about as many buckets as members, chains are short.
+//! Hash tables are good for finding objects by a key, if you need no order. Your hash function computes a number, the hash, from the key of
+//! each object. The chain of a hash is the bucket with the index `hash % buckets.len()`. The place of an object is in the chain of the
+//! object's hash, so pass the same hash whenever you name this object. If there are about as many buckets as members, chains are short.
 //!
 //! ```
 //! use ic::{hash, Error, Link1, Stack};
@@ -33,8 +33,8 @@
 //! # Ok::<(), Error>(())
 //! ```
 //!
-//! Words that come from a file may have any values. [`check`] returns an error unless each member is in the chain of its hash, where a search
-//! looks for the member:
+//! Words that come from a file may have any values. [`check`] returns an error if a member is not in the chain of its hash, so that no search
+//! would find it:
 //!
 //! ```
 //! use ic::{hash, Error, Link1, Stack};
@@ -54,8 +54,8 @@
 //! # Ok::<(), Error>(())
 //! ```
 //!
-//! To grow or shrink a hash table, make another array of buckets, and call [`move_chain`] for each bucket of the old array, at once or over
-//! time. Members with one key keep their order:
+//! To grow or shrink a hash table, make another array of buckets, and call [`move_chain`] for each bucket of the old array, all at once or
+//! over time. Members with the same key keep their order:
 //!
 //! ```
 //! use ic::{hash, Error, Link1, Stack};
@@ -74,7 +74,8 @@
 //! # Ok::<(), Error>(())
 //! ```
 //!
-//! You can pass a bucket to each call of [`Stack`], too: [`Stack::clear`] empties a bucket. A place is in at most one chain or list of a table.
+//! You can make each call of [`Stack`] on a bucket, too. For example, [`Stack::clear`] empties a bucket. A place is in at most one chain or
+//! list of a table.
 
 use crate::error::{done, handed_out, try_counted};
 use crate::link::Link;
@@ -127,7 +128,7 @@ pub fn insert(table: &mut [Link1], buckets: &mut [Stack], hash: u64, place: u32)
 ///
 /// [`Error::Null`] if `place` is `u32::MAX`. [`Error::OutOfRange`] if there is no bucket, or `place` is not below the table's length.
 /// [`Error::NotLinked`] if `place` is not linked. [`Error::Broken`] if `place` is linked, for example in the chain of another hash, but the
-/// links of this chain do not lead to `place`.
+/// links of the chain of `hash` do not lead to `place`.
 #[inline]
 pub fn remove(table: &mut [Link1], buckets: &mut [Stack], hash: u64, place: u32) -> Result<(), Error> {
     let (links, places) = Link1::parts(table);
@@ -135,8 +136,9 @@ pub fn remove(table: &mut [Link1], buckets: &mut [Stack], hash: u64, place: u32)
     done(unsafe { ic_hash_remove(links, places, buckets.as_mut_ptr().cast(), buckets.len(), hash, place) })
 }
 
-/// Finds the first member of the chain of `hash` whose key is `key`, and returns it, in O(members of the chain). If several members have
-/// this key, the first of them is the one that was inserted last. The call returns `None` if no member of the chain has this key.
+/// Finds the first member with the key `key` in the chain of `hash`, and returns this member, in O(members of the chain). If several
+/// members have this key, the first of them is the one that you inserted last. The call returns `None` if no member of the chain has this
+/// key.
 ///
 /// # Errors
 ///
@@ -151,8 +153,8 @@ pub fn find(table: &[Link1], keys: &[u64], buckets: &[Stack], hash: u64, key: u6
     })
 }
 
-/// Finds the first member after the member `at` in the same chain that has the same key as `at`, and returns it, in O(members of the
-/// chain). The call returns `None` if the place `at` is `u32::MAX`, or no later member of the chain has this key.
+/// Finds the next member after the member `at` that is in the same chain as `at` and has the same key as `at`, and returns this member, in
+/// O(members of the chain). The call returns `None` if the place `at` is `u32::MAX`, or no later member of the chain has this key.
 ///
 /// # Errors
 ///
@@ -166,9 +168,9 @@ pub fn next_equal(table: &[Link1], keys: &[u64], at: u32) -> Result<Option<u32>,
     handed_out(|it| unsafe { ic_hash_next_equal(links, places, keys.as_ptr(), keys.len(), at, it) })
 }
 
-/// Counts the members of all chains, and returns how many there are, in O(buckets + n). `hashes` has the hash of each place. Make this call
-/// if the words come from a file, or from memory that others write. If the call returns a number, each member is in the chain of its hash
-/// and in no other chain, and every other call on this hash table does what its own comment says.
+/// Counts the members of all chains, and returns their number, in O(buckets + n). `hashes` has the hash of each place. Make this call if
+/// the words come from a file, or from memory to which other programs write. If the call returns a number, each member is in the chain of
+/// its hash and in no other chain, and all other calls on this hash table do what their comments say.
 ///
 /// # Errors
 ///
@@ -185,9 +187,9 @@ pub fn check(table: &[Link1], hashes: &[u64], buckets: &[Stack]) -> Result<u64, 
 
 /// Moves each member of `chain`, a bucket of another array, to the chain of its hash, and leaves `chain` empty, in O(members of the chain).
 /// `hashes` has the hash of each place. Members that move to the same bucket keep their order, and come before the members that were in
-/// this bucket. So if several of the moved members have one key, a search still finds the one that was inserted last. Each place stays
-/// linked during the call. To grow or shrink a hash table, make another array of buckets, and make this call for each bucket of the old
-/// array.
+/// this bucket before. So if several of the moved members have the same key, a search still finds the one that you inserted last. Each
+/// place stays linked during the call. To grow or shrink a hash table, make another array of buckets, and make this call for each bucket of
+/// the old array.
 ///
 /// # Errors
 ///

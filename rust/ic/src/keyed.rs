@@ -1,5 +1,4 @@
-//! This module has more calls of trees by keys and by comparisons: insertions and searches by a comparison of yours, ranges of keys, and
-//! entries.
+//! This module has calls of trees that insert and search by a comparison of yours, and calls that find ranges of keys and entries.
 
 use crate::cursor::CursorMut;
 use crate::link::member;
@@ -36,23 +35,23 @@ pub enum Entry<'a> {
 }
 
 impl<'a> Entry<'a> {
-    /// Returns a cursor on the first member with the key, in O(log n). If there is none, the call first inserts `place`, which must have this
-    /// key.
+    /// Returns a cursor on the first member with the entry's key, in O(log n). If there is no such member, the call first inserts `place`,
+    /// which must have this key.
     ///
     /// # Errors
     ///
-    /// The call returns the errors of [`VacantEntry::insert`].
+    /// The call returns the same errors as [`VacantEntry::insert`].
     #[inline]
     pub fn or_insert(self, place: u32) -> Result<CursorMut<'a, Tree>, Error> {
         self.or_insert_with(|| place)
     }
 
-    /// Returns a cursor on the first member with the key, in O(log n). If there is none, the call first inserts the place that `make` returns,
-    /// which must have this key.
+    /// Returns a cursor on the first member with the entry's key, in O(log n). If there is no such member, the call first inserts the place
+    /// that `make` returns. This place must have the entry's key.
     ///
     /// # Errors
     ///
-    /// The call returns the errors of [`VacantEntry::insert`].
+    /// The call returns the same errors as [`VacantEntry::insert`].
     #[inline]
     pub fn or_insert_with(self, make: impl FnOnce() -> u32) -> Result<CursorMut<'a, Tree>, Error> {
         match self {
@@ -89,7 +88,8 @@ impl fmt::Debug for VacantEntry<'_> {
     }
 }
 
-/// Where a descent from the root ends: at the left or the right child that the member `under` lacks, or at the root of an empty tree.
+/// The position in which a descent from the root ends. In this position the member `under` lacks a left or a right child, or the tree lacks a
+/// root because it is empty.
 #[derive(Clone, Copy)]
 struct Gap {
     under: Option<u32>,
@@ -97,8 +97,8 @@ struct Gap {
 }
 
 impl Gap {
-    /// Descends from the root, to the left child of each member for which `goes_left` returns true, and to the right child of each other
-    /// member.
+    /// Descends from the root. At each member the descent goes to the left child if `goes_left` returns true for this member, and otherwise to
+    /// the right child.
     fn find(tree: &Tree, table: &[Link3], mut goes_left: impl FnMut(u32) -> bool) -> Gap {
         let mut gap = Gap { under: None, is_left: true };
         let mut at = member(table, tree.root());
@@ -120,10 +120,10 @@ impl Gap {
     }
 }
 
-/// These calls find ranges and entries, and insert and find by a comparison.
+/// Calls that insert and find members by a comparison, and calls that find ranges of keys and entries.
 impl Tree {
-    /// Inserts `place` by a comparison of yours, after all members that are not greater, in O(log n). `compare` takes `place` as its first
-    /// argument, and a member as its second.
+    /// Inserts `place` by a comparison of yours, after all members that are not greater than `place`, in O(log n). `compare` takes `place` as
+    /// its first argument, and a member as its second argument.
     ///
     /// ```
     /// # use ic::{Error, Link3, Tree};
@@ -138,8 +138,8 @@ impl Tree {
     ///
     /// # Errors
     ///
-    /// [`Error::OutOfRange`] if `place` is not below the table's length, in which case the call does not call `compare`. [`Error::Linked`] if
-    /// `place` is linked already. [`Error::Broken`] if the root is not linked in this table, or the links below the root form no tree.
+    /// [`Error::OutOfRange`] if `place` is not below the table's length. The call then makes no comparison. [`Error::Linked`] if `place` is
+    /// linked already. [`Error::Broken`] if the root is not linked in this table, or the links below the root form no tree.
     pub fn insert_by(
         &mut self,
         table: &mut [Link3],
@@ -153,8 +153,9 @@ impl Tree {
         gap.insert(self, table, place)
     }
 
-    /// Finds the first member for which `compare` returns [`Ordering::Equal`], in O(log n). `compare` returns [`Ordering::Less`] if the member
-    /// comes before what you look for, and [`Ordering::Greater`] if the member comes after, as in [`slice::binary_search_by`].
+    /// Finds the first member for which `compare` returns [`Ordering::Equal`], in O(log n). `compare` must return [`Ordering::Less`] if the
+    /// member comes before what you look for, and [`Ordering::Greater`] if the member comes after what you look for, as for
+    /// [`slice::binary_search_by`].
     ///
     /// ```
     /// # use ic::{Error, Link3, Tree};
@@ -179,8 +180,8 @@ impl Tree {
         found
     }
 
-    /// Iterates over the members whose keys are in a range, in order. The call takes O(log n), and a walk over all members O(n). If the range
-    /// ends before it starts, there are no members.
+    /// Iterates over the members whose keys are in a range, in order. The call takes O(log n), and an iteration over all members of the tree
+    /// takes O(n). If the range ends before it starts, the iterator returns no members.
     ///
     /// ```
     /// # use ic::{Error, Link3, Tree};
@@ -220,7 +221,8 @@ impl Tree {
         Ok(if has_any { self.view(table).between(front, back) } else { self.view(table).between(None, None) })
     }
 
-    /// Finds the first member with a key, or the gap into which a place with this key can be inserted, in O(log n). See [`Entry`].
+    /// Finds the first member with the key `key`, or the gap into which a place with this key can be inserted, in O(log n). [`Entry`] has an
+    /// example.
     ///
     /// # Errors
     ///

@@ -1,9 +1,9 @@
-//! This crate has lists, rings, hash tables and a red-black tree over tables of links, which allocate nothing.
+//! This crate has lists, rings, hash tables and red-black trees of objects in your own arrays. Its calls allocate no memory.
 //!
-//! You name an object by its place, which is its index in your own collections. A table is a slice of links, one for each place. A link
-//! consists of words, which are integers. A place that is in a list or tree is linked, and is a member of the list or tree, and the words of
-//! its link lead to other members. A place is in at most one list or tree of a table. To have an object in several lists or trees at once, use
-//! a table for each.
+//! You name an object by its place, which is the index of the object in your array. The links of the objects are in a second slice, the table,
+//! which has one link for each place. A link consists of words, which are integers that name other places. A place that is in a list or tree
+//! is linked, and is a member of this list or tree. A place is in at most one list or tree of a table. To have an object in several lists or
+//! trees at once, use one table for each list or tree.
 //!
 //! ```
 //! use ic::{Error, Link2, List};
@@ -32,14 +32,14 @@
 //!
 //! # A list and its table
 //!
-//! A list is one or two words, and does not contain its table. You pass the table to each call. Three types borrow a list and its table at
-//! once:
+//! A list consists of one or two words, and does not contain its table. So you pass the table to each call. Three types borrow a list together
+//! with its table:
 //!
-//! - A [`View`] reads. You can print the view `list.view(&links)` with `{:?}`, and use it in a `for` loop. `list.iter(&links)` returns its
-//!   iterator.
+//! - A [`View`] reads. You can print the view `list.view(&links)` with `{:?}`, and use the view in a `for` loop. `list.iter(&links)` returns
+//!   an iterator over the members.
 //! - A [`Cursor`] moves from member to member, and reads. `list.front(&links)` returns a cursor on the first member.
-//! - A [`CursorMut`] also edits: it inserts, removes and replaces members, and splits and splices lists. `list.front_mut(&mut links)` returns
-//!   such a cursor on the first member.
+//! - A [`CursorMut`] moves and reads, too, and also edits: it inserts, removes and replaces members, and splits and splices lists.
+//!   `list.front_mut(&mut links)` returns a [`CursorMut`] on the first member.
 //!
 //! ```
 //! use ic::{Link2, List};
@@ -66,32 +66,33 @@
 //! # Ok::<(), ic::Error>(())
 //! ```
 //!
-//! The calls of cursors have the names that the crate `intrusive-collections` gives them. `retain` keeps the members for which a closure
-//! returns `true`, as `Vec::retain` does.
+//! The calls of cursors have the same names as in the crate `intrusive-collections`. `retain` keeps the members for which a closure returns
+//! `true`, as `Vec::retain` does.
 //!
-//! # What goes wrong, and what does not
+//! # What can go wrong
 //!
 //! No call panics, and you write no unsafe code. You may pass any table, list, tree and place to each call. A call that returns an [`Error`]
 //! has changed nothing, except `retain`, which has made its edits up to the member at which it stopped. An edit of a list takes a constant
-//! number of steps, except [`Stack::splice_after`], [`hash::remove`], `fill`, `clear`, `retain`, `sort` and `merge`, and an edit or a search of
-//! a tree takes O(log n), except `append`, `join`, `split`, `clear` and `retain`, and [`Tree::sums_renew`] for all places. A `check` takes
-//! O(n).
+//! number of steps, except [`Stack::splice_after`], [`Stack::remove`], [`hash::remove`], [`hash::move_chain`], `fill`, `clear`, `retain`,
+//! `sort` and `merge`. An edit or a search of a tree takes O(log n), except `append`, `join`, `split`, `clear` and `retain`, and
+//! [`Tree::sums_renew`] for all places. A `check` takes O(n).
 //!
-//! The compiler doesn't check that you pass a list or tree together with its own table. With another table every call is memory safe, but the
-//! call may damage lists or trees of that table, if no word shows that it must return [`Error::Broken`]. An iterator ends after as many members
-//! as the table has places, and at a place that is not linked. A cursor never leaves the table: if a word names a place outside the table, the
-//! cursor reads the word as `None`.
+//! The compiler doesn't check that you pass a list or tree together with its own table. With the wrong table every call is still memory safe.
+//! If the call detects the mistake, it returns [`Error::Broken`]. If the call does not detect the mistake, it may damage lists or trees of the
+//! wrong table. An iterator ends at a place that is not linked, and after as many members as the table has places. A cursor never leaves the
+//! table. If a word names a place outside the table, the cursor treats the word as `None`.
 //!
 //! Links and lists contain numbers and no addresses. You can write their [words](Link2::words) to a file, and read them again. Words may have
-//! any values: [`List::check`] returns whether they form a list, and [`ring::check`] whether they form a ring.
+//! any values. [`List::check`] says whether the words of a list and its table form a list, and [`ring::check`] says whether the words of a
+//! table form a ring.
 //!
-//! The edits, the searches and the steps through a tree are calls of the crate `ic-sys`, which are proved. This crate is tested, and not
-//! proved. Each of its `unsafe` blocks contains one of these calls and nothing else.
+//! The edits, the searches and the steps through a tree are calls of the crate `ic-sys`, which are proved. The crate `ic` itself is tested,
+//! and not proved. Each of its `unsafe` blocks contains one call of `ic-sys` and nothing else.
 
 #![no_std]
 #![warn(missing_docs, clippy::missing_errors_doc, clippy::undocumented_unsafe_blocks)]
 
-/// The sample of the package's page.
+/// The code sample of the file `README.md`, which is tested with the samples of this documentation.
 #[cfg(doctest)]
 #[doc = include_str!("../README.md")]
 struct Readme;

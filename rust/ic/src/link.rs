@@ -1,7 +1,7 @@
 //! This module has links, and the words of which they consist.
 //!
-//! Bits 3 to 35 of a word are a number, which is the place that the word names plus 1, or 0 if the word names no place. Bit 0 is a mark of the
-//! link, and the library ignores all other bits. Every bit pattern is a valid word.
+//! Bits 3 to 35 of a word are a number. If the word names a place, the number is this place plus 1. If the number is 0, the word names no
+//! place. Bit 0 is a mark of the link, and the library ignores all other bits. Every bit pattern is a valid word.
 
 use crate::Error;
 use ic_sys::*;
@@ -15,7 +15,7 @@ pub(crate) fn is_none(word: u64) -> bool {
     word & NUMBER == 0
 }
 
-/// Returns the place that a word names, or `None` if the word names none or the place is no `u32`.
+/// Returns the place that a word names, or `None` if the word names no place, or a place that is no `u32`.
 #[inline]
 pub(crate) fn place(word: u64) -> Option<u32> {
     let place = ic_place(word);
@@ -28,7 +28,8 @@ pub(crate) fn number(place: Option<u32>) -> u32 {
     place.unwrap_or(IC_NONE)
 }
 
-/// Returns the place that `word` reads from the link of `at`, or `None` if `at` or this place is not in the table.
+/// Returns the place that the closure `word` reads from the link of `at`. The function returns `None` if `at` or the place that was read is
+/// not in the table.
 #[inline]
 pub(crate) fn read<L: Link>(table: &[L], at: u32, word: impl FnOnce(&L) -> Option<u32>) -> Option<u32> {
     within(table, link_of(table, at).and_then(word))
@@ -40,13 +41,13 @@ fn link_of<L: Link>(table: &[L], at: u32) -> Option<&L> {
     table.get(at as usize).filter(|_| (at as usize) < L::PLACES)
 }
 
-/// Returns the place, or `None` if the table does not have it.
+/// Returns `place`, or `None` if the table does not have this place.
 #[inline]
 pub(crate) fn within<L: Link>(table: &[L], place: Option<u32>) -> Option<u32> {
     place.filter(|&place| (place as usize) < table.len().min(L::PLACES))
 }
 
-/// Returns the place, or `None` if it is not linked in the table. An iterator ends at such a place.
+/// Returns `place`, or `None` if this place is not linked in the table. An iterator ends at a place that is not linked.
 #[inline]
 pub(crate) fn member<L: Link>(table: &[L], place: Option<u32>) -> Option<u32> {
     place.filter(|&place| link_of(table, place).is_some_and(L::is_linked))
@@ -107,14 +108,14 @@ macro_rules! link {
             pub const UNLINKED: $Link = $Link($Raw { $first: 0 $(, $word: 0)* });
 
             /// Returns the link with these words, which may have any values, for example from a file. The call `check` of a list or tree says
-            /// whether the words of a table form it.
+            /// whether the words of a table form this list or tree.
             #[inline]
             #[must_use]
             pub const fn from_words([$first $(, $word)*]: [$Word; $words]) -> $Link {
                 $Link($Raw { $first $(, $word)* })
             }
 
-            /// Returns the words of the link, for example to write them to a file. They contain no addresses.
+            /// Returns the words of the link, for example to write them to a file. The words contain no addresses.
             #[inline]
             #[must_use]
             pub const fn words(&self) -> [$Word; $words] {
@@ -142,7 +143,7 @@ link!(Link2, 2, ic_link2 { next, prev });
 link!(Link3, 3, ic_link3 { left, right, parent });
 link!(Link2x32, 2, u32, 536_870_911, ic_link2_32 { next, prev });
 
-/// The link that a table of a [`List`](crate::List) or of rings has for each place.
+/// The link of a place in a table for a [`List`](crate::List) or for rings.
 ///
 /// ```
 /// use ic::{Link2, List};
@@ -160,14 +161,14 @@ link!(Link2x32, 2, u32, 536_870_911, ic_link2_32 { next, prev });
 pub struct Link2(pub(crate) ic_link2);
 
 impl Link2 {
-    /// Returns the member after this one, or `None` if there is none or the place of this link is not linked, in O(1).
+    /// Returns the member after the place of this link, in O(1), or `None` if there is none or if the place of this link is not linked.
     #[inline]
     #[must_use]
     pub fn next(&self) -> Option<u32> {
         self.named(self.0.next)
     }
 
-    /// Returns the member before this one, or `None` if there is none or the place of this link is not linked, in O(1).
+    /// Returns the member before the place of this link, in O(1), or `None` if there is none or if the place of this link is not linked.
     #[inline]
     #[must_use]
     pub fn prev(&self) -> Option<u32> {
@@ -175,7 +176,7 @@ impl Link2 {
     }
 }
 
-/// The link that a table of a [`List32`](crate::List32) or of rings has for each place, with words of 4 bytes. It takes half the memory of a
+/// The link of a place in a table for a [`List32`](crate::List32) or for rings with words of 4 bytes. This link takes half the memory of a
 /// [`Link2`], and can name only places below 536,870,911.
 ///
 /// ```
@@ -193,14 +194,14 @@ impl Link2 {
 pub struct Link2x32(pub(crate) ic_link2_32);
 
 impl Link2x32 {
-    /// Returns the place after this one, or `None` if there is none or the place of this link is not linked, in O(1).
+    /// Returns the place after the place of this link, in O(1), or `None` if there is none or if the place of this link is not linked.
     #[inline]
     #[must_use]
     pub fn next(&self) -> Option<u32> {
         self.named(self.0.next)
     }
 
-    /// Returns the place before this one, or `None` if there is none or the place of this link is not linked, in O(1).
+    /// Returns the place before the place of this link, in O(1), or `None` if there is none or if the place of this link is not linked.
     #[inline]
     #[must_use]
     pub fn prev(&self) -> Option<u32> {
@@ -208,7 +209,7 @@ impl Link2x32 {
     }
 }
 
-/// The link that a table of a [`Stack`](crate::Stack), a hash table or an [`XorList`](crate::XorList) has for each place.
+/// The link of a place in a table for a [`Stack`](crate::Stack), a hash table or an [`XorList`](crate::XorList).
 ///
 /// ```
 /// use ic::{Link1, Stack, XorList};
@@ -230,16 +231,17 @@ impl Link2x32 {
 pub struct Link1(pub(crate) ic_link1);
 
 impl Link1 {
-    /// Returns the member after this one in a [`Stack`](crate::Stack), or `None` if there is none or the place of this link is not linked, in
-    /// O(1).
+    /// Returns the member after the place of this link in a [`Stack`](crate::Stack), in O(1), or `None` if there is none or if the place of
+    /// this link is not linked.
     #[inline]
     #[must_use]
     pub fn next(&self) -> Option<u32> {
         self.named(self.0.next)
     }
 
-    /// Returns the neighbor of this member in an [`XorList`](crate::XorList) that is not its neighbor `from`, in O(1). It returns `None` if
-    /// there is no such neighbor, or if the place of this link is not linked. At an end of the list `from` is `None`.
+    /// Returns the other neighbor in an [`XorList`](crate::XorList), in O(1): the neighbor of the place of this link that is not its neighbor
+    /// `from`. If the place of this link is the first or the last member, pass `None` as `from` to get its only neighbor. The call returns
+    /// `None` if there is no other neighbor, or if the place of this link is not linked.
     #[inline]
     #[must_use]
     pub fn step(&self, from: Option<u32>) -> Option<u32> {
@@ -247,7 +249,7 @@ impl Link1 {
     }
 }
 
-/// The link that a table of a [`Tree`](crate::Tree) has for each place.
+/// The link of a place in a table for a [`Tree`](crate::Tree).
 ///
 /// ```
 /// use ic::{Link3, Tree};
@@ -265,23 +267,23 @@ impl Link1 {
 pub struct Link3(pub(crate) ic_link3);
 
 impl Link3 {
-    /// Returns the left child, in O(1), or `None` if there is none or the place of this link is not linked. The left child and the members
-    /// below it come before this member.
+    /// Returns the left child of the place of this link, in O(1), or `None` if there is none or if the place of this link is not linked. The
+    /// left child and all members below it come before the place of this link.
     #[inline]
     #[must_use]
     pub fn left(&self) -> Option<u32> {
         self.named(self.0.left)
     }
 
-    /// Returns the right child, in O(1), or `None` if there is none or the place of this link is not linked. The right child and the members
-    /// below it come after this member.
+    /// Returns the right child of the place of this link, in O(1), or `None` if there is none or if the place of this link is not linked. The
+    /// right child and all members below it come after the place of this link.
     #[inline]
     #[must_use]
     pub fn right(&self) -> Option<u32> {
         self.named(self.0.right)
     }
 
-    /// Returns the parent, or `None` if there is none or the place of this link is not linked, in O(1).
+    /// Returns the parent of the place of this link, in O(1), or `None` if there is none or if the place of this link is not linked.
     #[inline]
     #[must_use]
     pub fn parent(&self) -> Option<u32> {

@@ -11,8 +11,8 @@ use ic_sys::*;
 
 /// A doubly linked list over a table of [`Link2`].
 ///
-/// A list is good for queues, and for caches, where you also remove objects from the middle. In this sample the place that was used last comes
-/// first:
+/// A doubly linked list is good for queues, and for caches, where you also remove objects from the middle. In this sample the place that was
+/// used last comes first in the list:
 ///
 /// ```
 /// use ic::{Error, Link2, List};
@@ -38,7 +38,7 @@ use ic_sys::*;
 /// # Ok::<(), Error>(())
 /// ```
 ///
-/// A transfer moves one member from one list to another, as a scheduler does with a task that no longer waits:
+/// A transfer moves one member from one list to another list, as a scheduler does with a task that has stopped waiting:
 ///
 /// ```
 /// # use ic::{Error, Link2, List};
@@ -62,7 +62,7 @@ use ic_sys::*;
 /// # Ok::<(), Error>(())
 /// ```
 ///
-/// Words that come from a file may have any values, and a check says whether they form a list:
+/// Words that come from a file may have any values. The call [`check`](Self::check) returns `None` if the words form no list:
 ///
 /// ```
 /// # use ic::{Error, Link2, List};
@@ -78,7 +78,7 @@ use ic_sys::*;
 /// # Ok::<(), Error>(())
 /// ```
 ///
-/// If you drop the list, its members stay linked. Use a clone of the list only with a clone of the table.
+/// If you drop the list, its members stay linked. Use a clone of the list only with a clone of its table.
 #[repr(transparent)]
 #[derive(Clone, Default, PartialEq, Eq)]
 pub struct List(pub(crate) ic_list);
@@ -90,7 +90,7 @@ impl List {
     /// # Errors
     ///
     /// [`Error::OutOfRange`] if `place` is not below the table's length. [`Error::Linked`] if `place` is linked already. [`Error::Broken`]
-    /// if the first member is not linked in this table, or its link names a member before it.
+    /// if the first member is not linked in this table, or has a link to a member before it.
     #[inline]
     pub fn push_front(&mut self, table: &mut [Link2], place: u32) -> Result<(), Error> {
         let (links, places) = Link2::parts(table);
@@ -103,7 +103,7 @@ impl List {
     /// # Errors
     ///
     /// [`Error::OutOfRange`] if `place` is not below the table's length. [`Error::Linked`] if `place` is linked already. [`Error::Broken`]
-    /// if the last member is not linked in this table, or its link names a member after it.
+    /// if the last member is not linked in this table, or has a link to a member after it.
     #[inline]
     pub fn push_back(&mut self, table: &mut [Link2], place: u32) -> Result<(), Error> {
         let (links, places) = Link2::parts(table);
@@ -111,12 +111,12 @@ impl List {
         done(unsafe { ic_list_push_back(links, places, &mut self.0, place) })
     }
 
-    /// Removes the first member, and returns it, in O(1). The call returns `None` if the list is empty.
+    /// Removes the first member, and returns this member, in O(1). The call returns `None` if the list is empty.
     ///
     /// # Errors
     ///
-    /// [`Error::Broken`] if the first member is not linked in this table, or its link names a member before it, or the second member's link
-    /// does not name the first.
+    /// [`Error::Broken`] if the first member is not linked in this table, or has a link to a member before it, or the second member has no
+    /// link back to the first.
     #[inline]
     pub fn pop_front(&mut self, table: &mut [Link2]) -> Result<Option<u32>, Error> {
         let (links, places) = Link2::parts(table);
@@ -124,12 +124,12 @@ impl List {
         handed_out(|it| unsafe { ic_list_pop_front(links, places, &mut self.0, it) })
     }
 
-    /// Removes the last member, and returns it, in O(1). The call returns `None` if the list is empty.
+    /// Removes the last member, and returns this member, in O(1). The call returns `None` if the list is empty.
     ///
     /// # Errors
     ///
-    /// [`Error::Broken`] if the last member is not linked in this table, or its link names a member after it, or the link of the last
-    /// member but one does not name the last.
+    /// [`Error::Broken`] if the last member is not linked in this table, or has a link to a member after it, or the second-to-last member
+    /// has no link to the last.
     #[inline]
     pub fn pop_back(&mut self, table: &mut [Link2]) -> Result<Option<u32>, Error> {
         let (links, places) = Link2::parts(table);
@@ -142,7 +142,7 @@ impl List {
     /// # Errors
     ///
     /// [`Error::OutOfRange`] if `at` or `place` is not below the table's length. [`Error::Linked`] if `place` is linked already.
-    /// [`Error::NotLinked`] if the place `at` is not linked. [`Error::Broken`] if `at` is no member of the list.
+    /// [`Error::NotLinked`] if the place `at` is not linked. [`Error::Broken`] if `at` is no member of the list according to its links.
     #[inline]
     pub fn insert_after(&mut self, table: &mut [Link2], at: Option<u32>, place: u32) -> Result<(), Error> {
         let (links, places) = Link2::parts(table);
@@ -155,7 +155,7 @@ impl List {
     /// # Errors
     ///
     /// [`Error::OutOfRange`] if `at` or `place` is not below the table's length. [`Error::Linked`] if `place` is linked already.
-    /// [`Error::NotLinked`] if the place `at` is not linked. [`Error::Broken`] if `at` is no member of the list.
+    /// [`Error::NotLinked`] if the place `at` is not linked. [`Error::Broken`] if `at` is no member of the list according to its links.
     #[inline]
     pub fn insert_before(&mut self, table: &mut [Link2], at: Option<u32>, place: u32) -> Result<(), Error> {
         let (links, places) = Link2::parts(table);
@@ -168,7 +168,7 @@ impl List {
     /// # Errors
     ///
     /// [`Error::Null`] if the place `at` is `u32::MAX`. [`Error::OutOfRange`] if the place `at` is not below the table's length.
-    /// [`Error::NotLinked`] if the place `at` is not linked. [`Error::Broken`] if `at` is no member of the list.
+    /// [`Error::NotLinked`] if the place `at` is not linked. [`Error::Broken`] if `at` is no member of the list according to its links.
     #[inline]
     pub fn remove(&mut self, table: &mut [Link2], at: u32) -> Result<(), Error> {
         let (links, places) = Link2::parts(table);
@@ -176,13 +176,13 @@ impl List {
         done(unsafe { ic_list_remove(links, places, &mut self.0, at) })
     }
 
-    /// Removes the member `at`, and inserts `place` where it was, in O(1).
+    /// Removes the member `at`, and inserts `place` where `at` was, in O(1).
     ///
     /// # Errors
     ///
     /// [`Error::Null`] if the place `at` is `u32::MAX`. [`Error::OutOfRange`] if `at` or `place` is not below the table's length.
     /// [`Error::Linked`] if `place` is linked already, or is `at` itself. [`Error::NotLinked`] if the place `at` is not linked.
-    /// [`Error::Broken`] if `at` is no member of the list.
+    /// [`Error::Broken`] if `at` is no member of the list according to its links.
     #[inline]
     pub fn replace(&mut self, table: &mut [Link2], at: u32, place: u32) -> Result<(), Error> {
         let (links, places) = Link2::parts(table);
@@ -191,12 +191,13 @@ impl List {
     }
 
     /// Moves the member `place` after the member `at`, or to the front if `at` is `None`, in O(1). `place` stays linked during the call.
-    /// Nothing changes if `place` is there already, or if `at` and `place` are the same.
+    /// Nothing changes if `place` is at this position already, or if `at` and `place` are the same place.
     ///
     /// # Errors
     ///
     /// [`Error::Null`] if `place` is `u32::MAX`. [`Error::OutOfRange`] if `at` or `place` is not below the table's length.
-    /// [`Error::NotLinked`] if `at` or `place` is not linked. [`Error::Broken`] if `at` or `place` is no member of the list.
+    /// [`Error::NotLinked`] if `at` or `place` is not linked. [`Error::Broken`] if `at` or `place` is no member of the list according to
+    /// their links.
     #[inline]
     pub fn move_after(&mut self, table: &mut [Link2], at: Option<u32>, place: u32) -> Result<(), Error> {
         let (links, places) = Link2::parts(table);
@@ -205,12 +206,13 @@ impl List {
     }
 
     /// Moves the member `place` before the member `at`, or to the back if `at` is `None`, in O(1). `place` stays linked during the call.
-    /// Nothing changes if `place` is there already, or if `at` and `place` are the same.
+    /// Nothing changes if `place` is at this position already, or if `at` and `place` are the same place.
     ///
     /// # Errors
     ///
     /// [`Error::Null`] if `place` is `u32::MAX`. [`Error::OutOfRange`] if `at` or `place` is not below the table's length.
-    /// [`Error::NotLinked`] if `at` or `place` is not linked. [`Error::Broken`] if `at` or `place` is no member of the list.
+    /// [`Error::NotLinked`] if `at` or `place` is not linked. [`Error::Broken`] if `at` or `place` is no member of the list according to
+    /// their links.
     #[inline]
     pub fn move_before(&mut self, table: &mut [Link2], at: Option<u32>, place: u32) -> Result<(), Error> {
         let (links, places) = Link2::parts(table);
@@ -218,14 +220,14 @@ impl List {
         done(unsafe { ic_list_move_before(links, places, &mut self.0, number(at), place) })
     }
 
-    /// Moves the member `place` to the front, as a cache does with the object that it used last, in O(1). `place` stays linked during the
-    /// call.
+    /// Moves the member `place` to the front, as a cache does with an object that it has just used, in O(1). `place` stays linked during
+    /// the call.
     ///
     /// # Errors
     ///
     /// [`Error::Null`] if `place` is `u32::MAX`. [`Error::OutOfRange`] if `place` is not below the table's length. [`Error::NotLinked`] if
-    /// `place` is not linked. [`Error::Broken`] if `place` is no member of the list, or the first member is not linked in this table, or
-    /// its link names a member before it.
+    /// `place` is not linked. [`Error::Broken`] if `place` is no member of the list according to its links, or the first member is not
+    /// linked in this table, or has a link to a member before it.
     #[inline]
     pub fn move_to_front(&mut self, table: &mut [Link2], place: u32) -> Result<(), Error> {
         let (links, places) = Link2::parts(table);
@@ -238,8 +240,8 @@ impl List {
     /// # Errors
     ///
     /// [`Error::Null`] if `place` is `u32::MAX`. [`Error::OutOfRange`] if `place` is not below the table's length. [`Error::NotLinked`] if
-    /// `place` is not linked. [`Error::Broken`] if `place` is no member of the list, or the last member is not linked in this table, or its
-    /// link names a member after it.
+    /// `place` is not linked. [`Error::Broken`] if `place` is no member of the list according to its links, or the last member is not
+    /// linked in this table, or has a link to a member after it.
     #[inline]
     pub fn move_to_back(&mut self, table: &mut [Link2], place: u32) -> Result<(), Error> {
         let (links, places) = Link2::parts(table);
@@ -253,8 +255,8 @@ impl List {
     /// # Errors
     ///
     /// [`Error::OutOfRange`] if the place `at` is not below the table's length. [`Error::NotLinked`] if the place `at` is not linked.
-    /// [`Error::Broken`] if `at` is no member of the list, or `given` is no list of this table, or both lists begin with the same member,
-    /// as a list and its copy do.
+    /// [`Error::Broken`] if `at` is no member of the list according to its links, or `given` is no list of this table, or both lists begin
+    /// with the same member, as a list and its copy do.
     #[inline]
     pub fn splice_after(&mut self, table: &mut [Link2], at: Option<u32>, given: &mut List) -> Result<(), Error> {
         let (links, places) = Link2::parts(table);
@@ -268,8 +270,8 @@ impl List {
     /// # Errors
     ///
     /// [`Error::OutOfRange`] if the place `at` is not below the table's length. [`Error::NotLinked`] if the place `at` is not linked.
-    /// [`Error::Broken`] if `at` is no member of the list, or `given` is no list of this table, or both lists begin with the same member,
-    /// as a list and its copy do.
+    /// [`Error::Broken`] if `at` is no member of the list according to its links, or `given` is no list of this table, or both lists begin
+    /// with the same member, as a list and its copy do.
     #[inline]
     pub fn splice_before(&mut self, table: &mut [Link2], at: Option<u32>, given: &mut List) -> Result<(), Error> {
         let (links, places) = Link2::parts(table);
@@ -281,7 +283,7 @@ impl List {
     ///
     /// # Errors
     ///
-    /// [`Error::Broken`] if the last member is not linked in this table, or its link names a member after it, or `given` is no list of this
+    /// [`Error::Broken`] if the last member is not linked in this table, or has a link to a member after it, or `given` is no list of this
     /// table, or both lists begin with the same member, as a list and its copy do.
     #[inline]
     pub fn append(&mut self, table: &mut [Link2], given: &mut List) -> Result<(), Error> {
@@ -296,7 +298,7 @@ impl List {
     /// # Errors
     ///
     /// [`Error::OutOfRange`] if none of these places is linked, but one is not below the table's length. [`Error::Linked`] if one of these
-    /// places is linked already. [`Error::Broken`] if the last member is not linked in this table, or its link names a member after it.
+    /// places is linked already. [`Error::Broken`] if the last member is not linked in this table, or has a link to a member after it.
     #[inline]
     pub fn fill(&mut self, table: &mut [Link2], first: u32, count: u32) -> Result<(), Error> {
         let (links, places) = Link2::parts(table);
@@ -308,7 +310,7 @@ impl List {
     ///
     /// # Errors
     ///
-    /// [`Error::Broken`] if the links do not lead from the first member to the last, or the links of two neighbors do not name each other.
+    /// [`Error::Broken`] if the links do not lead from the first member to the last, or two neighbors do not have links to each other.
     #[inline]
     pub fn clear(&mut self, table: &mut [Link2]) -> Result<(), Error> {
         let (links, places) = Link2::parts(table);
@@ -321,7 +323,7 @@ impl List {
     /// # Errors
     ///
     /// [`Error::OutOfRange`] if the place `at` is not below the table's length. [`Error::NotLinked`] if the place `at` is not linked.
-    /// [`Error::Broken`] if `at` is no member of the list.
+    /// [`Error::Broken`] if `at` is no member of the list according to its links.
     #[inline]
     pub fn split_after(&mut self, table: &mut [Link2], at: Option<u32>) -> Result<List, Error> {
         let ((links, places), mut rest) = (Link2::parts(table), List::new());
@@ -335,7 +337,7 @@ impl List {
     /// # Errors
     ///
     /// [`Error::OutOfRange`] if the place `at` is not below the table's length. [`Error::NotLinked`] if the place `at` is not linked.
-    /// [`Error::Broken`] if `at` is no member of the list.
+    /// [`Error::Broken`] if `at` is no member of the list according to its links.
     #[inline]
     pub fn split_before(&mut self, table: &mut [Link2], at: Option<u32>) -> Result<List, Error> {
         let ((links, places), mut rest) = (Link2::parts(table), List::new());
@@ -344,9 +346,9 @@ impl List {
         Ok(rest)
     }
 
-    /// Counts the members, and returns how many there are, in O(n). Make this call if the words come from a file, or from memory that
-    /// others write. If the call returns a number, every other call on this list does what its own comment says. The call returns `None` if
-    /// the links do not lead from the first member to the last, or the links of two neighbors do not name each other.
+    /// Counts the members, and returns their number, in O(n). Make this call if the words come from a file, or from memory to which other
+    /// programs write. If the call returns a number, all other calls on this list do what their comments say. The call returns `None` if
+    /// the links do not lead from the first member to the last, or two neighbors do not have links to each other.
     #[inline]
     #[must_use]
     pub fn check(&self, table: &[Link2]) -> Option<u64> {
@@ -360,7 +362,7 @@ impl List {
     /// # Errors
     ///
     /// [`Error::OutOfRange`] if there are fewer keys than places. [`Error::Broken`] if the links do not lead from the first member to the
-    /// last, or the links of two neighbors do not name each other.
+    /// last, or two neighbors do not have links to each other.
     #[inline]
     pub fn sort(&mut self, table: &mut [Link2], keys: &[u64]) -> Result<(), Error> {
         let (links, places) = Link2::parts(table);
@@ -368,14 +370,14 @@ impl List {
         done(unsafe { ic_list_sort(links, places, keys.as_ptr(), keys.len(), &mut self.0) })
     }
 
-    /// Moves all members of `given` into this list, which the call leaves sorted by keys if both lists were sorted by keys, in O(n). Of
-    /// members with equal keys, those of this list come first. Afterwards `given` is empty.
+    /// Moves all members of `given` into this list, in O(n). If both lists were sorted by keys, this list is sorted by keys after the call.
+    /// Of members with equal keys, those that were in this list come first. After the call `given` is empty.
     ///
     /// # Errors
     ///
     /// [`Error::OutOfRange`] if there are fewer keys than places. [`Error::Broken`] if the links of one of the lists do not lead from its
-    /// first member to its last, or the links of two neighbors do not name each other, or both lists begin with the same member, as a list
-    /// and its copy do.
+    /// first member to its last, or two neighbors do not have links to each other, or both lists begin with the same member, as a list and
+    /// its copy do.
     #[inline]
     pub fn merge(&mut self, table: &mut [Link2], keys: &[u64], given: &mut List) -> Result<(), Error> {
         let (links, places) = Link2::parts(table);
@@ -389,8 +391,8 @@ impl List {
     /// # Errors
     ///
     /// [`Error::Null`] if `place` is `u32::MAX`. [`Error::OutOfRange`] if `at` or `place` is not below the table's length.
-    /// [`Error::NotLinked`] if `at` or `place` is not linked. [`Error::Broken`] if `at` is no member of the list, or `place` is no member
-    /// of `given`, or both lists begin with the same member, as a list and its copy do.
+    /// [`Error::NotLinked`] if `at` or `place` is not linked. [`Error::Broken`] if according to their links `at` is no member of the list
+    /// or `place` is no member of `given`, or both lists begin with the same member, as a list and its copy do.
     #[inline]
     pub fn transfer_after(
         &mut self,
@@ -410,8 +412,8 @@ impl List {
     /// # Errors
     ///
     /// [`Error::Null`] if `place` is `u32::MAX`. [`Error::OutOfRange`] if `at` or `place` is not below the table's length.
-    /// [`Error::NotLinked`] if `at` or `place` is not linked. [`Error::Broken`] if `at` is no member of the list, or `place` is no member
-    /// of `given`, or both lists begin with the same member, as a list and its copy do.
+    /// [`Error::NotLinked`] if `at` or `place` is not linked. [`Error::Broken`] if according to their links `at` is no member of the list
+    /// or `place` is no member of `given`, or both lists begin with the same member, as a list and its copy do.
     #[inline]
     pub fn transfer_before(
         &mut self,
@@ -435,15 +437,15 @@ impl List {
         List(ic_list { head: 0, tail: 0 })
     }
 
-    /// Returns the list with these words, which may have any values, for example from a file. [`check`](Self::check) says whether the words of
-    /// the list and of its table form a list.
+    /// Returns the list with these words, which may have any values, for example from a file. The call [`check`](Self::check) says whether the
+    /// words of the list and of its table form a list.
     #[inline]
     #[must_use]
     pub const fn from_words([head, tail]: [u64; 2]) -> List {
         List(ic_list { head, tail })
     }
 
-    /// Returns the words of the list, for example to write them to a file. They contain no addresses.
+    /// Returns the words of the list, for example to write them to a file. The words contain no addresses.
     #[inline]
     #[must_use]
     pub const fn words(&self) -> [u64; 2] {
@@ -457,30 +459,30 @@ impl List {
         is_none(self.0.head)
     }
 
-    /// Returns the first member, in O(1).
+    /// Returns the first member, in O(1), or `None` if there are no members.
     #[inline]
     #[must_use]
     pub fn first(&self) -> Option<u32> {
         place(self.0.head)
     }
 
-    /// Returns the last member, in O(1).
+    /// Returns the last member, in O(1), or `None` if there are no members.
     #[inline]
     #[must_use]
     pub fn last(&self) -> Option<u32> {
         place(self.0.tail)
     }
 
-    /// Returns the member after the member `at`, in O(1). It returns `None` if `at` is the last member, is not linked or is not in the table,
-    /// and if the link of `at` leads out of the table.
+    /// Returns the member after the member `at`, in O(1). The call returns `None` if `at` is the last member, is not linked or is not in the
+    /// table, or if the link of `at` leads out of the table.
     #[inline]
     #[must_use]
     pub fn next(&self, table: &[Link2], at: u32) -> Option<u32> {
         read(table, at, Link2::next)
     }
 
-    /// Returns the member before the member `at`, in O(1). It returns `None` if `at` is the first member, is not linked or is not in the table,
-    /// and if the link of `at` leads out of the table.
+    /// Returns the member before the member `at`, in O(1). The call returns `None` if `at` is the first member, is not linked or is not in the
+    /// table, or if the link of `at` leads out of the table.
     #[inline]
     #[must_use]
     pub fn prev(&self, table: &[Link2], at: u32) -> Option<u32> {

@@ -1,4 +1,4 @@
-//! Doubly linked lists whose links have words of 4 bytes, and so take half the memory.
+//! Doubly linked lists whose links have words of 4 bytes, and so take half the memory of the links of a [`List`](crate::List).
 
 use crate::collection::{
     bidirectional, collection, from_place, Bidirectional, BidirectionalSplice, Collection, Position, Splice,
@@ -9,10 +9,10 @@ use crate::{Cursor, CursorMut, Error, Iter, Link2x32, View};
 use core::fmt;
 use ic_sys::*;
 
-/// A doubly linked list over a table of [`Link2x32`], whose links take half the memory of those of a [`List`](crate::List).
+/// A doubly linked list over a table of [`Link2x32`], which take half the memory of the links of a [`List`](crate::List).
 ///
-/// Each call does the same as the call of [`List`](crate::List) with the same name. There is no fill, sort or merge. A word of 4 bytes can name
-/// only places below 536,870,911, and calls treat all other places as out of range.
+/// Each call does the same as the call of [`List`](crate::List) with the same name. A `List32` has no fill, sort or merge. A word of 4 bytes
+/// can name only places below 536,870,911, and calls treat all other places as out of range.
 ///
 /// ```
 /// use ic::{Error, Link2x32, List32};
@@ -33,7 +33,7 @@ use ic_sys::*;
 /// # Ok::<(), Error>(())
 /// ```
 ///
-/// If you drop the list, its members stay linked. Use a clone of the list only with a clone of the table.
+/// If you drop the list, its members stay linked. Use a clone of the list only with a clone of its table.
 #[repr(transparent)]
 #[derive(Clone, Default, PartialEq, Eq)]
 pub struct List32(pub(crate) ic_list);
@@ -45,7 +45,7 @@ impl List32 {
     /// # Errors
     ///
     /// [`Error::OutOfRange`] if `place` is not below the table's length, or is 536,870,911 or more. [`Error::Linked`] if `place` is linked
-    /// already. [`Error::Broken`] if the first member is not linked in this table, or its link names a member before it.
+    /// already. [`Error::Broken`] if the first member is not linked in this table, or has a link to a member before it.
     #[inline]
     pub fn push_front(&mut self, table: &mut [Link2x32], place: u32) -> Result<(), Error> {
         let (links, places) = Link2x32::parts(table);
@@ -58,7 +58,7 @@ impl List32 {
     /// # Errors
     ///
     /// [`Error::OutOfRange`] if `place` is not below the table's length, or is 536,870,911 or more. [`Error::Linked`] if `place` is linked
-    /// already. [`Error::Broken`] if the last member is not linked in this table, or its link names a member after it.
+    /// already. [`Error::Broken`] if the last member is not linked in this table, or has a link to a member after it.
     #[inline]
     pub fn push_back(&mut self, table: &mut [Link2x32], place: u32) -> Result<(), Error> {
         let (links, places) = Link2x32::parts(table);
@@ -66,12 +66,12 @@ impl List32 {
         done(unsafe { ic_list32_push_back(links, places, &mut self.0, place) })
     }
 
-    /// Removes the first member, and returns it, in O(1). The call returns `None` if the list is empty.
+    /// Removes the first member, and returns this member, in O(1). The call returns `None` if the list is empty.
     ///
     /// # Errors
     ///
-    /// [`Error::Broken`] if the first member is not linked in this table, or its link names a member before it, or the second member's link
-    /// does not name the first.
+    /// [`Error::Broken`] if the first member is not linked in this table, or has a link to a member before it, or the second member has no
+    /// link back to the first.
     #[inline]
     pub fn pop_front(&mut self, table: &mut [Link2x32]) -> Result<Option<u32>, Error> {
         let (links, places) = Link2x32::parts(table);
@@ -79,12 +79,12 @@ impl List32 {
         handed_out(|it| unsafe { ic_list32_pop_front(links, places, &mut self.0, it) })
     }
 
-    /// Removes the last member, and returns it, in O(1). The call returns `None` if the list is empty.
+    /// Removes the last member, and returns this member, in O(1). The call returns `None` if the list is empty.
     ///
     /// # Errors
     ///
-    /// [`Error::Broken`] if the last member is not linked in this table, or its link names a member after it, or the link of the last
-    /// member but one does not name the last.
+    /// [`Error::Broken`] if the last member is not linked in this table, or has a link to a member after it, or the second-to-last member
+    /// has no link to the last.
     #[inline]
     pub fn pop_back(&mut self, table: &mut [Link2x32]) -> Result<Option<u32>, Error> {
         let (links, places) = Link2x32::parts(table);
@@ -97,7 +97,8 @@ impl List32 {
     /// # Errors
     ///
     /// [`Error::OutOfRange`] if `at` or `place` is not below the table's length, or is 536,870,911 or more. [`Error::Linked`] if `place` is
-    /// linked already. [`Error::NotLinked`] if the place `at` is not linked. [`Error::Broken`] if `at` is no member of the list.
+    /// linked already. [`Error::NotLinked`] if the place `at` is not linked. [`Error::Broken`] if `at` is no member of the list according
+    /// to its links.
     #[inline]
     pub fn insert_after(&mut self, table: &mut [Link2x32], at: Option<u32>, place: u32) -> Result<(), Error> {
         let (links, places) = Link2x32::parts(table);
@@ -110,7 +111,8 @@ impl List32 {
     /// # Errors
     ///
     /// [`Error::OutOfRange`] if `at` or `place` is not below the table's length, or is 536,870,911 or more. [`Error::Linked`] if `place` is
-    /// linked already. [`Error::NotLinked`] if the place `at` is not linked. [`Error::Broken`] if `at` is no member of the list.
+    /// linked already. [`Error::NotLinked`] if the place `at` is not linked. [`Error::Broken`] if `at` is no member of the list according
+    /// to its links.
     #[inline]
     pub fn insert_before(&mut self, table: &mut [Link2x32], at: Option<u32>, place: u32) -> Result<(), Error> {
         let (links, places) = Link2x32::parts(table);
@@ -123,7 +125,8 @@ impl List32 {
     /// # Errors
     ///
     /// [`Error::Null`] if the place `at` is `u32::MAX`. [`Error::OutOfRange`] if the place `at` is not below the table's length, or is
-    /// 536,870,911 or more. [`Error::NotLinked`] if the place `at` is not linked. [`Error::Broken`] if `at` is no member of the list.
+    /// 536,870,911 or more. [`Error::NotLinked`] if the place `at` is not linked. [`Error::Broken`] if `at` is no member of the list
+    /// according to its links.
     #[inline]
     pub fn remove(&mut self, table: &mut [Link2x32], at: u32) -> Result<(), Error> {
         let (links, places) = Link2x32::parts(table);
@@ -131,13 +134,13 @@ impl List32 {
         done(unsafe { ic_list32_remove(links, places, &mut self.0, at) })
     }
 
-    /// Removes the member `at`, and inserts `place` where it was, in O(1).
+    /// Removes the member `at`, and inserts `place` where `at` was, in O(1).
     ///
     /// # Errors
     ///
     /// [`Error::Null`] if the place `at` is `u32::MAX`. [`Error::OutOfRange`] if `at` or `place` is not below the table's length, or is
     /// 536,870,911 or more. [`Error::Linked`] if `place` is linked already, or is `at` itself. [`Error::NotLinked`] if the place `at` is
-    /// not linked. [`Error::Broken`] if `at` is no member of the list.
+    /// not linked. [`Error::Broken`] if `at` is no member of the list according to its links.
     #[inline]
     pub fn replace(&mut self, table: &mut [Link2x32], at: u32, place: u32) -> Result<(), Error> {
         let (links, places) = Link2x32::parts(table);
@@ -146,13 +149,13 @@ impl List32 {
     }
 
     /// Moves the member `place` after the member `at`, or to the front if `at` is `None`, in O(1). `place` stays linked during the call.
-    /// Nothing changes if `place` is there already, or if `at` and `place` are the same.
+    /// Nothing changes if `place` is at this position already, or if `at` and `place` are the same place.
     ///
     /// # Errors
     ///
     /// [`Error::Null`] if `place` is `u32::MAX`. [`Error::OutOfRange`] if `at` or `place` is not below the table's length, or is
     /// 536,870,911 or more. [`Error::NotLinked`] if `at` or `place` is not linked. [`Error::Broken`] if `at` or `place` is no member of the
-    /// list.
+    /// list according to their links.
     #[inline]
     pub fn move_after(&mut self, table: &mut [Link2x32], at: Option<u32>, place: u32) -> Result<(), Error> {
         let (links, places) = Link2x32::parts(table);
@@ -161,13 +164,13 @@ impl List32 {
     }
 
     /// Moves the member `place` before the member `at`, or to the back if `at` is `None`, in O(1). `place` stays linked during the call.
-    /// Nothing changes if `place` is there already, or if `at` and `place` are the same.
+    /// Nothing changes if `place` is at this position already, or if `at` and `place` are the same place.
     ///
     /// # Errors
     ///
     /// [`Error::Null`] if `place` is `u32::MAX`. [`Error::OutOfRange`] if `at` or `place` is not below the table's length, or is
     /// 536,870,911 or more. [`Error::NotLinked`] if `at` or `place` is not linked. [`Error::Broken`] if `at` or `place` is no member of the
-    /// list.
+    /// list according to their links.
     #[inline]
     pub fn move_before(&mut self, table: &mut [Link2x32], at: Option<u32>, place: u32) -> Result<(), Error> {
         let (links, places) = Link2x32::parts(table);
@@ -175,14 +178,14 @@ impl List32 {
         done(unsafe { ic_list32_move_before(links, places, &mut self.0, number(at), place) })
     }
 
-    /// Moves the member `place` to the front, as a cache does with the object that it used last, in O(1). `place` stays linked during the
-    /// call.
+    /// Moves the member `place` to the front, as a cache does with an object that it has just used, in O(1). `place` stays linked during
+    /// the call.
     ///
     /// # Errors
     ///
     /// [`Error::Null`] if `place` is `u32::MAX`. [`Error::OutOfRange`] if `place` is not below the table's length, or is 536,870,911 or
-    /// more. [`Error::NotLinked`] if `place` is not linked. [`Error::Broken`] if `place` is no member of the list, or the first member is
-    /// not linked in this table, or its link names a member before it.
+    /// more. [`Error::NotLinked`] if `place` is not linked. [`Error::Broken`] if `place` is no member of the list according to its links,
+    /// or the first member is not linked in this table, or has a link to a member before it.
     #[inline]
     pub fn move_to_front(&mut self, table: &mut [Link2x32], place: u32) -> Result<(), Error> {
         let (links, places) = Link2x32::parts(table);
@@ -195,8 +198,8 @@ impl List32 {
     /// # Errors
     ///
     /// [`Error::Null`] if `place` is `u32::MAX`. [`Error::OutOfRange`] if `place` is not below the table's length, or is 536,870,911 or
-    /// more. [`Error::NotLinked`] if `place` is not linked. [`Error::Broken`] if `place` is no member of the list, or the last member is
-    /// not linked in this table, or its link names a member after it.
+    /// more. [`Error::NotLinked`] if `place` is not linked. [`Error::Broken`] if `place` is no member of the list according to its links,
+    /// or the last member is not linked in this table, or has a link to a member after it.
     #[inline]
     pub fn move_to_back(&mut self, table: &mut [Link2x32], place: u32) -> Result<(), Error> {
         let (links, places) = Link2x32::parts(table);
@@ -210,8 +213,8 @@ impl List32 {
     /// # Errors
     ///
     /// [`Error::OutOfRange`] if the place `at` is not below the table's length, or is 536,870,911 or more. [`Error::NotLinked`] if the
-    /// place `at` is not linked. [`Error::Broken`] if `at` is no member of the list, or `given` is no list of this table, or both lists
-    /// begin with the same member, as a list and its copy do.
+    /// place `at` is not linked. [`Error::Broken`] if `at` is no member of the list according to its links, or `given` is no list of this
+    /// table, or both lists begin with the same member, as a list and its copy do.
     #[inline]
     pub fn splice_after(&mut self, table: &mut [Link2x32], at: Option<u32>, given: &mut List32) -> Result<(), Error> {
         let (links, places) = Link2x32::parts(table);
@@ -225,8 +228,8 @@ impl List32 {
     /// # Errors
     ///
     /// [`Error::OutOfRange`] if the place `at` is not below the table's length, or is 536,870,911 or more. [`Error::NotLinked`] if the
-    /// place `at` is not linked. [`Error::Broken`] if `at` is no member of the list, or `given` is no list of this table, or both lists
-    /// begin with the same member, as a list and its copy do.
+    /// place `at` is not linked. [`Error::Broken`] if `at` is no member of the list according to its links, or `given` is no list of this
+    /// table, or both lists begin with the same member, as a list and its copy do.
     #[inline]
     pub fn splice_before(&mut self, table: &mut [Link2x32], at: Option<u32>, given: &mut List32) -> Result<(), Error> {
         let (links, places) = Link2x32::parts(table);
@@ -238,7 +241,7 @@ impl List32 {
     ///
     /// # Errors
     ///
-    /// [`Error::Broken`] if the last member is not linked in this table, or its link names a member after it, or `given` is no list of this
+    /// [`Error::Broken`] if the last member is not linked in this table, or has a link to a member after it, or `given` is no list of this
     /// table, or both lists begin with the same member, as a list and its copy do.
     #[inline]
     pub fn append(&mut self, table: &mut [Link2x32], given: &mut List32) -> Result<(), Error> {
@@ -251,7 +254,7 @@ impl List32 {
     ///
     /// # Errors
     ///
-    /// [`Error::Broken`] if the links do not lead from the first member to the last, or the links of two neighbors do not name each other.
+    /// [`Error::Broken`] if the links do not lead from the first member to the last, or two neighbors do not have links to each other.
     #[inline]
     pub fn clear(&mut self, table: &mut [Link2x32]) -> Result<(), Error> {
         let (links, places) = Link2x32::parts(table);
@@ -264,7 +267,7 @@ impl List32 {
     /// # Errors
     ///
     /// [`Error::OutOfRange`] if the place `at` is not below the table's length, or is 536,870,911 or more. [`Error::NotLinked`] if the
-    /// place `at` is not linked. [`Error::Broken`] if `at` is no member of the list.
+    /// place `at` is not linked. [`Error::Broken`] if `at` is no member of the list according to its links.
     #[inline]
     pub fn split_after(&mut self, table: &mut [Link2x32], at: Option<u32>) -> Result<List32, Error> {
         let ((links, places), mut rest) = (Link2x32::parts(table), List32::new());
@@ -278,7 +281,7 @@ impl List32 {
     /// # Errors
     ///
     /// [`Error::OutOfRange`] if the place `at` is not below the table's length, or is 536,870,911 or more. [`Error::NotLinked`] if the
-    /// place `at` is not linked. [`Error::Broken`] if `at` is no member of the list.
+    /// place `at` is not linked. [`Error::Broken`] if `at` is no member of the list according to its links.
     #[inline]
     pub fn split_before(&mut self, table: &mut [Link2x32], at: Option<u32>) -> Result<List32, Error> {
         let ((links, places), mut rest) = (Link2x32::parts(table), List32::new());
@@ -287,9 +290,9 @@ impl List32 {
         Ok(rest)
     }
 
-    /// Counts the members, and returns how many there are, in O(n). Make this call if the words come from a file, or from memory that
-    /// others write. If the call returns a number, every other call on this list does what its own comment says. The call returns `None` if
-    /// the links do not lead from the first member to the last, or the links of two neighbors do not name each other.
+    /// Counts the members, and returns their number, in O(n). Make this call if the words come from a file, or from memory to which other
+    /// programs write. If the call returns a number, all other calls on this list do what their comments say. The call returns `None` if
+    /// the links do not lead from the first member to the last, or two neighbors do not have links to each other.
     #[inline]
     #[must_use]
     pub fn check(&self, table: &[Link2x32]) -> Option<u64> {
@@ -304,8 +307,8 @@ impl List32 {
     /// # Errors
     ///
     /// [`Error::Null`] if `place` is `u32::MAX`. [`Error::OutOfRange`] if `at` or `place` is not below the table's length, or is
-    /// 536,870,911 or more. [`Error::NotLinked`] if `at` or `place` is not linked. [`Error::Broken`] if `at` is no member of the list, or
-    /// `place` is no member of `given`, or both lists begin with the same member, as a list and its copy do.
+    /// 536,870,911 or more. [`Error::NotLinked`] if `at` or `place` is not linked. [`Error::Broken`] if according to their links `at` is no
+    /// member of the list or `place` is no member of `given`, or both lists begin with the same member, as a list and its copy do.
     #[inline]
     pub fn transfer_after(
         &mut self,
@@ -325,8 +328,8 @@ impl List32 {
     /// # Errors
     ///
     /// [`Error::Null`] if `place` is `u32::MAX`. [`Error::OutOfRange`] if `at` or `place` is not below the table's length, or is
-    /// 536,870,911 or more. [`Error::NotLinked`] if `at` or `place` is not linked. [`Error::Broken`] if `at` is no member of the list, or
-    /// `place` is no member of `given`, or both lists begin with the same member, as a list and its copy do.
+    /// 536,870,911 or more. [`Error::NotLinked`] if `at` or `place` is not linked. [`Error::Broken`] if according to their links `at` is no
+    /// member of the list or `place` is no member of `given`, or both lists begin with the same member, as a list and its copy do.
     #[inline]
     pub fn transfer_before(
         &mut self,
@@ -351,15 +354,15 @@ impl List32 {
         List32(ic_list { head: 0, tail: 0 })
     }
 
-    /// Returns the list with these words, which may have any values, for example from a file. [`check`](Self::check) says whether the words of
-    /// the list and of its table form a list.
+    /// Returns the list with these words, which may have any values, for example from a file. The call [`check`](Self::check) says whether the
+    /// words of the list and of its table form a list.
     #[inline]
     #[must_use]
     pub const fn from_words([head, tail]: [u64; 2]) -> List32 {
         List32(ic_list { head, tail })
     }
 
-    /// Returns the words of the list, for example to write them to a file. They contain no addresses.
+    /// Returns the words of the list, for example to write them to a file. The words contain no addresses.
     #[inline]
     #[must_use]
     pub const fn words(&self) -> [u64; 2] {
@@ -373,30 +376,30 @@ impl List32 {
         is_none(self.0.head)
     }
 
-    /// Returns the first member, in O(1).
+    /// Returns the first member, in O(1), or `None` if there are no members.
     #[inline]
     #[must_use]
     pub fn first(&self) -> Option<u32> {
         place(self.0.head)
     }
 
-    /// Returns the last member, in O(1).
+    /// Returns the last member, in O(1), or `None` if there are no members.
     #[inline]
     #[must_use]
     pub fn last(&self) -> Option<u32> {
         place(self.0.tail)
     }
 
-    /// Returns the member after the member `at`, in O(1). It returns `None` if `at` is the last member, is not linked or is not in the table,
-    /// and if the link of `at` leads out of the table.
+    /// Returns the member after the member `at`, in O(1). The call returns `None` if `at` is the last member, is not linked or is not in the
+    /// table, or if the link of `at` leads out of the table.
     #[inline]
     #[must_use]
     pub fn next(&self, table: &[Link2x32], at: u32) -> Option<u32> {
         read(table, at, Link2x32::next)
     }
 
-    /// Returns the member before the member `at`, in O(1). It returns `None` if `at` is the first member, is not linked or is not in the table,
-    /// and if the link of `at` leads out of the table.
+    /// Returns the member before the member `at`, in O(1). The call returns `None` if `at` is the first member, is not linked or is not in the
+    /// table, or if the link of `at` leads out of the table.
     #[inline]
     #[must_use]
     pub fn prev(&self, table: &[Link2x32], at: u32) -> Option<u32> {

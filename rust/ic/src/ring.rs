@@ -1,8 +1,8 @@
-//! Rings: a ring is a doubly linked list whose head is a place of the table, as in Linux (list.h).
+//! Rings. A ring is a circular, doubly linked list whose head is a place of the table, like the lists of Linux (list.h).
 //!
 //! The head and the members of a ring form a circle. To remove a member, or to insert a place beside a member, you do not name the ring. So
-//! rings are good if the code that removes an object does not know which queue has the object. Rings and lists may be in one table. Use places
-//! without an object as heads.
+//! rings are good if the code that removes an object does not know which queue contains the object. Rings and lists may be in one table. Use
+//! places without an object as the heads of rings.
 //!
 //! ```
 //! use ic::{ring, Error, Link2};
@@ -25,8 +25,8 @@
 //! # Ok::<(), Error>(())
 //! ```
 //!
-//! If a slice of yours has a key for each place, you can sort the members of a ring by their keys. A check counts the members, and says whether
-//! words that come from a file form a ring:
+//! If a slice of yours has a key for each place, you can sort the members of a ring by their keys. The function [`check`] counts the members
+//! of a ring, and returns an error if the words of the table form no ring:
 //!
 //! ```
 //! # use ic::{ring, Error, Link2};
@@ -63,7 +63,8 @@ pub fn init(table: &mut [Link2], head: u32) -> Result<(), Error> {
     done(unsafe { ic_ring_init(links, places, head) })
 }
 
-/// Inserts `place` after the place `at` of a ring, as list_add of Linux does, in O(1). If `at` is a head, `place` becomes the first member.
+/// Inserts `place` after the place `at` of a ring, as list_add of Linux does, in O(1). If `at` is the head of a ring, `place` becomes the
+/// first member of this ring.
 ///
 /// # Errors
 ///
@@ -77,8 +78,8 @@ pub fn insert_after(table: &mut [Link2], at: u32, place: u32) -> Result<(), Erro
     done(unsafe { ic_ring_insert_after(links, places, at, place) })
 }
 
-/// Inserts `place` before the place `at` of a ring, as list_add_tail of Linux does, in O(1). If `at` is a head, `place` becomes the last
-/// member.
+/// Inserts `place` before the place `at` of a ring, as list_add_tail of Linux does, in O(1). If `at` is the head of a ring, `place` becomes
+/// the last member of this ring.
 ///
 /// # Errors
 ///
@@ -92,8 +93,8 @@ pub fn insert_before(table: &mut [Link2], at: u32, place: u32) -> Result<(), Err
     done(unsafe { ic_ring_insert_before(links, places, at, place) })
 }
 
-/// Removes `place` from its ring, which you do not name, as list_del of Linux does, in O(1). If `place` is a head without members, the ring
-/// no longer exists after the call.
+/// Removes `place` from its ring, which you do not name, as list_del of Linux does, in O(1). If `place` is the head of a ring without
+/// members, this ring ceases to exist.
 ///
 /// # Errors
 ///
@@ -108,8 +109,8 @@ pub fn remove(table: &mut [Link2], place: u32) -> Result<(), Error> {
 
 /// Makes the place after `one` follow `other`, and the place after `other` follow `one`, in O(1). `one` and `other` must be in rings. If
 /// `one` and `other` are in two rings, the call joins the rings. If `one` and `other` are different places of one ring, the call splits
-/// this ring into two. A second call with the same places undoes the first call. If `one` is the last member of a ring, and `other` is the
-/// head of another ring, all members of the other ring then follow `one`, and `other` follows these members.
+/// this ring into two. A second call with the same places undoes the first call. For example, let `one` be the last member of a ring, and
+/// `other` the head of another ring. After the call the members of the other ring follow `one`, and `other` follows these members.
 ///
 /// # Errors
 ///
@@ -122,8 +123,8 @@ pub fn exchange(table: &mut [Link2], one: u32, other: u32) -> Result<(), Error> 
     done(unsafe { ic_ring_exchange(links, places, one, other) })
 }
 
-/// Removes the first member of the ring with the head `head`, and returns it, in O(1). The call returns `None` if `head` is `u32::MAX`, or
-/// the ring has no members.
+/// Removes the first member of the ring with the head `head`, and returns this member, in O(1). The call returns `None` if `head` is
+/// `u32::MAX`, or the ring has no members.
 ///
 /// # Errors
 ///
@@ -136,8 +137,8 @@ pub fn pop_front(table: &mut [Link2], head: u32) -> Result<Option<u32>, Error> {
     handed_out(|it| unsafe { ic_ring_pop_front(links, places, head, it) })
 }
 
-/// Removes the last member of the ring with the head `head`, and returns it, in O(1). The call returns `None` if `head` is `u32::MAX`, or
-/// the ring has no members.
+/// Removes the last member of the ring with the head `head`, and returns this member, in O(1). The call returns `None` if `head` is
+/// `u32::MAX`, or the ring has no members.
 ///
 /// # Errors
 ///
@@ -150,7 +151,7 @@ pub fn pop_back(table: &mut [Link2], head: u32) -> Result<Option<u32>, Error> {
     handed_out(|it| unsafe { ic_ring_pop_back(links, places, head, it) })
 }
 
-/// Removes the place `at` from its ring, and inserts `place` where it was, as list_replace of Linux does, in O(1).
+/// Removes the place `at` from its ring, and inserts `place` where `at` was, as list_replace of Linux does, in O(1).
 ///
 /// # Errors
 ///
@@ -164,8 +165,9 @@ pub fn replace(table: &mut [Link2], at: u32, place: u32) -> Result<(), Error> {
     done(unsafe { ic_ring_replace(links, places, at, place) })
 }
 
-/// Moves `place` after the place `at` of the same ring or of another ring, as list_move of Linux does, in O(1). If `at` is a head, `place`
-/// becomes the first member. `place` stays linked during the call. Nothing changes if `at` and `place` are the same.
+/// Moves `place` after the place `at` of the same ring or of another ring, as list_move of Linux does, in O(1). If `at` is the head of a
+/// ring, `place` becomes the first member of this ring. `place` stays linked during the call. Nothing changes if `at` and `place` are the
+/// same place.
 ///
 /// # Errors
 ///
@@ -178,8 +180,9 @@ pub fn move_after(table: &mut [Link2], at: u32, place: u32) -> Result<(), Error>
     done(unsafe { ic_ring_move_after(links, places, at, place) })
 }
 
-/// Moves `place` before the place `at` of the same ring or of another ring, as list_move_tail of Linux does, in O(1). If `at` is a head,
-/// `place` becomes the last member. `place` stays linked during the call. Nothing changes if `at` and `place` are the same.
+/// Moves `place` before the place `at` of the same ring or of another ring, as list_move_tail of Linux does, in O(1). If `at` is the head
+/// of a ring, `place` becomes the last member of this ring. `place` stays linked during the call. Nothing changes if `at` and `place` are
+/// the same place.
 ///
 /// # Errors
 ///
@@ -193,7 +196,7 @@ pub fn move_before(table: &mut [Link2], at: u32, place: u32) -> Result<(), Error
 }
 
 /// Moves all members of the ring with the head `head`, in their order, after the place `at` of another ring, as list_splice_init of Linux
-/// does, in O(1). Afterwards `head` is the head of a ring with no members.
+/// does, in O(1). After the call `head` is the head of a ring with no members.
 ///
 /// # Errors
 ///
@@ -208,7 +211,7 @@ pub fn splice_after(table: &mut [Link2], at: u32, head: u32) -> Result<(), Error
 }
 
 /// Moves all members of the ring with the head `head`, in their order, before the place `at` of another ring, as list_splice_tail_init of
-/// Linux does, in O(1). Afterwards `head` is the head of a ring with no members.
+/// Linux does, in O(1). After the call `head` is the head of a ring with no members.
 ///
 /// # Errors
 ///
@@ -222,14 +225,14 @@ pub fn splice_before(table: &mut [Link2], at: u32, head: u32) -> Result<(), Erro
     done(unsafe { ic_ring_splice_before(links, places, at, head) })
 }
 
-/// Counts the members of the ring with the head `head`, and returns how many there are, in O(n). Make this call if the words come from a
-/// file, or from memory that others write. If the call returns a number, every other call on this ring does what its own comment says.
+/// Counts the members of the ring with the head `head`, and returns their number, in O(n). Make this call if the words come from a file, or
+/// from memory to which other programs write. If the call returns a number, all other calls on this ring do what their comments say.
 ///
 /// # Errors
 ///
 /// [`Error::Null`] if `head` is `u32::MAX`. [`Error::OutOfRange`] if `head` is not below the table's length. [`Error::NotLinked`] if `head`
-/// is not linked. [`Error::Broken`] if the links do not lead from `head` around a ring and back to `head`, or the links of two neighbors do
-/// not name each other.
+/// is not linked. [`Error::Broken`] if the links do not lead from `head` around a ring and back to `head`, or two neighbors do not have
+/// links to each other.
 #[inline]
 pub fn check(table: &[Link2], head: u32) -> Result<u64, Error> {
     let (links, places) = Link2::read_parts(table);
@@ -244,7 +247,7 @@ pub fn check(table: &[Link2], head: u32) -> Result<u64, Error> {
 ///
 /// [`Error::Null`] if `head` is `u32::MAX`. [`Error::OutOfRange`] if there are fewer keys than places, or `head` is not below the table's
 /// length. [`Error::NotLinked`] if `head` is not linked. [`Error::Broken`] if the links do not lead from `head` around a ring and back to
-/// `head`, or the links of two neighbors do not name each other.
+/// `head`, or two neighbors do not have links to each other.
 #[inline]
 pub fn sort(table: &mut [Link2], keys: &[u64], head: u32) -> Result<(), Error> {
     let (links, places) = Link2::parts(table);
@@ -252,16 +255,16 @@ pub fn sort(table: &mut [Link2], keys: &[u64], head: u32) -> Result<(), Error> {
     done(unsafe { ic_ring_sort(links, places, keys.as_ptr(), keys.len(), head) })
 }
 
-/// Moves all members of the ring with the head `given` into the ring with the head `head`, which the call leaves sorted by keys if both
-/// rings were sorted by keys, in O(n). Of members with equal keys, those that were in the ring with the head `head` come first. Afterwards
-/// `given` is the head of a ring with no members.
+/// Moves all members of the ring with the head `given` into the ring with the head `head`, in O(n). If both rings were sorted by keys, the
+/// ring with the head `head` is sorted by keys after the call. Of members with equal keys, those that were in the ring with the head `head`
+/// come first. After the call `given` is the head of a ring with no members.
 ///
 /// # Errors
 ///
 /// [`Error::Null`] if `head` or `given` is `u32::MAX`. [`Error::OutOfRange`] if there are fewer keys than places, or `head` or `given` is
 /// not below the table's length. [`Error::NotLinked`] if `head` or `given` is not linked. [`Error::Broken`] if the links do not lead from
-/// `head` or from `given` around a ring and back to the same place, or the links of two neighbors do not name each other, or `head` and
-/// `given` are in one ring.
+/// `head` or from `given` around a ring and back to this place, or two neighbors do not have links to each other, or `head` and `given` are
+/// in one ring.
 #[inline]
 pub fn merge(table: &mut [Link2], keys: &[u64], head: u32, given: u32) -> Result<(), Error> {
     let (links, places) = Link2::parts(table);
@@ -274,7 +277,7 @@ pub fn merge(table: &mut [Link2], keys: &[u64], head: u32, given: u32) -> Result
 ///
 /// # Errors
 ///
-/// The call returns the errors of [`insert_after`].
+/// The call returns the same errors as [`insert_after`].
 #[inline]
 pub fn push_front(table: &mut [Link2], head: u32, place: u32) -> Result<(), Error> {
     insert_after(table, head, place)
@@ -284,7 +287,7 @@ pub fn push_front(table: &mut [Link2], head: u32, place: u32) -> Result<(), Erro
 ///
 /// # Errors
 ///
-/// The call returns the errors of [`insert_before`].
+/// The call returns the same errors as [`insert_before`].
 #[inline]
 pub fn push_back(table: &mut [Link2], head: u32, place: u32) -> Result<(), Error> {
     insert_before(table, head, place)
@@ -298,14 +301,15 @@ pub fn is_empty(table: &[Link2], head: u32) -> bool {
 }
 
 /// Returns the place after the place `at` of a ring, in O(1). After a head comes the first member, and after the last member comes the head.
-/// The call returns `None` if `at` is not linked or is not in the table, and if the link of `at` leads out of the table.
+/// The call returns `None` if `at` is not linked or is not in the table, or if the link of `at` leads out of the table.
 #[inline]
 #[must_use]
 pub fn next(table: &[Link2], at: u32) -> Option<u32> {
     read(table, at, Link2::next)
 }
 
-/// Returns the place before the place `at` of a ring, in O(1). It returns `None` in the cases in which [`next`] returns `None`.
+/// Returns the place before the place `at` of a ring, in O(1). The call returns `None` if `at` is not linked or is not in the table, or if the
+/// link of `at` leads out of the table.
 #[inline]
 #[must_use]
 pub fn prev(table: &[Link2], at: u32) -> Option<u32> {

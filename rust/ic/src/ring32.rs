@@ -38,7 +38,8 @@ pub fn init(table: &mut [Link2x32], head: u32) -> Result<(), Error> {
     done(unsafe { ic_ring32_init(links, places, head) })
 }
 
-/// Inserts `place` after the place `at` of a ring, as list_add of Linux does, in O(1). If `at` is a head, `place` becomes the first member.
+/// Inserts `place` after the place `at` of a ring, as list_add of Linux does, in O(1). If `at` is the head of a ring, `place` becomes the
+/// first member of this ring.
 ///
 /// # Errors
 ///
@@ -52,8 +53,8 @@ pub fn insert_after(table: &mut [Link2x32], at: u32, place: u32) -> Result<(), E
     done(unsafe { ic_ring32_insert_after(links, places, at, place) })
 }
 
-/// Inserts `place` before the place `at` of a ring, as list_add_tail of Linux does, in O(1). If `at` is a head, `place` becomes the last
-/// member.
+/// Inserts `place` before the place `at` of a ring, as list_add_tail of Linux does, in O(1). If `at` is the head of a ring, `place` becomes
+/// the last member of this ring.
 ///
 /// # Errors
 ///
@@ -67,8 +68,8 @@ pub fn insert_before(table: &mut [Link2x32], at: u32, place: u32) -> Result<(), 
     done(unsafe { ic_ring32_insert_before(links, places, at, place) })
 }
 
-/// Removes `place` from its ring, which you do not name, as list_del of Linux does, in O(1). If `place` is a head without members, the ring
-/// no longer exists after the call.
+/// Removes `place` from its ring, which you do not name, as list_del of Linux does, in O(1). If `place` is the head of a ring without
+/// members, this ring ceases to exist.
 ///
 /// # Errors
 ///
@@ -83,8 +84,8 @@ pub fn remove(table: &mut [Link2x32], place: u32) -> Result<(), Error> {
 
 /// Makes the place after `one` follow `other`, and the place after `other` follow `one`, in O(1). `one` and `other` must be in rings. If
 /// `one` and `other` are in two rings, the call joins the rings. If `one` and `other` are different places of one ring, the call splits
-/// this ring into two. A second call with the same places undoes the first call. If `one` is the last member of a ring, and `other` is the
-/// head of another ring, all members of the other ring then follow `one`, and `other` follows these members.
+/// this ring into two. A second call with the same places undoes the first call. For example, let `one` be the last member of a ring, and
+/// `other` the head of another ring. After the call the members of the other ring follow `one`, and `other` follows these members.
 ///
 /// # Errors
 ///
@@ -97,8 +98,8 @@ pub fn exchange(table: &mut [Link2x32], one: u32, other: u32) -> Result<(), Erro
     done(unsafe { ic_ring32_exchange(links, places, one, other) })
 }
 
-/// Removes the first member of the ring with the head `head`, and returns it, in O(1). The call returns `None` if `head` is `u32::MAX`, or
-/// the ring has no members.
+/// Removes the first member of the ring with the head `head`, and returns this member, in O(1). The call returns `None` if `head` is
+/// `u32::MAX`, or the ring has no members.
 ///
 /// # Errors
 ///
@@ -111,8 +112,8 @@ pub fn pop_front(table: &mut [Link2x32], head: u32) -> Result<Option<u32>, Error
     handed_out(|it| unsafe { ic_ring32_pop_front(links, places, head, it) })
 }
 
-/// Removes the last member of the ring with the head `head`, and returns it, in O(1). The call returns `None` if `head` is `u32::MAX`, or
-/// the ring has no members.
+/// Removes the last member of the ring with the head `head`, and returns this member, in O(1). The call returns `None` if `head` is
+/// `u32::MAX`, or the ring has no members.
 ///
 /// # Errors
 ///
@@ -125,7 +126,7 @@ pub fn pop_back(table: &mut [Link2x32], head: u32) -> Result<Option<u32>, Error>
     handed_out(|it| unsafe { ic_ring32_pop_back(links, places, head, it) })
 }
 
-/// Removes the place `at` from its ring, and inserts `place` where it was, as list_replace of Linux does, in O(1).
+/// Removes the place `at` from its ring, and inserts `place` where `at` was, as list_replace of Linux does, in O(1).
 ///
 /// # Errors
 ///
@@ -139,8 +140,9 @@ pub fn replace(table: &mut [Link2x32], at: u32, place: u32) -> Result<(), Error>
     done(unsafe { ic_ring32_replace(links, places, at, place) })
 }
 
-/// Moves `place` after the place `at` of the same ring or of another ring, as list_move of Linux does, in O(1). If `at` is a head, `place`
-/// becomes the first member. `place` stays linked during the call. Nothing changes if `at` and `place` are the same.
+/// Moves `place` after the place `at` of the same ring or of another ring, as list_move of Linux does, in O(1). If `at` is the head of a
+/// ring, `place` becomes the first member of this ring. `place` stays linked during the call. Nothing changes if `at` and `place` are the
+/// same place.
 ///
 /// # Errors
 ///
@@ -153,8 +155,9 @@ pub fn move_after(table: &mut [Link2x32], at: u32, place: u32) -> Result<(), Err
     done(unsafe { ic_ring32_move_after(links, places, at, place) })
 }
 
-/// Moves `place` before the place `at` of the same ring or of another ring, as list_move_tail of Linux does, in O(1). If `at` is a head,
-/// `place` becomes the last member. `place` stays linked during the call. Nothing changes if `at` and `place` are the same.
+/// Moves `place` before the place `at` of the same ring or of another ring, as list_move_tail of Linux does, in O(1). If `at` is the head
+/// of a ring, `place` becomes the last member of this ring. `place` stays linked during the call. Nothing changes if `at` and `place` are
+/// the same place.
 ///
 /// # Errors
 ///
@@ -168,7 +171,7 @@ pub fn move_before(table: &mut [Link2x32], at: u32, place: u32) -> Result<(), Er
 }
 
 /// Moves all members of the ring with the head `head`, in their order, after the place `at` of another ring, as list_splice_init of Linux
-/// does, in O(1). Afterwards `head` is the head of a ring with no members.
+/// does, in O(1). After the call `head` is the head of a ring with no members.
 ///
 /// # Errors
 ///
@@ -183,7 +186,7 @@ pub fn splice_after(table: &mut [Link2x32], at: u32, head: u32) -> Result<(), Er
 }
 
 /// Moves all members of the ring with the head `head`, in their order, before the place `at` of another ring, as list_splice_tail_init of
-/// Linux does, in O(1). Afterwards `head` is the head of a ring with no members.
+/// Linux does, in O(1). After the call `head` is the head of a ring with no members.
 ///
 /// # Errors
 ///
@@ -203,7 +206,7 @@ pub fn splice_before(table: &mut [Link2x32], at: u32, head: u32) -> Result<(), E
 ///
 /// # Errors
 ///
-/// The call returns the errors of [`insert_after`].
+/// The call returns the same errors as [`insert_after`].
 #[inline]
 pub fn push_front(table: &mut [Link2x32], head: u32, place: u32) -> Result<(), Error> {
     insert_after(table, head, place)
@@ -213,7 +216,7 @@ pub fn push_front(table: &mut [Link2x32], head: u32, place: u32) -> Result<(), E
 ///
 /// # Errors
 ///
-/// The call returns the errors of [`insert_before`].
+/// The call returns the same errors as [`insert_before`].
 #[inline]
 pub fn push_back(table: &mut [Link2x32], head: u32, place: u32) -> Result<(), Error> {
     insert_before(table, head, place)
@@ -227,14 +230,15 @@ pub fn is_empty(table: &[Link2x32], head: u32) -> bool {
 }
 
 /// Returns the place after the place `at` of a ring, in O(1). After a head comes the first member, and after the last member comes the head.
-/// The call returns `None` if `at` is not linked or is not in the table, and if the link of `at` leads out of the table.
+/// The call returns `None` if `at` is not linked or is not in the table, or if the link of `at` leads out of the table.
 #[inline]
 #[must_use]
 pub fn next(table: &[Link2x32], at: u32) -> Option<u32> {
     read(table, at, Link2x32::next)
 }
 
-/// Returns the place before the place `at` of a ring, in O(1). It returns `None` in the cases in which [`next`] returns `None`.
+/// Returns the place before the place `at` of a ring, in O(1). The call returns `None` if `at` is not linked or is not in the table, or if the
+/// link of `at` leads out of the table.
 #[inline]
 #[must_use]
 pub fn prev(table: &[Link2x32], at: u32) -> Option<u32> {

@@ -31,7 +31,7 @@ use ic_sys::*;
 /// # Ok::<(), Error>(())
 /// ```
 ///
-/// If a slice of yours has a key for each place, you can sort the members by their keys, and merge another list into this list:
+/// If a slice of yours has a key for each place, you can sort the members of a list by their keys, and merge another list into it:
 ///
 /// ```
 /// # use ic::{Error, Link1, Stack};
@@ -45,7 +45,7 @@ use ic_sys::*;
 /// # Ok::<(), Error>(())
 /// ```
 ///
-/// If you drop the list, its members stay linked. Use a clone of the list only with a clone of the table.
+/// If you drop the list, its members stay linked. Use a clone of the list only with a clone of its table.
 #[repr(transparent)]
 #[derive(Clone, Default, PartialEq, Eq)]
 pub struct Stack(pub(crate) ic_stack);
@@ -58,15 +58,15 @@ impl Stack {
         Stack(ic_stack { head: 0 })
     }
 
-    /// Returns the list with these words, which may have any values, for example from a file. [`check`](Self::check) says whether the words of
-    /// the list and of its table form a list.
+    /// Returns the list with these words, which may have any values, for example from a file. The call [`check`](Self::check) says whether the
+    /// words of the list and of its table form a list.
     #[inline]
     #[must_use]
     pub const fn from_words([head]: [u64; 1]) -> Stack {
         Stack(ic_stack { head })
     }
 
-    /// Returns the words of the list, for example to write them to a file. They contain no addresses.
+    /// Returns the words of the list, for example to write them to a file. The words contain no addresses.
     #[inline]
     #[must_use]
     pub const fn words(&self) -> [u64; 1] {
@@ -80,15 +80,15 @@ impl Stack {
         is_none(self.0.head)
     }
 
-    /// Returns the first member, in O(1).
+    /// Returns the first member, in O(1), or `None` if there are no members.
     #[inline]
     #[must_use]
     pub fn first(&self) -> Option<u32> {
         place(self.0.head)
     }
 
-    /// Returns the member after the member `at`, in O(1). It returns `None` if `at` is the last member, is not linked or is not in the table,
-    /// and if the link of `at` leads out of the table.
+    /// Returns the member after the member `at`, in O(1). The call returns `None` if `at` is the last member, is not linked or is not in the
+    /// table, or if the link of `at` leads out of the table.
     #[inline]
     #[must_use]
     pub fn next(&self, table: &[Link1], at: u32) -> Option<u32> {
@@ -109,7 +109,7 @@ impl Stack {
         done(unsafe { ic_stack_push_front(links, places, &mut self.0, place) })
     }
 
-    /// Removes the first member, and returns it, in O(1). The call returns `None` if the list is empty.
+    /// Removes the first member, and returns this member, in O(1). The call returns `None` if the list is empty.
     ///
     /// # Errors
     ///
@@ -135,8 +135,8 @@ impl Stack {
         done(unsafe { ic_stack_insert_after(links, places, &mut self.0, number(at), place) })
     }
 
-    /// Removes the member after the member `at`, or the first member if `at` is `None`, and returns it, in O(1). The call returns `None` if
-    /// `at` is the last member, or the list is empty.
+    /// Removes the member after the member `at`, or the first member if `at` is `None`, and returns this member, in O(1). The call returns
+    /// `None` if `at` is the last member, or the list is empty.
     ///
     /// # Errors
     ///
@@ -149,7 +149,7 @@ impl Stack {
         handed_out(|it| unsafe { ic_stack_remove_after(links, places, &mut self.0, number(at), it) })
     }
 
-    /// Removes the member after the member `at`, or the first member if `at` is `None`, inserts `place` where it was, and returns the
+    /// Removes the member after the member `at`, or the first member if `at` is `None`, inserts `place` in its position, and returns the
     /// removed member, in O(1).
     ///
     /// # Errors
@@ -221,8 +221,8 @@ impl Stack {
         done(unsafe { ic_stack_clear(links, places, &mut self.0) })
     }
 
-    /// Counts the members, and returns how many there are, in O(n). Make this call if the words come from a file, or from memory that
-    /// others write. If the call returns a number, every other call on this list does what its own comment says. The call returns `None` if
+    /// Counts the members, and returns their number, in O(n). Make this call if the words come from a file, or from memory to which other
+    /// programs write. If the call returns a number, all other calls on this list do what their comments say. The call returns `None` if
     /// the links from the first member on run in a circle, or lead to a place that is not linked in this table.
     #[inline]
     #[must_use]
@@ -245,8 +245,8 @@ impl Stack {
         done(unsafe { ic_stack_sort(links, places, keys.as_ptr(), keys.len(), &mut self.0) })
     }
 
-    /// Moves all members of `given` into this list, which the call leaves sorted by keys if both lists were sorted by keys, in O(n). Of
-    /// members with equal keys, those of this list come first. Afterwards `given` is empty.
+    /// Moves all members of `given` into this list, in O(n). If both lists were sorted by keys, this list is sorted by keys after the call.
+    /// Of members with equal keys, those that were in this list come first. After the call `given` is empty.
     ///
     /// # Errors
     ///

@@ -1,14 +1,15 @@
-//! Trees with sums: each place has a value and a sum, which combines the values of a member and of all members below it.
+//! Trees with sums. Each place has a value and a sum. The sum at a member combines the values of this member and of all members below it.
 
 use crate::error::{done, handed_out, try_counted};
 use crate::link::{number, Link};
 use crate::{Error, Link3, Tree};
 use ic_sys::*;
 
-/// A value, which you write, and a sum, which calls write. A tree with sums has a `Sum` for each place.
+/// The value and the sum of a place in a tree with sums. You write the value, and calls write the sum.
 ///
-/// A slice of yours has a `Sum` for each place. The sum at a member combines the values of this member and of all members below it, by the
-/// [`SumKind`] that you pass to each call. If each value is 1, a search by sums finds the member at a position, and the position of a member:
+/// A slice of yours has a `Sum` for each place. The sum at a member combines the values of this member and of all members below it, in the way
+/// of the [`SumKind`] that you pass to each call. If each value is 1, [`Tree::sums_find`] finds the member at a position, and
+/// [`Tree::sums_before`] computes the position of a member:
 ///
 /// ```
 /// use ic::{Error, Link3, Sum, SumKind, Tree};
@@ -31,7 +32,8 @@ use ic_sys::*;
 /// # Ok::<(), Error>(())
 /// ```
 ///
-/// If the keys are the starts of intervals, and the values are their ends, a search finds each interval that overlaps a given interval:
+/// If the keys are the starts of intervals, and the values are their ends, [`Tree::sums_overlap`] finds, one after the other, all intervals
+/// that overlap a given interval:
 ///
 /// ```
 /// use ic::{Error, Link3, Sum, SumKind, Tree};
@@ -51,14 +53,14 @@ use ic_sys::*;
 #[repr(C)]
 #[derive(Clone, Copy, Debug, Default, PartialEq, Eq, Hash)]
 pub struct Sum {
-    /// The value of the place, which you write, and no call changes.
+    /// The value of the place. You write this value, and no call changes it.
     pub value: u64,
-    /// The combined value of the place and of all members below it, once a call has computed it.
+    /// The combined value of the place and of all members below it, after a call has computed this sum.
     pub sum: u64,
 }
 
 impl Sum {
-    /// Returns a value with a sum that no call has computed yet, in O(1).
+    /// Returns a `Sum` with this value, in O(1). No call has computed its sum yet.
     #[inline]
     #[must_use]
     pub const fn new(value: u64) -> Sum {
@@ -77,14 +79,15 @@ pub enum SumKind {
     Greatest = IC_GREATEST,
 }
 
-/// Trees with sums. There has to be a [`Sum`] for each place.
+/// Calls of trees with sums. The slice `sums` must have a [`Sum`] for each place.
 ///
-/// The sums of a tree are right if each is the combined value of its member and all members below. The edits below keep right sums right. Other
-/// edits leave the sums as they are. After other edits call [`sums_renew`](Self::sums_renew) with `None`. After you have changed the value of
-/// one member, call it with this member.
+/// The sums of a tree are right if the sum at each member is the combined value of this member and all members below it. If the sums are right
+/// before an edit whose name begins with `sums_`, they are right after this edit, too. Other edits do not update the sums. After another edit
+/// pass `None` to [`sums_renew`](Self::sums_renew), which makes all sums right. After you have changed the value of one member, pass this
+/// member to [`sums_renew`](Self::sums_renew).
 impl Tree {
-    /// Returns the sum at the root, in O(1), which is the combined value of all members if the sums are right. Returns 0 if there are no
-    /// members.
+    /// Returns the sum at the root, in O(1). If the sums are right, this is the combined value of all members. The call returns 0 if there are
+    /// no members.
     #[inline]
     #[must_use]
     pub fn sums_total(&self, sums: &[Sum]) -> u64 {
@@ -207,8 +210,8 @@ impl Tree {
     }
 
     /// Computes the sum at the member `at` again, and then the sums at the members above `at`, until a sum does not change, in O(log n).
-    /// Make this call after you have changed the value of `at`. If `at` is `None`, the call computes all sums of the table, for every tree
-    /// in the table, in O(p log p) for p places. The call writes only sums.
+    /// Make this call after you have changed the value of `at`. If `at` is `None`, the call computes the sums of all trees in the table, in
+    /// O(p log p) for a table of p places. The call writes only sums.
     ///
     /// # Errors
     ///
@@ -223,9 +226,10 @@ impl Tree {
         })
     }
 
-    /// Combines the values of the members after the member `at`, or of all members if `at` is `None`, in their order, finds the first
-    /// member at which the combined value is greater than `bound`, and returns it, in O(log n). The call writes nothing else. The call
-    /// returns `None` if the combined value of all these members is not greater than `bound`.
+    /// Finds the first member at which the combined value becomes greater than `bound`, and returns this member, in O(log n). The call
+    /// combines the values of the members one after the other, in their order. It begins with the member after the member `at`, or with the
+    /// first member if `at` is `None`. The call changes no sum. The call returns `None` if the combined value does not become greater than
+    /// `bound` at any member.
     ///
     /// # Errors
     ///
@@ -257,7 +261,7 @@ impl Tree {
         })
     }
 
-    /// Finds the combined value of the members before the member `at`, and returns it, in O(log n). The call writes nothing else.
+    /// Computes the combined value of the members before the member `at`, and returns this value, in O(log n). The call changes no sum.
     ///
     /// # Errors
     ///
@@ -273,10 +277,10 @@ impl Tree {
         })
     }
 
-    /// Finds the first member after the member `at`, or the first of all members if `at` is `None`, whose interval overlaps the interval
-    /// that begins at `from` and ends before `to`, and returns it, in O(log n). The interval of a member begins at its key and ends before
-    /// its value. The sums must have been made with [`SumKind::Greatest`], and the members must be sorted by keys. The call writes nothing
-    /// else. The call returns `None` if none of these members has such an interval.
+    /// Finds the first member whose interval overlaps the interval that begins at `from` and ends before `to`, and returns this member, in
+    /// O(log n). The search begins after the member `at`, or at the first member if `at` is `None`. The interval of a member begins at its
+    /// key and ends before its value. The sums must be computed with [`SumKind::Greatest`], and the members must be sorted by keys. The
+    /// call changes no sum. The call returns `None` if there is no such member.
     ///
     /// # Errors
     ///

@@ -9,9 +9,9 @@ use ic_sys::*;
 
 /// A red-black tree over a table of [`Link3`].
 ///
-/// A tree is good for timers, priorities and indices: for objects in an order, which you insert and remove anywhere, and search for. You order
-/// the members in one of two ways. You can give each place a number as its key, in a slice of your own, where `keys[place]` is the key of
-/// `place`:
+/// A tree is good for timers, priorities and maps. Its members have an order, and you can insert, remove and find a member at any position.
+/// You order the members in one of two ways. You can give each place a number as its key, in a slice of your own, where `keys[place]` is the
+/// key of `place`:
 ///
 /// ```
 /// use ic::{Error, Link3, Tree};
@@ -28,8 +28,8 @@ use ic_sys::*;
 /// # Ok::<(), Error>(())
 /// ```
 ///
-/// Or you can pass a comparison of your own to [`insert_by`](Self::insert_by). You can also descend from the root yourself to the member under
-/// which you insert the place:
+/// Or you can pass a comparison of your own to [`insert_by`](Self::insert_by). Instead of calling `insert_by`, you can also descend from the
+/// root yourself to the member below which you insert the place:
 ///
 /// ```
 /// use ic::{Error, Link3, Tree};
@@ -54,7 +54,7 @@ use ic_sys::*;
 /// # Ok::<(), Error>(())
 /// ```
 ///
-/// You remove a member by its place, at a [cursor](CursorMut), or many at once:
+/// You can remove a member by its place or at a [cursor](CursorMut), and many members by one call of `retain`:
 ///
 /// ```
 /// use ic::{Error, Link3, Tree};
@@ -73,8 +73,8 @@ use ic_sys::*;
 /// # Ok::<(), Error>(())
 /// ```
 ///
-/// In the costs, n is the number of members. If you drop the tree, its members stay linked. Use a clone of the tree only with a clone of the
-/// table.
+/// In the costs of the calls, n is the number of members. If you drop the tree, its members stay linked. Use a clone of the tree only with a
+/// clone of its table.
 #[repr(transparent)]
 #[derive(Clone, Default, PartialEq, Eq)]
 pub struct Tree(pub(crate) ic_tree);
@@ -87,15 +87,15 @@ impl Tree {
         Tree(ic_tree { root: 0 })
     }
 
-    /// Returns the tree with these words, which may have any values, for example from a file. [`check`](Self::check) says whether the words of
-    /// the tree and of its table form a tree.
+    /// Returns the tree with these words, which may have any values, for example from a file. The call [`check`](Self::check) says whether the
+    /// words of the tree and of its table form a tree.
     #[inline]
     #[must_use]
     pub const fn from_words([root]: [u64; 1]) -> Tree {
         Tree(ic_tree { root })
     }
 
-    /// Returns the words of the tree, for example to write them to a file. They contain no addresses.
+    /// Returns the words of the tree, for example to write them to a file. The words contain no addresses.
     #[inline]
     #[must_use]
     pub const fn words(&self) -> [u64; 1] {
@@ -109,29 +109,31 @@ impl Tree {
         is_none(self.0.root)
     }
 
-    /// Returns the root, in O(1).
+    /// Returns the root, in O(1), or `None` if there are no members.
     #[inline]
     #[must_use]
     pub fn root(&self) -> Option<u32> {
         place(self.0.root)
     }
 
-    /// Returns the left child of the member `at`, in O(1). It returns `None` if there is none, if `at` is not linked or is not in the table,
-    /// and if the link of `at` leads out of the table.
+    /// Returns the left child of the member `at`, in O(1). The call returns `None` if there is no left child, if `at` is not linked or is not
+    /// in the table, or if the link of `at` leads out of the table.
     #[inline]
     #[must_use]
     pub fn left(&self, table: &[Link3], at: u32) -> Option<u32> {
         read(table, at, Link3::left)
     }
 
-    /// Returns the right child of the member `at`, in O(1), or `None` as [`left`](Self::left) does.
+    /// Returns the right child of the member `at`, in O(1). The call returns `None` if there is no right child, if `at` is not linked or is
+    /// not in the table, or if the link of `at` leads out of the table.
     #[inline]
     #[must_use]
     pub fn right(&self, table: &[Link3], at: u32) -> Option<u32> {
         read(table, at, Link3::right)
     }
 
-    /// Returns the parent of the member `at`, in O(1), or `None` as [`left`](Self::left) does.
+    /// Returns the parent of the member `at`, in O(1). The call returns `None` if there is no parent, if `at` is not linked or is not in the
+    /// table, or if the link of `at` leads out of the table.
     #[inline]
     #[must_use]
     pub fn parent(&self, table: &[Link3], at: u32) -> Option<u32> {
@@ -184,7 +186,7 @@ impl Tree {
         done(unsafe { ic_tree_remove(links, places, &mut self.0, at) })
     }
 
-    /// Removes the member `at`, and inserts `place` where it was, in O(1). The call compares no keys, so pass a place that comes between
+    /// Removes the member `at`, and inserts `place` where `at` was, in O(1). The call compares no keys, so pass a place that comes between
     /// the neighbors of `at` in the order of the keys.
     ///
     /// # Errors
@@ -201,7 +203,8 @@ impl Tree {
 
     /// Moves all members of `given`, in their order, after the members of this tree, and leaves `given` empty, in O(n). The call compares
     /// no keys, so pass as `given` a tree whose keys all come after the keys of this tree. The call takes O(n) because it checks both trees
-    /// first. In Rattle, the language of this library, types guarantee that the links form a tree, and the same call takes O(log n).
+    /// first. In Rattle, the language in which the library is written, types guarantee that the links form a tree, so the same call takes
+    /// O(log n).
     ///
     /// # Errors
     ///
@@ -214,8 +217,8 @@ impl Tree {
     }
 
     /// Inserts `place` after all members of this tree, moves all members of `given`, in their order, after `place`, and leaves `given`
-    /// empty, in O(n). The call compares no keys. The call takes O(n) because it checks both trees first. In Rattle, the language of this
-    /// library, types guarantee that the links form a tree, and the same call takes O(log n).
+    /// empty, in O(n). The call compares no keys. The call takes O(n) because it checks both trees first. In Rattle, the language in which
+    /// the library is written, types guarantee that the links form a tree, so the same call takes O(log n).
     ///
     /// # Errors
     ///
@@ -242,8 +245,8 @@ impl Tree {
     }
 
     /// Moves the member `at` and all members after it to a new tree, which the call returns, in O(n). The call takes O(n) because it checks
-    /// the tree first. In Rattle, the language of this library, types guarantee that the links form a tree, and the same call takes O(log
-    /// n).
+    /// the tree first. In Rattle, the language in which the library is written, types guarantee that the links form a tree, so the same
+    /// call takes O(log n).
     ///
     /// # Errors
     ///
@@ -258,10 +261,10 @@ impl Tree {
         Ok(rest)
     }
 
-    /// Counts the members, and returns how many there are, in O(n). Make this call if the words come from a file, or from memory that
-    /// others write. If the call returns a number, every other call on this tree does what its own comment says. The call reads no keys,
-    /// and is recursive, to a depth of at most 67 calls. The call returns `None` if the links below the root form no red-black tree,
-    /// because a parent, a color or a child is wrong.
+    /// Counts the members, and returns their number, in O(n). Make this call if the words come from a file, or from memory to which other
+    /// programs write. If the call returns a number, all other calls on this tree do what their comments say. The check reads no keys. It
+    /// is recursive, to a depth of at most 67 calls. The call returns `None` if the links below the root form no red-black tree, because a
+    /// parent, a color or a child is wrong.
     #[inline]
     #[must_use]
     pub fn check(&self, table: &[Link3]) -> Option<u64> {
@@ -272,11 +275,10 @@ impl Tree {
     // to here
 }
 
-/// Trees by keys. The key of `place` is the number `keys[place]`, so there must be a key for each place. A smaller key comes before a greater
-/// one.
+/// Calls of trees by keys. The key of `place` is the number `keys[place]`, so the slice `keys` must have a key for each place. A member with a
+/// smaller key comes before a member with a greater key.
 ///
-/// The key of a member must not change. A search requires a tree whose members are sorted by keys. In another tree a search may find a wrong
-/// member or none.
+/// The key of a member must not change. If the members of the tree are not sorted by keys, a search may find a wrong member or none.
 impl Tree {
     // Made by tools/c-calls --write: tree-keys
     /// Inserts `place` by its key, after all members whose keys are not greater than `keys[place]`, in O(log n).
@@ -292,7 +294,7 @@ impl Tree {
         done(unsafe { ic_tree_insert(links, places, keys.as_ptr(), keys.len(), &mut self.0, place) })
     }
 
-    /// Finds the first member whose key is `key`, and returns it, in O(log n). The call returns `None` if no member has this key.
+    /// Finds the first member whose key is `key`, and returns this member, in O(log n). The call returns `None` if no member has this key.
     ///
     /// # Errors
     ///
@@ -304,8 +306,8 @@ impl Tree {
         handed_out(|it| unsafe { ic_tree_find(links, places, keys.as_ptr(), keys.len(), &self.0, key, it) })
     }
 
-    /// Finds the first member whose key is not less than `key`, and returns it, in O(log n). The call returns `None` if no member has such
-    /// a key.
+    /// Finds the first member whose key is not less than `key`, and returns this member, in O(log n). The call returns `None` if every
+    /// member's key is less than `key`.
     ///
     /// # Errors
     ///
@@ -317,10 +319,10 @@ impl Tree {
         handed_out(|it| unsafe { ic_tree_lower_bound(links, places, keys.as_ptr(), keys.len(), &self.0, key, it) })
     }
 
-    /// Finds the LAST member whose key is NOT GREATER than `key`, and returns it, in O(log n). The upper_bound of C++ finds another member,
-    /// the first one whose key is greater. The lower and the upper bound have their names from the Rust crate intrusive-collections. If
-    /// members have keys from `low` to `high`, the lower bound of `low` is the first of these members, and the upper bound of `high` is the
-    /// last. The call returns `None` if no member has such a key.
+    /// Finds the LAST member whose key is NOT GREATER than `key`, and returns this member, in O(log n). The upper_bound of C++ finds
+    /// another member, the first one whose key is greater than `key`. The names of the lower and the upper bound come from the Rust crate
+    /// intrusive-collections. If members have keys from `low` to `high`, the lower bound of `low` is the first of these members, and the
+    /// upper bound of `high` is the last. The call returns `None` if every member's key is greater than `key`.
     ///
     /// # Errors
     ///
@@ -334,9 +336,9 @@ impl Tree {
     // to here
 }
 
-/// Steps through a tree. A walk over all n members takes O(n).
+/// Calls that step through a tree. A walk over all n members takes O(n).
 impl Tree {
-    /// Returns the first member, in O(log n).
+    /// Returns the first member, in O(log n), or `None` if there are no members.
     ///
     /// # Errors
     ///
@@ -346,7 +348,7 @@ impl Tree {
         Tree::next(self, table, None)
     }
 
-    /// Returns the last member, in O(log n).
+    /// Returns the last member, in O(log n), or `None` if there are no members.
     ///
     /// # Errors
     ///
@@ -357,8 +359,8 @@ impl Tree {
     }
 
     // Made by tools/c-calls --write: tree-steps tree-ends
-    /// Finds the member after the member `at`, or the first member if `at` is `None`, and returns it, in O(log n). The call returns `None`
-    /// if `at` is the last member, or the tree is empty.
+    /// Finds the member after the member `at`, or the first member if `at` is `None`, and returns this member, in O(log n). The call
+    /// returns `None` if `at` is the last member, or the tree is empty.
     ///
     /// # Errors
     ///
@@ -371,8 +373,8 @@ impl Tree {
         handed_out(|it| unsafe { ic_tree_next(links, places, &self.0, number(at), it) })
     }
 
-    /// Finds the member before the member `at`, or the last member if `at` is `None`, and returns it, in O(log n). The call returns `None`
-    /// if `at` is the first member, or the tree is empty.
+    /// Finds the member before the member `at`, or the last member if `at` is `None`, and returns this member, in O(log n). The call
+    /// returns `None` if `at` is the first member, or the tree is empty.
     ///
     /// # Errors
     ///
@@ -445,7 +447,8 @@ impl Tree {
         done(unsafe { ic_tree_ends_insert_right(links, places, &mut self.0, &mut ends.0, number(at), place) })
     }
 
-    /// Removes the member `at`, in O(log n). If `at` is the first or the last member, the ends of the tree then name its neighbor instead.
+    /// Removes the member `at`, in O(log n). If `at` is the first or the last member, the call sets this end of the tree to the neighbor of
+    /// `at`.
     ///
     /// # Errors
     ///
@@ -459,8 +462,8 @@ impl Tree {
         done(unsafe { ic_tree_ends_remove(links, places, &mut self.0, &mut ends.0, at) })
     }
 
-    /// Removes the member `at`, and inserts `place` where it was, in O(1). If `at` is the first or the last member, the ends of the tree
-    /// then name `place` instead. The call compares no keys, so pass a place that comes between the neighbors of `at` in the order of the
+    /// Removes the member `at`, and inserts `place` where `at` was, in O(1). If `at` is the first or the last member, the call sets this
+    /// end of the tree to `place`. The call compares no keys, so pass a place that comes between the neighbors of `at` in the order of the
     /// keys.
     ///
     /// # Errors
@@ -475,8 +478,8 @@ impl Tree {
         done(unsafe { ic_tree_ends_replace(links, places, &mut self.0, &mut ends.0, at, place) })
     }
 
-    /// Removes the first member, and returns it, in O(log n). The call reads this member from `ends`, and finds the next member in O(1) on
-    /// average, which is good for timers and schedulers. The call returns `None` if `ends` names no first member.
+    /// Removes the first member, and returns this member, in O(log n). The call reads this member from `ends`, and finds the next member,
+    /// which becomes the first one, in O(1) on average. The call returns `None` if `ends` names no first member.
     ///
     /// # Errors
     ///
@@ -491,10 +494,10 @@ impl Tree {
     // to here
 }
 
-/// The ends of a tree, which name the first and the last member. The calls `ends_...` of a [`Tree`] read and update them.
+/// The ends of a tree, which name the first and the last member. The calls `ends_...` of a [`Tree`] read and update the ends.
 ///
-/// With its ends, you find the first member of a tree, such as the next timer, in O(1). Edit such a tree only by the calls `ends_...`, since
-/// all other calls leave the ends as they are:
+/// With the ends of a tree, you find its first member, such as the next timer, in O(1). Edit a tree with ends only by the calls `ends_...`,
+/// because no other call updates the ends:
 ///
 /// ```
 /// use ic::{Error, Link3, Tree, TreeEnds};
@@ -531,22 +534,23 @@ impl TreeEnds {
         TreeEnds(ic_tree_ends { first, last })
     }
 
-    /// Returns the words of the ends, for example to write them to a file. They contain no addresses.
+    /// Returns the words of the ends, for example to write them to a file. The words contain no addresses.
     #[inline]
     #[must_use]
     pub const fn words(&self) -> [u64; 2] {
         [self.0.first, self.0.last]
     }
 
-    /// Returns the first member of the tree, in O(1). It returns `None` if there is no member, or if the first member is not linked in the
-    /// table.
+    /// Returns the first member of the tree, in O(1). The call returns `None` if there is no member, or if the first member is not linked in
+    /// the table.
     #[inline]
     #[must_use]
     pub fn first(&self, table: &[Link3]) -> Option<u32> {
         member(table, place(self.0.first))
     }
 
-    /// Returns the last member of the tree, in O(1). It returns `None` if there is no member, or if the last member is not linked in the table.
+    /// Returns the last member of the tree, in O(1). The call returns `None` if there is no member, or if the last member is not linked in the
+    /// table.
     #[inline]
     #[must_use]
     pub fn last(&self, table: &[Link3]) -> Option<u32> {
@@ -570,8 +574,8 @@ impl fmt::Debug for Tree {
     }
 }
 
-// The calls `insert_after` and `insert_before` insert a place as the child of the member on this side, if the member has none there. Otherwise
-// the member's neighbor on this side has no child on the opposite side, and the place becomes this child.
+// `insert_after` inserts a place as the right child of the member. If the member has a right child already, the next member has no left child,
+// and the place becomes the left child of the next member. `insert_before` does the same with left and right exchanged.
 impl Collection for Tree {
     type Link = Link3;
     type Position = Option<u32>;

@@ -1,4 +1,4 @@
-//! This module has views, which are a list or tree with its table, and the iterator over the members.
+//! This module has views and iterators. A view is a list or tree together with its table, and an iterator goes over its members.
 
 use crate::collection::{Bidirectional, Collection, Position};
 use crate::link::member;
@@ -7,8 +7,8 @@ use core::iter::FusedIterator;
 
 /// A list or tree together with its table of links, both borrowed for reading.
 ///
-/// A list or tree does not contain its table, so you cannot print it, or iterate over it, without the table. The call `view` of a list or tree
-/// of the type `C` makes a view.
+/// A list or tree does not contain its table, so you can print a list or tree, or iterate over it, only together with the table. `C` is the
+/// type of the list or tree, and its call `view` makes a view.
 ///
 /// ```
 /// use ic::{Link1, Stack};
@@ -42,7 +42,7 @@ impl<'a, C: Collection> View<'a, C> {
         self.collection.next(self.table, at)
     }
 
-    /// Iterates over the members, in order. This takes O(n) for all members, and in a list O(1) for each member.
+    /// Iterates over the members, in order. The iteration takes O(n) for all members, and in a list O(1) for each member.
     ///
     /// Whatever the words are, the iterator ends after as many members as the table has places.
     #[inline]
@@ -53,7 +53,7 @@ impl<'a, C: Collection> View<'a, C> {
 }
 
 impl<'a, C: Bidirectional> View<'a, C> {
-    /// Returns the iterator from `front` to `back`, both of which it visits.
+    /// Returns the iterator from the member at `front` to the member at `back`. It visits both of these members.
     #[inline]
     pub(crate) fn between(self, front: C::Position, back: C::Position) -> Iter<'a, C> {
         Iter { view: self, front, back, left: self.table.len() }
@@ -102,7 +102,7 @@ impl<'a, C: Collection> IntoIterator for &View<'a, C> {
 
 /// An iterator over the members of a list or tree, in order. You can iterate from both ends, except in a [`Stack`](crate::Stack).
 ///
-/// The iterator does not know how many members there are. Whatever the words are, it ends after as many members as the table has places.
+/// The iterator does not know the number of members. Whatever the words are, the iterator ends after as many members as the table has places.
 ///
 /// ```
 /// use ic::{Link2, List};

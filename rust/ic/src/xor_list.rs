@@ -11,8 +11,8 @@ use ic_sys::*;
 ///
 /// An XOR list is good if you use a list at both ends and walk in both directions, and memory is scarce. Calls insert into a gap, which is the
 /// position between two neighbors or at an end of the list. The link of a member does not name its two neighbors separately, so you name a gap
-/// by the members on both sides: `before` is the member before the gap, or `None` at the front, and `after` is the member after the gap, or
-/// `None` at the back. A [cursor](CursorMut) knows both members:
+/// by the members on both sides. `before` is the member before the gap, or `None` at the front. `after` is the member after the gap, or `None`
+/// at the back. A [cursor](CursorMut) knows the members on both sides of its position:
 ///
 /// ```
 /// use ic::{Error, Link1, XorList};
@@ -38,7 +38,7 @@ use ic_sys::*;
 /// # Ok::<(), Error>(())
 /// ```
 ///
-/// If you drop the list, its members stay linked. Use a clone of the list only with a clone of the table.
+/// If you drop the list, its members stay linked. Use a clone of the list only with a clone of its table.
 #[repr(transparent)]
 #[derive(Clone, Default, PartialEq, Eq)]
 pub struct XorList(pub(crate) ic_xor_list);
@@ -59,7 +59,7 @@ impl XorList {
         XorList(ic_xor_list { head, tail })
     }
 
-    /// Returns the words of the list, for example to write them to a file. They contain no addresses.
+    /// Returns the words of the list, for example to write them to a file. The words contain no addresses.
     #[inline]
     #[must_use]
     pub const fn words(&self) -> [u64; 2] {
@@ -73,23 +73,23 @@ impl XorList {
         is_none(self.0.head)
     }
 
-    /// Returns the first member, in O(1).
+    /// Returns the first member, in O(1), or `None` if there are no members.
     #[inline]
     #[must_use]
     pub fn first(&self) -> Option<u32> {
         place(self.0.head)
     }
 
-    /// Returns the last member, in O(1).
+    /// Returns the last member, in O(1), or `None` if there are no members.
     #[inline]
     #[must_use]
     pub fn last(&self) -> Option<u32> {
         place(self.0.tail)
     }
 
-    /// Returns the neighbor of the member `at` that is not its neighbor `from`, in O(1). At an end of the list `from` is `None`. The call
-    /// returns `None` if there is no such neighbor, if `at` is not linked or is not in the table, and if the link of `at` leads out of the
-    /// table.
+    /// Returns the other neighbor of the member `at`, in O(1): the one that is not its neighbor `from`. If `at` is the first or the last
+    /// member, pass `None` as `from` to get its only neighbor. The call returns `None` if there is no other neighbor, if `at` is not linked or
+    /// is not in the table, or if the link of `at` leads out of the table.
     #[inline]
     #[must_use]
     pub fn step(&self, table: &[Link1], from: Option<u32>, at: u32) -> Option<u32> {
@@ -123,7 +123,7 @@ impl XorList {
         done(unsafe { ic_xor_push_back(links, places, &mut self.0, place) })
     }
 
-    /// Removes the first member, and returns it, in O(1). The call returns `None` if the list is empty.
+    /// Removes the first member, and returns this member, in O(1). The call returns `None` if the list is empty.
     ///
     /// # Errors
     ///
@@ -135,7 +135,7 @@ impl XorList {
         handed_out(|it| unsafe { ic_xor_pop_front(links, places, &mut self.0, it) })
     }
 
-    /// Removes the last member, and returns it, in O(1). The call returns `None` if the list is empty.
+    /// Removes the last member, and returns this member, in O(1). The call returns `None` if the list is empty.
     ///
     /// # Errors
     ///
@@ -148,13 +148,13 @@ impl XorList {
     }
 
     /// Inserts `place` between the neighbors `before` and `after`, in O(1). Pass `None` as `before` to insert before the first member, and
-    /// `None` as `after` to insert after the last.
+    /// `None` as `after` to insert after the last member.
     ///
     /// # Errors
     ///
     /// [`Error::OutOfRange`] if `before`, `place` or `after` is not below the table's length. [`Error::Linked`] if `place` is linked
-    /// already. [`Error::NotLinked`] if `before` or `after` is not linked. [`Error::Broken`] if by their links, `before` and `after` are
-    /// not neighbors.
+    /// already. [`Error::NotLinked`] if `before` or `after` is not linked. [`Error::Broken`] if `before` and `after` are not neighbors
+    /// according to their links.
     #[inline]
     pub fn insert_between(
         &mut self,
@@ -173,8 +173,8 @@ impl XorList {
     /// # Errors
     ///
     /// [`Error::Null`] if the place `at` is `u32::MAX`. [`Error::OutOfRange`] if `before` or `at` is not below the table's length.
-    /// [`Error::NotLinked`] if `before` or `at` is not linked. [`Error::Broken`] if `at` is no member of the list, or `before` is not the
-    /// member before `at`.
+    /// [`Error::NotLinked`] if `before` or `at` is not linked. [`Error::Broken`] if according to their links `at` is no member of the list
+    /// or `before` is not the member before `at`.
     #[inline]
     pub fn remove(&mut self, table: &mut [Link1], before: Option<u32>, at: u32) -> Result<(), Error> {
         let (links, places) = Link1::parts(table);
@@ -182,14 +182,14 @@ impl XorList {
         done(unsafe { ic_xor_remove(links, places, &mut self.0, number(before), at) })
     }
 
-    /// Removes the member `at`, and inserts `place` where it was, in O(1). Pass as `before` the member before `at`, or `None` if `at` is
+    /// Removes the member `at`, and inserts `place` where `at` was, in O(1). Pass as `before` the member before `at`, or `None` if `at` is
     /// the first member.
     ///
     /// # Errors
     ///
     /// [`Error::Null`] if the place `at` is `u32::MAX`. [`Error::OutOfRange`] if `before`, `at` or `place` is not below the table's length.
     /// [`Error::Linked`] if `place` is linked already, or is `at` itself. [`Error::NotLinked`] if `before` or `at` is not linked.
-    /// [`Error::Broken`] if `at` is no member of the list, or `before` is not the member before `at`.
+    /// [`Error::Broken`] if according to their links `at` is no member of the list or `before` is not the member before `at`.
     #[inline]
     pub fn replace(&mut self, table: &mut [Link1], before: Option<u32>, at: u32, place: u32) -> Result<(), Error> {
         let (links, places) = Link1::parts(table);
@@ -203,8 +203,8 @@ impl XorList {
     /// # Errors
     ///
     /// [`Error::OutOfRange`] if `before` or `after` is not below the table's length. [`Error::NotLinked`] if `before` or `after` is not
-    /// linked. [`Error::Broken`] if by their links, `before` and `after` are not neighbors, or `given` is no list of this table, or both
-    /// lists begin with the same member, as a list and its copy do.
+    /// linked. [`Error::Broken`] if `before` and `after` are not neighbors according to their links, or `given` is no list of this table,
+    /// or both lists begin with the same member, as a list and its copy do.
     #[inline]
     pub fn splice_between(
         &mut self,
@@ -257,13 +257,13 @@ impl XorList {
         done(unsafe { ic_xor_clear(links, places, &mut self.0) })
     }
 
-    /// Moves the member `after` and all members after it to a new list, which the call returns, so that its neighbor `before` becomes the
-    /// last member, in O(1). If `before` is `None`, all members move. If `after` is `None`, no member moves.
+    /// Moves the member `after` and all members after it to a new list, which the call returns, in O(1). `before` must be the member before
+    /// `after`, and becomes the last member of this list. If `before` is `None`, all members move. If `after` is `None`, no member moves.
     ///
     /// # Errors
     ///
     /// [`Error::OutOfRange`] if `before` or `after` is not below the table's length. [`Error::NotLinked`] if `before` or `after` is not
-    /// linked. [`Error::Broken`] if by their links, `before` and `after` are not neighbors.
+    /// linked. [`Error::Broken`] if `before` and `after` are not neighbors according to their links.
     #[inline]
     pub fn split_between(
         &mut self,
@@ -289,15 +289,14 @@ impl XorList {
 collection!(XorList, Link1);
 bidirectional!(XorList, Link1);
 
-/// These calls make a cursor on a member, which you name together with a neighbor.
+/// Calls that return a cursor on a member. You name the member together with one of its neighbors.
 impl XorList {
     /// Returns a cursor on the member `place`, whose previous member is `prev`, in O(1). The call cannot detect whether `place` is a member of
     /// another list.
     ///
     /// # Errors
     ///
-    /// [`Error::OutOfRange`] if `place` or `prev` is not below the table's length. [`Error::NotLinked`] if `place` or the neighbor is not
-    /// linked.
+    /// [`Error::OutOfRange`] if `place` or `prev` is not below the table's length. [`Error::NotLinked`] if `place` or `prev` is not linked.
     #[inline]
     pub fn cursor_from_place_and_prev<'a>(
         &'a self,
@@ -314,8 +313,7 @@ impl XorList {
     ///
     /// # Errors
     ///
-    /// [`Error::OutOfRange`] if `place` or `next` is not below the table's length. [`Error::NotLinked`] if `place` or the neighbor is not
-    /// linked.
+    /// [`Error::OutOfRange`] if `place` or `next` is not below the table's length. [`Error::NotLinked`] if `place` or `next` is not linked.
     #[inline]
     pub fn cursor_from_place_and_next<'a>(
         &'a self,
@@ -327,13 +325,12 @@ impl XorList {
         Ok(Cursor::new(self, table, position))
     }
 
-    /// Returns a cursor that can edit, on the member `place`, whose previous member is `prev`, in O(1). The call cannot detect whether `place`
-    /// is a member of another list.
+    /// Returns a [`CursorMut`] on the member `place`, whose previous member is `prev`, in O(1). The call cannot detect whether `place` is a
+    /// member of another list.
     ///
     /// # Errors
     ///
-    /// [`Error::OutOfRange`] if `place` or `prev` is not below the table's length. [`Error::NotLinked`] if `place` or the neighbor is not
-    /// linked.
+    /// [`Error::OutOfRange`] if `place` or `prev` is not below the table's length. [`Error::NotLinked`] if `place` or `prev` is not linked.
     #[inline]
     pub fn cursor_mut_from_place_and_prev<'a>(
         &'a mut self,
@@ -345,13 +342,12 @@ impl XorList {
         Ok(CursorMut::new(self, table, position))
     }
 
-    /// Returns a cursor that can edit, on the member `place`, whose next member is `next`, in O(1). The call cannot detect whether `place` is a
-    /// member of another list.
+    /// Returns a [`CursorMut`] on the member `place`, whose next member is `next`, in O(1). The call cannot detect whether `place` is a member
+    /// of another list.
     ///
     /// # Errors
     ///
-    /// [`Error::OutOfRange`] if `place` or `next` is not below the table's length. [`Error::NotLinked`] if `place` or the neighbor is not
-    /// linked.
+    /// [`Error::OutOfRange`] if `place` or `next` is not below the table's length. [`Error::NotLinked`] if `place` or `next` is not linked.
     #[inline]
     pub fn cursor_mut_from_place_and_next<'a>(
         &'a mut self,
@@ -370,7 +366,7 @@ impl fmt::Debug for XorList {
     }
 }
 
-/// A position in an XOR list: a member `at`, and the member before it. At no member both are `None`.
+/// A position in an XOR list: a member `at`, and the member before it. In the position on no member, both are `None`.
 #[derive(Clone, Copy)]
 pub struct Beside {
     before: Option<u32>,
@@ -392,7 +388,7 @@ impl Beside {
         at.map_or(Beside::NULL, |_| Beside { before, at })
     }
 
-    // Returns the position of the member `at` whose previous member is `prev`. Both must be linked.
+    // Returns the position of the member `at` whose previous member is `prev`. Both members must be linked.
     #[inline]
     fn with_prev(table: &[Link1], at: u32, prev: Option<u32>) -> Result<Beside, Error> {
         linked(table, at)?;
@@ -400,7 +396,7 @@ impl Beside {
         Ok(Beside { before: prev, at: Some(at) })
     }
 
-    // Returns the position of the member `at` whose next member is `next`. Both must be linked.
+    // Returns the position of the member `at` whose next member is `next`. Both members must be linked.
     #[inline]
     fn with_next(table: &[Link1], at: u32, next: Option<u32>) -> Result<Beside, Error> {
         let facing = Beside::with_prev(table, at, next)?;
@@ -408,7 +404,7 @@ impl Beside {
     }
 }
 
-// Returns the neighbor of the member `at` that is not its neighbor `from`.
+// Returns the other neighbor of the member `at`, which is not its neighbor `from`.
 #[inline]
 fn beyond(table: &[Link1], from: Option<u32>, at: u32) -> Option<u32> {
     read(table, at, |link: &Link1| link.step(from))

@@ -1,8 +1,9 @@
-//! Views, cursors and `retain` of each kind, as a user writes them.
+//! Tests views, cursors and `retain` of all lists and trees, as a user of the crate calls them.
 
 use ic::{Error, Link1, Link2, Link3, List, Stack, Tree, View, XorList};
 
-/// The calls that are alike for the kinds that go both ways. The collection has to be empty, and is empty then.
+/// Tests the calls that are the same for all lists and trees whose cursors move in both directions. The list or tree must be empty before the
+/// test, and is empty after the test.
 macro_rules! both_ways {
     ($collection:expr, $links:expr) => {
         let (collection, links) = (&mut $collection, &mut $links);
@@ -28,7 +29,8 @@ macro_rules! both_ways {
     };
 }
 
-/// The calls that are alike for all kinds. The collection has the places 2, 5 and 0, and is empty then.
+/// Tests the calls that are the same for all lists and trees. The list or tree must have the places 2, 5 and 0 before the test, and is empty
+/// after the test.
 macro_rules! all_kinds {
     ($collection:expr, $links:expr) => {
         let (collection, links) = (&mut $collection, &mut $links);
@@ -59,7 +61,7 @@ macro_rules! all_kinds {
     };
 }
 
-/// The cursors that a place tells. The collection has the places 2, 5 and 0.
+/// Tests the calls that return a cursor on a given place. The list or tree must have the places 2, 5 and 0.
 macro_rules! from_place {
     ($collection:expr, $links:expr) => {
         let (collection, links) = (&mut $collection, &mut $links);
@@ -103,7 +105,7 @@ fn xor_lists() {
     let mut cursor = list.cursor_mut_from_place_and_prev(&mut links, 7, Some(5)).unwrap();
     assert!(cursor.view().iter().eq([2, 5, 7, 0]));
     assert_eq!((cursor.remove(), cursor.peek_prev().get()), (Ok(Some(7)), Some(5)));
-    // The neighbor has to be one: the member's other neighbors are not where these words lead.
+    // The place 5 is not the member before 2, so the removal is refused.
     assert_eq!(list.cursor_mut_from_place_and_prev(&mut links, 2, Some(5)).unwrap().remove(), Err(Error::Broken));
     all_kinds!(list, links);
     assert_eq!(format!("{list:?}"), "XorList { first: None, last: None }");

@@ -1,4 +1,4 @@
-//! A hash table that grows and shrinks, beside a `Vec` for each of its chains.
+//! Tests a hash table that grows and shrinks, and compares each chain with a `Vec`.
 
 use ic::{hash, Error, Link1, Stack};
 
@@ -8,7 +8,8 @@ fn buckets(count: usize) -> Vec<Stack> {
     (0..count).map(|_| Stack::new()).collect()
 }
 
-/// Those of a chain that come into one bucket keep their order, and come before those that are there.
+/// Moves the members of a chain as `hash::move_chain` should. Members that move to the same bucket keep their order, and come before the
+/// members that the bucket had.
 fn move_plain(chain: &mut Vec<u32>, to: &mut [Vec<u32>], hashes: &[u64]) {
     let count = to.len();
     for (bucket, there) in to.iter_mut().enumerate() {

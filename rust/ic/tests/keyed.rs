@@ -1,4 +1,4 @@
-//! Trees by keys, beside a `BTreeMap`.
+//! Tests trees by keys, and compares them with a `BTreeMap`.
 
 use ic::{Entry, Error, Link3, Tree};
 use std::collections::BTreeMap;
@@ -6,7 +6,7 @@ use std::ops::Bound;
 
 const PLACES: u32 = 64;
 
-/// A generator of Marsaglia's kind: three shifts.
+/// A generator of random numbers by three shifts, as Marsaglia described it.
 struct Random(u64);
 
 impl Random {
@@ -18,7 +18,7 @@ impl Random {
     }
 }
 
-/// A tree, and its places by key and by when they came in.
+/// A tree, and a map of its places by their keys and by the time of their insertion.
 struct Pair {
     links: Vec<Link3>,
     keys: Vec<u64>,
@@ -41,7 +41,7 @@ impl Pair {
         }
     }
 
-    /// The same insertion by a comparison of keys.
+    /// Makes the insertion that `insert` makes, but by a comparison of keys.
     fn insert_by(&mut self, place: u32, key: u64) {
         if self.entry(place).is_some() {
             let inserted = self.tree.insert_by(&mut self.links, place, |one, other| one.cmp(&other));
@@ -56,7 +56,7 @@ impl Pair {
         self.plain.insert((key, self.clock), place);
     }
 
-    /// An insertion where no member has the key.
+    /// Inserts a place by `Tree::entry`, if no member has its key.
     fn insert_at_entry(&mut self, place: u32, key: u64) {
         let is_free = self.entry(place).is_none();
         let equal = self.plain.range((key, 0)..=(key, u64::MAX)).next().map(|(_, &place)| place);
@@ -74,7 +74,7 @@ impl Pair {
         }
     }
 
-    /// The members in a range of keys, from both ends.
+    /// Compares the members in a range of keys with those of the map, from both ends.
     fn check_range(&self, first: Bound<u64>, last: Bound<u64>) {
         let is_in = |key: u64| {
             (match first {
@@ -92,7 +92,7 @@ impl Pair {
         assert!(range.clone().eq(wanted.iter().copied()) && range.rev().eq(wanted.iter().rev().copied()));
     }
 
-    /// Removes members at a cursor, which goes on to the next member each time.
+    /// Removes members at a cursor, which moves to the next member after each removal.
     fn remove_some(&mut self, place: u32, count: u32) {
         let Some(entry) = self.entry(place) else { return };
         let gone: Vec<_> = self.plain.range(entry..).take(count as usize).map(|(&entry, _)| entry).collect();
@@ -169,7 +169,7 @@ fn ranges_and_entries_of_few_keys_are_refused() {
     assert_eq!(tree.range(&links, &keys, ..0).unwrap().count(), 0);
     assert_eq!(tree.entry(&mut links, &keys, 20).unwrap().or_insert_with(|| 1).unwrap().get(), Some(1));
     assert!(tree.iter(&links).eq([1, 3]));
-    // A tree of another table: the way down ends where a place is not linked.
+    // With the wrong table, the descent ends at a place that is not linked.
     let mut others = [Link3::UNLINKED; 4];
     assert_eq!(tree.insert_by(&mut others, 0, |_, _| unreachable!()), Err(Error::Broken));
 }

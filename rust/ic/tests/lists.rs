@@ -1,4 +1,4 @@
-//! The calls of each kind, on a table of eight places.
+//! Tests the calls of each type of list, on a table of eight places.
 
 use ic::{ring, Error, Link1, Link2, List, Stack, XorList};
 

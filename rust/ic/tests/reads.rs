@@ -1,10 +1,10 @@
-//! Plays the cases of `tests/library/reads.txt`, which C, C++ and JavaScript play, too.
+//! Runs the cases of `tests/library/reads.txt`, which the tests of C, C++ and JavaScript run, too.
 
 use ic::{ring, Link1, Link2, Link3, List, Stack, Tree, XorList};
 
 const CASES: &str = include_str!("../../../tests/library/reads.txt");
 
-/// The kind and the words of a part.
+/// A part of the file of cases: a type of list or tree, the words of its table, and the words of the list or tree.
 #[derive(Default)]
 struct Part {
     kind: String,
@@ -12,7 +12,7 @@ struct Part {
     head: Vec<u64>,
 }
 
-/// The links of a table, each made of as many words.
+/// Returns the links of a table, each of which is made of `WORDS` words.
 fn links<const WORDS: usize, Link>(words: &[u64], make: fn([u64; WORDS]) -> Link) -> Vec<Link> {
     words.chunks_exact(WORDS).map(|words| make(words.try_into().unwrap())).collect()
 }
@@ -30,12 +30,12 @@ fn walk(places: impl Iterator<Item = u32>) -> String {
 }
 
 impl Part {
-    /// The words of a list, a stack or a tree.
+    /// Returns the words of the list, the stack or the tree.
     fn own<const WORDS: usize>(&self) -> [u64; WORDS] {
         self.head[..WORDS].try_into().unwrap()
     }
 
-    /// What a read returns. A step through a tree that is refused finds no member, as in a loop of C.
+    /// Returns the result of a read as text. A refused step through a tree finds no member, as in a loop of C.
     fn read(&self, read: &str, places: &[Option<u32>]) -> String {
         match self.kind.as_str() {
             "list" => self.read_list(read, places),

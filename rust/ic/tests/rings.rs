@@ -1,4 +1,4 @@
-//! Random calls of two rings of one table, beside two plain lists.
+//! Makes random calls of two rings of one table, and compares the rings with two plain lists.
 
 use ic::{ring, Error, Link2};
 
@@ -6,7 +6,7 @@ const PLACES: u32 = 12;
 /// The heads of both rings, which no call of the test names as an object.
 const HEADS: [u32; 2] = [PLACES, PLACES + 1];
 
-/// A generator of Marsaglia's kind: three shifts.
+/// A generator of random numbers by three shifts, as Marsaglia described it.
 struct Random(u64);
 
 impl Random {
@@ -23,7 +23,7 @@ struct Pair {
     plain: [Vec<u32>; 2],
 }
 
-/// Whether a call comes after the place that it names, or before it.
+/// The side on which a call edits: after the place that the call names, or before this place.
 #[derive(Clone, Copy, PartialEq)]
 enum Side {
     Before,
@@ -39,7 +39,8 @@ impl Pair {
         Pair { links, plain: Default::default() }
     }
 
-    /// The ring of a place, and its index there, which of a head is that of the gap before all members or after them.
+    /// Returns the ring of a place, and the index of the gap on this side of the place. If the place is a head, the gap is before all members
+    /// or after all members.
     fn find(&self, place: u32, side: Side) -> Option<(usize, usize)> {
         (0..2).find_map(|ring| {
             let members = &self.plain[ring];
@@ -65,7 +66,7 @@ impl Pair {
         self.plain[ring].insert(index, place);
     }
 
-    /// Why a call refuses a place to insert, if it does.
+    /// Returns the error with which a call refuses a place to insert, or `None` if the call accepts it.
     fn refusal_of_new(&self, place: u32) -> Option<Error> {
         if place >= PLACES + 2 {
             return Some(Error::OutOfRange);
@@ -73,7 +74,7 @@ impl Pair {
         self.find(place, Side::After).map(|_| Error::Linked)
     }
 
-    /// Why a call refuses a place of a ring, if it does.
+    /// Returns the error with which a call refuses a place as a place of a ring, or `None` if the call accepts it.
     fn refusal_of_old(&self, place: u32) -> Option<Error> {
         match place {
             u32::MAX => Some(Error::Null),
@@ -135,7 +136,7 @@ impl Pair {
         }
     }
 
-    /// Moves the members of the second ring beside a place of the first one.
+    /// Moves the members of the second ring after or before a place of the first ring.
     fn splice(&mut self, random: &mut Random, side: Side) {
         let call = if side == Side::After { ring::splice_after } else { ring::splice_before };
         let index = random.below(self.plain[0].len() as u32 + 1) as usize;
@@ -146,7 +147,7 @@ impl Pair {
         self.plain[0].splice(gap..gap, moved);
     }
 
-    /// What comes after two places changes over, and back.
+    /// Makes the same exchange twice, so that the second call undoes the first.
     fn exchange_twice(&mut self, one: u32, other: u32) {
         let refusal = self.refusal_of_old(one).or(self.refusal_of_old(other));
         let none = [one, other].contains(&u32::MAX).then_some(Error::Null);
@@ -160,7 +161,8 @@ impl Pair {
         ring::sort(&mut self.links, &keys, HEADS[ring]).unwrap();
         self.plain[ring].sort_by_key(|&place| keys[place as usize]);
         if random.below(8) == 0 {
-            // Of members with equal keys those of the first ring come first, and a stable sort of both, one after the other, leaves them so.
+            // Of members with equal keys, those of the first ring come first. A stable sort of the members of both rings, those of the first
+            // ring first, gives the same order.
             ring::sort(&mut self.links, &keys, HEADS[1 - ring]).unwrap();
             assert_eq!(ring::merge(&mut self.links, &keys, HEADS[ring], HEADS[ring]), Err(Error::Broken));
             ring::merge(&mut self.links, &keys, HEADS[ring], HEADS[1 - ring]).unwrap();
@@ -211,7 +213,7 @@ fn rings_are_as_lists() {
 
 #[test]
 fn broken_rings_are_refused() {
-    // The head 0 leads to a place that the table does not have, and 1 to a place that does not lead back.
+    // The head 0 leads to a place that the table does not have, and the place 1 leads to a place that does not lead back.
     let mut links = [[81, 8], [25, 8], [1, 0], [33, 32]].map(Link2::from_words);
     let before = links;
     assert_eq!(ring::pop_front(&mut links, 0), Err(Error::Broken));

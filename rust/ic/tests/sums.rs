@@ -1,10 +1,10 @@
-//! The calls of trees with sums, beside plain arrays of their members.
+//! Tests the calls of trees with sums, and compares them with plain arrays of the members.
 
 use ic::{Error, Link3, Sum, SumKind, Tree};
 
 const PLACES: usize = 12;
 
-/// A generator of Marsaglia's kind: three shifts.
+/// A generator of random numbers by three shifts, as Marsaglia described it.
 struct Random(u64);
 
 impl Random {
@@ -15,7 +15,7 @@ impl Random {
         (self.0 >> 16) % bound
     }
 
-    /// A value or a bound, which is small or one of the greatest.
+    /// Returns a random value or bound, which is small or one of the greatest three numbers.
     fn value(&mut self) -> u64 {
         match self.below(8) {
             0 => u64::MAX - self.below(3),
@@ -24,7 +24,7 @@ impl Random {
     }
 }
 
-/// A tree of some places by keys, with its members in order, and the values and the right sums of all places.
+/// A tree by keys that has some of the places, the array of its members in order, and the values and the right sums of all places.
 struct Summed {
     kind: SumKind,
     keys: [u64; PLACES],
@@ -47,7 +47,7 @@ impl Summed {
         Summed { kind, keys, links, tree, members, sums }
     }
 
-    /// What the values of some members make together.
+    /// Returns the combined value of these members.
     fn total(&self, members: &[u32]) -> u64 {
         let values = members.iter().map(|&at| self.sums[at as usize].value);
         match self.kind {
@@ -56,7 +56,7 @@ impl Summed {
         }
     }
 
-    /// The member before a position, from which a search begins.
+    /// Returns the member before a position. A search that gets this member begins at the position.
     fn before(&self, position: usize) -> Option<u32> {
         position.checked_sub(1).map(|it| self.members[it])
     }
@@ -74,7 +74,7 @@ impl Summed {
         assert_eq!(self.tree.sums_overlap(&self.links, &self.keys, &self.sums, at, from, to), Ok(expected));
     }
 
-    /// Edits the tree by the calls that keep the sums.
+    /// Edits the tree by the calls that keep the sums right.
     fn edit(&mut self, place: u32) {
         if self.links[place as usize].is_linked() {
             self.tree.sums_remove(&mut self.links, &mut self.sums, self.kind, place).unwrap();

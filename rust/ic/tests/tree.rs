@@ -1,10 +1,10 @@
-//! The calls of the tree, on a table of eight places.
+//! Tests the calls of trees, on a table of eight places.
 
 use ic::{Error, Link3, Tree, TreeEnds};
 
 const KEYS: [u64; 8] = [50, 20, 70, 20, 90, 10, 60, 20];
 
-/// A tree with the places in their order by keys.
+/// Returns a tree that has these places in the order of their keys.
 fn by_keys(links: &mut [Link3], places: impl IntoIterator<Item = u32>) -> Tree {
     let mut tree = Tree::new();
     for place in places {

@@ -1,4 +1,4 @@
-//! Tests of trees whose keys are stored beside the links of their members.
+//! Tests of trees over a table that stores the key of each member next to its link.
 
 ghost use Rattle.std.specs.Prelude.{◌≡◌};
 ghost use Rattle.ic_link_ops.specs.Prelude.{IsCovered, RepresentsPlaced};
@@ -83,7 +83,7 @@ fn keys_beside_links(rt: HostRuntime) {
     assert_words(&rt, &notes, "0 1 2 2 3 2");
 }
 
-// A probe for a key that is less than the root's key and less than the key of its left child must compare two members.
+// A probe for a key that is less than the keys of the root and of the root's left child must compare two members.
 #[test]
 fn probe_beside_links(rt: HostRuntime) {
     let mut notes = Text::new(rt.alloc());

@@ -16,8 +16,8 @@ use ic_test_support::objects::reference;
 use ic_test_support::tables::write_linked;
 use std::process::Abort;
 
-// Notes the positions of cursors that borrow the tree, at null and at the back, and of cursors that own the tree, at null, at the front and at the
-// back. Then it empties the tree.
+// Notes the positions of two cursors that borrow the tree, at null and at the back. Then it notes the positions of cursors that own the tree, at null, at
+// the front and at the back. At last it empties the tree.
 fn write_ends<L: RBTreeOps>(notes: &mut Text, tree: RBTree<OwnKey>, links: &L)
     requires shown { RepresentsSome L.node (L.table links.now) (root_of tree) }
 {

@@ -15,7 +15,7 @@ use ic_test_support::objects::{place_at, reference};
 use ic_test_support::tables::write_linked;
 use ic_unsafe_ref::{Objects, Place, Values};
 
-// Returns the key of a place, which is the item of the array with the place's index.
+// Returns the key of a place. The key is the item of `keys` at the index of the place.
 fn key_at(keys: &[u64], place: Place) -> u64
     requires in_range { index_of place < length keys.now }
 {

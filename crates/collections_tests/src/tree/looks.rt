@@ -105,11 +105,11 @@ fn write_insert_with_hint<E: TreeHead, L: RBTreeOps>(
 // Seven numbers in rising order, and an eighth number that belongs before the fourth one.
 const SEVEN_AND_ONE: [u64; 8] = [10, 20, 30, 50, 60, 70, 80, 40];
 
-// The calls must look at exactly as many members as follows from the shape of the tree. If seven members are inserted in rising order, the second is
-// the root, and the fourth, the sixth and the seventh are below each other on its right. An insert after all members must look at four members, and at
-// one member if the tree keeps its last member. A search of the entry of a greater key must look at four members. An insert before the fourth member
-// must look at two members if the fourth is the hint, and at four if the hint is the second member, which is less. If the hint is the last member, the
-// insert must look at five members, because the member before the last is greater than the new one.
+// The calls must look at exactly as many members as follows from the shape of the tree. If seven members are inserted in rising order, the second is the
+// root. The path from the root down its right side leads over the fourth and the sixth member to the seventh. An insert after all members must look at four
+// members, and at one member if the tree keeps its last member. A search of the entry of a greater key must look at four members. An insert before the
+// fourth member must look at two members if the fourth is the hint, and at four if the hint is the second member, whose key is less than the new key. If
+// the hint is the last member, the insert must look at five members, because the member before the last is greater than the new one.
 // Promise: looks of plain calls.
 #[test]
 fn plain_calls_look_once(rt: HostRuntime) {

@@ -1,4 +1,4 @@
-//! A test of the shape of a tree, which is read from the table of its links.
+//! A test of the shape of a tree. The test reads the shape from the table of the tree's links.
 
 ghost use Rattle.std.specs.Prelude.{◌≡◌, ◌<◌};
 ghost use Rattle.ic_rbtree.specs.PlainTrees.{plain_table, PlainRepresentsSome};
@@ -32,7 +32,8 @@ fn write_links(notes: &mut Text, links: &LinkOps) {
     }
 }
 
-// Removes the object with this number, if it is a member, and notes the position of the cursor after the removal. Then it notes the shape of the tree.
+// Removes the object at the place with the index `leaving`, if it is a member, and notes the position of the cursor after the removal. Then it notes the
+// shape of the tree.
 fn write_without(notes: &mut Text, fixture: &mut TreeFixture, leaving: usize)
     requires few { leaving < 8 }
     requires covers { (plain_table fixture.old.links).extent.places ≡ 8 }
@@ -47,7 +48,7 @@ fn write_without(notes: &mut Text, fixture: &mut TreeFixture, leaving: usize)
     write_links(notes, &fixture.links);
 }
 
-// The member that is removed in each round of the test, or 7 if no member is removed.
+// The index of the place of the member that each round of the test removes. The number 7 means that the round removes no member.
 const LEAVING: &[usize] = &[7, 0, 3, 1, 6];
 
 // The test compares the shape of a tree of seven members, which are inserted in rising order, with the expected one. Then it compares the shapes after

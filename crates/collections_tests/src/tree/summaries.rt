@@ -1,5 +1,5 @@
-//! Tests of the summaries of a tree. After each edit and a `refresh`, the summaries are right for the members, whatever the kind of the tree's head and
-//! of the summaries is.
+//! Tests of the summaries of a tree. After each edit and a `refresh`, the summaries of the members must be right. The tests use trees with and without kept
+//! ends, and two kinds of summaries.
 
 ghost use Rattle.std.specs.Prelude.{◌≡◌, ◌<◌, true, List};
 ghost use Rattle.ic_link_ops.specs.Prelude.{Place, index_of, is_placed, HasMember};
@@ -26,7 +26,7 @@ use std::alloc::Global;
 use std::marker::Model;
 use std::process::Abort;
 
-// The kinds of summaries that the tests use, each with what a test reads of a tree with such summaries.
+// A kind of summaries that the tests use, with a function that notes what a test reads of these summaries.
 trait Readings: RecomputeSummaries + Drop {
     // Notes what the test reads of the summaries of this tree.
     fn note<E: TreeHead, L: RBTreeOps>(
@@ -121,7 +121,8 @@ fn put_at_entry<E: TreeHead, L: RBTreeOps, M: RecomputeSummaries>(
     }
 }
 
-// One edit of a tree. Its numbers are the place of the object that is inserted, and the position of the member at which the edit is made.
+// One edit of a tree. If the edit inserts an object, its last number is the index of the object's place. Each other number is the position of a member, or
+// the key of an `AtEntry`.
 enum Edit {
     ByKey(usize),
     AtEntry(u64, usize),
@@ -169,7 +170,8 @@ const EDITS: &[Edit] = &[
     Edit::AtEntry(30, 5), // 0 2 3: the member at 2 has that key
 ];
 
-// A tree, its links and summaries, which have room for the places 0 to 7, and its objects, which are at these places. Each fresh summary is right.
+// A tree with its objects, its links and its summaries. The links and summaries have room for the places 0 to 7, and there is an object at each of these
+// places. Each fresh summary is right.
 #[derive(Drop)]
 struct SummedTree<E: TreeHead, L: RBTreeOps, M: Readings> {
     objects: Objects<u64>,
@@ -188,7 +190,7 @@ impl<E: TreeHead, L: RBTreeOps, M: Readings> Model for SummedTree<E, L, M> {
     ghost invariant = { λ tree. IsKept E.kept L.node L.table M.summaries M.Covers tree.objects tree.tree tree.summed };
 }
 
-// The number `place` is the index of the object that is inserted, and `position` says at which member the edit is made.
+// In each method, `place` is the index of the place of the inserted object, and `position` is the position of the member at which the edit is made.
 impl<E: TreeHead, L: RBTreeOps, M: Readings> SummedTree<E, L, M> {
     // Inserts the object at the position of its key.
     fn insert(&mut self, rt: &impl Abort, place: usize) {
@@ -449,7 +451,7 @@ fn play_greatest<E: TreeHead>(rt: &impl Abort, alloc: Global, tree: RBTree<OwnKe
     );
 }
 
-// The test makes all edits in trees with and without kept ends, and after each edit the counts of the members must be right.
+// The test makes all edits in a tree that keeps its ends and in a tree that does not. After each edit the counts of the members must be right.
 // Promise: counts after each edit.
 #[test]
 fn counts_after_each_edit(rt: HostRuntime) {
@@ -458,7 +460,8 @@ fn counts_after_each_edit(rt: HostRuntime) {
     play_counts(&rt, alloc, RBTree::with_ends(OwnKey));
 }
 
-// The test makes all edits in trees with and without kept ends, and after each edit the first members with a greater number must be right.
+// The test makes all edits in a tree that keeps its ends and in a tree that does not. After each edit the first members with a number above each bound must
+// be right.
 // Promise: greatest numbers after each edit.
 #[test]
 fn greatest_after_each_edit(rt: HostRuntime) {

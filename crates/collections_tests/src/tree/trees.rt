@@ -29,7 +29,7 @@ impl KeyAdapter for OwnKey {
     }
 }
 
-/// A tree, the table of its links, which covers the places 0 to 7, and its objects, which are at these places.
+/// A tree with its objects and the table of its links. The table covers the places 0 to 7, and there is an object at each of these places.
 pub(crate) struct TreeFixture {
     pub(crate) objects: Objects<u64>,
     pub(crate) links: LinkOps,
@@ -63,7 +63,7 @@ fn put(tree: &mut RBTree<OwnKey>, links: &mut LinkOps, index: usize, in_front: b
     }
 }
 
-/// Inserts the objects at the first `members` places into a new tree, each at the front if `in_front` is true, or else each at the back.
+/// Inserts the objects at the first `members` places into a new tree. Each is inserted at the front if `in_front` is true, or else at the back.
 pub(crate) fn filled(links: &mut LinkOps, members: usize, in_front: bool) -> RBTree<OwnKey>
     requires { members ≤ 8 }
     ensures shown { PlainRepresentsSome links.new (root_of result) }
@@ -77,7 +77,7 @@ pub(crate) fn filled(links: &mut LinkOps, members: usize, in_front: bool) -> RBT
     tree
 }
 
-/// Returns a tree of the objects at the first `members` places, in the order of their places. The numbers are the eight objects.
+/// Returns a tree of the objects at the first `members` places, in the order of their places. The objects at the eight places are `numbers`.
 pub(crate) fn tree_over(
     rt: &impl Abort,
     alloc: Global,

@@ -1,4 +1,5 @@
-//! Tests of two trees in one table of summaries. If a member is inserted into one tree or removed from it, all summaries of the second tree stay fresh.
+//! Tests of two trees in one table of summaries. If a member is inserted into one of the trees or removed from it, all summaries of the other tree stay
+//! fresh.
 
 ghost use Rattle.std.specs.Prelude.{◌≡◌, ◌<◌, ◌≤◌, None};
 ghost use Rattle.ic_link_ops.specs.Prelude.{Place, index_of, IsCovered};
@@ -76,7 +77,7 @@ fn four_counts(rt: &impl Abort, alloc: Global) -> Counts
     summaries
 }
 
-// Plays with two trees of a new table that covers four places, and compares the notes with the expected words.
+// Calls `play` with a new table that covers four places, and compares the notes with the expected words.
 fn assert_played(rt: &impl Abort, alloc: Global, members: usize, leaves: bool, words: &str)
     requires few { members < 4 }
 {
@@ -97,8 +98,8 @@ fn a_tree_beside_another(rt: HostRuntime) {
     assert_played(&rt, rt.alloc(), 1, false, "0");
 }
 
-// A member is inserted into the second tree of a table and removed again, and the first tree must still find its member by the position 0. The first
-// tree has three members, so that the member at position 0 is below the root, and is found by its count.
+// A member is inserted into the second tree of a table and removed again, and the first tree must still find its member by the position 0. The first tree
+// has three members. The member at position 0 is then below the root, and is found by the counts.
 // Promise: a tree stays summed while another one of its table loses a member.
 #[test]
 fn a_removal_beside_another(rt: HostRuntime) {

@@ -1,5 +1,5 @@
-//! Splits a tree at an insert position, which is a missing child. On the path up from the insert position, each member and its other subtree are joined to
-//! one of the two parts.
+//! Splits a tree at an insert position, which is a missing child. On the path up from the insert position, each member is joined to one of the two parts,
+//! together with its subtree that is not on the path.
 //!
 //! Each turn of the loop passes the black heights on to the next turn. A join takes time proportional to the difference between the heights of a part and
 //! of the subtree that is joined to it. Before the join the part is at most one higher than the subtree, and after the join it is at least as high.
@@ -26,8 +26,8 @@ use crate::repair::writers::set_parent_and_color;
 use ic_link_ops::{Color, Side};
 use ic_unsafe_ref::Place;
 
-// Makes a subtree of this black height a tree of its own, with a black root. If its root was red, its black height
-// grows by one.
+// Makes the subtree with the root `child` and the black height `height` a tree of its own, with a black root. If the root was red, the black height grows by
+// one.
 fn detach<N: NodeStore>(links: &mut N, child: Option<Place>, height: u32) -> Measured
     requires named { IsNamed N.node (N.table links.old) child }
     requires low { height < 4294967295 }
@@ -48,8 +48,9 @@ fn detach<N: NodeStore>(links: &mut N, child: Option<Place>, height: u32) -> Mea
     }
 }
 
-// Cuts off the member above the insert position with its other subtree, which has the black height `height`. Joins both to the part on their side. The
-// insert position is then at the member's old position.
+// Cuts off the member `place` and its far subtree. The insert position is on the side `side` of `place`, and the far subtree, of the black height `height`, is
+// on the other side. Joins the member and the far subtree to the part on their side, which is `left` or `right`. The insert position is then at the member's
+// old position.
 fn cut_off<N: NodeStore>(
     links: &mut N,
     place: Place,
@@ -70,7 +71,7 @@ fn cut_off<N: NodeStore>(
     }
 }
 
-// Splits a tree at an insert position, and returns the roots of the part before the insert position and of the part after the insert position.
+// Splits a tree at the insert position on the side `side` of `parent`. Returns the roots of the part before the insert position and of the part after it.
 pub(crate) fn cut_at<N: NodeStore>(
     links: &mut N,
     parent: Option<Place>,

@@ -94,8 +94,8 @@ pub(crate) fn black_height<N: NodeStore>(links: &N, root: Option<Place>) -> u32
     count
 }
 
-// Goes down along this side to the first subtree whose root is black or missing, and which has `want` black members on each path down. The whole tree has
-// `count` on each path. Returns the root of the subtree and the member above the subtree.
+// Goes down from `root` along the side `side` to the first subtree that has `want` black members on each path down, and whose root is black or missing. The
+// whole tree has `count` black members on each path down. Returns the root of the subtree and the member above the subtree.
 pub(crate) fn descend_spine<N: NodeStore>(
     links: &N,
     root: Option<Place>,
@@ -126,8 +126,7 @@ pub(crate) fn descend_spine<N: NodeStore>(
     (at, above)
 }
 
-// Joins two trees with a linked place between them. The first tree is at least as high as the second tree. The second tree is on the side `side` of the
-// place.
+// Joins the trees `tall` and `low` with the linked place `place` between them. `tall` is at least as high as `low`, and `low` is on the side `side` of `place`.
 pub(crate) fn join_higher<N: NodeStore>(
     links: &mut N,
     tall: Measured,

@@ -1,4 +1,4 @@
-//! The path from the root to where a key belongs, with one comparison for each member on it.
+//! The descent from the root to the gap where a key belongs, with one comparison for each member on the path.
 
 ghost use Rattle.std.specs.Prelude.{◌≡◌, ◌+◌, ◌<◌, true, IsSome, cond, List};
 ghost use Rattle.std.specs.Bool.{OnTrue};
@@ -31,7 +31,7 @@ pub struct Descent {
     pub(crate) equal: PlaceWord,
 }
 
-// Whether a descent goes left at a member if the searched key compares with the member as `order`. At an equal member it goes to the side `equals`.
+// Whether a descent goes left at a member with which the searched key compares as `order`. At an equal member the descent goes to the side `equals`.
 #[inline]
 fn goes_left(order: Ordering, equals: Side) -> bool
     ensures { result ≡ goes_left equals order }
@@ -122,7 +122,7 @@ impl Descent {
     }
 }
 
-// Returns `left` if `takes_left` is true, otherwise `right`. The function selects one of two link words, which takes no branch of the processor.
+// Returns `left` if `takes_left` is true, otherwise `right`. The function selects one of two link words, for which the processor needs no branch.
 #[inline]
 fn pick(takes_left: bool, left: Option<Place>, right: Option<Place>) -> Option<Place>
     ensures { result ≡ cond takes_left left right }
@@ -135,7 +135,7 @@ fn pick(takes_left: bool, left: Option<Place>, right: Option<Place>) -> Option<P
     picked.get()
 }
 
-// Whether a member has both children.
+// Whether `left` and `right`, the children of a member, both exist.
 #[inline]
 fn are_some(left: Option<Place>, right: Option<Place>) -> bool
     ensures { OnTrue result (IsSome left × IsSome right) }
@@ -146,9 +146,9 @@ fn are_some(left: Option<Place>, right: Option<Place>) -> bool
 // Goes down from the root to a gap. The descent goes left at members that are greater than the searched key, right at members that are less, and to the
 // side `equals` at members that are equal.
 //
-// The loop loads both children and selects one, so the processor has no branch to predict. For random keys the processor would mispredict half of the
-// branches. The test whether both children exist never holds if the selected child is missing. This test makes the compiler keep both loads, which the
-// compiler would otherwise merge into one load from a selected address.
+// The loop loads both children and selects one, so the processor has no branch to predict. For random keys it would mispredict half of the branches. When
+// `are_some` is called, the selected child is missing, so the result is always false. This call makes the compiler keep both loads. Without the call the
+// compiler would merge them into one load from a selected address.
 #[inline]
 pub(crate) fn descend<L: RBTreeOps, V, P: Probe<V>, O: Values<V>>(
     links: &L,

@@ -23,7 +23,7 @@ use ic_unsafe_ref::{UnsafeRef, Values};
 use std::error::Error;
 use std::fmt;
 
-/// The gap of a tree where a key that no member has would be inserted, with the tree and the table of its links.
+/// The gap of a tree where the searched key would be inserted, with the tree and the table of the tree's links.
 pub struct InsertCursor<'a, A, L, E = Root> {
     tree: &'a mut RBTree<A, E>,
     links: &'a mut L,
@@ -45,7 +45,7 @@ impl<A, L, E> Drop for InsertCursor<'_, A, L, E> {
     }
 }
 
-/// The error of an insert that was refused because the object is linked. The error has the gap, as it was, and the object.
+/// The error of an insert that was refused because the object is linked. The error contains the object, and the gap as it was before the insert.
 #[derive(Drop)]
 pub struct RefusedInsert<'a, A: KeyAdapter, L, E = Root> {
     /// The gap at which the insert was refused. The tree and the table are as they were.

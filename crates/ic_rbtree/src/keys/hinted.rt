@@ -1,4 +1,4 @@
-//! Inserts with a hint, which first try the gap before a member before which the object probably goes.
+//! Inserts with a hint, which is a member before which the object probably goes. These inserts first try the gap directly before the hint.
 //!
 //! ```text
 //! timers.insert_with_hint(&mut links, &objects, &next, timer)?; // two looks where it goes before `next`

@@ -1,5 +1,5 @@
-//! An insert position is a missing child, where an object belongs by its key. It is given by the member above the insert position, `None` in an empty tree,
-//! and by a side of this member.
+//! An insert position is a missing child, where an object belongs by its key. These functions return the member above the insert position, `None` in an empty
+//! tree, and the side of this member.
 //!
 //! ```text
 //! let (parent, side) = insert_pos_for(&links, &head, &objects, &mut probe); // a descent, or first a look at the last member if it is kept
@@ -23,7 +23,7 @@ use ic_link_ops::Side;
 use ic_link_ops::rbtree::RBTreeOps;
 use ic_unsafe_ref::{Place, Values};
 
-// Whether the searched key is less than the key of the object at a position. At null the result is false, without a comparison.
+// Whether the searched key is less than the key of the object at `at`. If `at` is null, the result is false, without a comparison.
 #[inline]
 fn is_less<V, P: Probe<V>, O: Values<V>>(objects: &O, probe: &mut P, at: Option<Place>) -> bool
     requires placed { IfSome at (λ p. is_placed (O.values objects.now) p ≡ true) }
@@ -38,7 +38,7 @@ fn is_less<V, P: Probe<V>, O: Values<V>>(objects: &O, probe: &mut P, at: Option<
     }
 }
 
-// Whether the searched key is at least the key of the object at a position. At null the result is false, without a comparison.
+// Whether the searched key is at least the key of the object at `at`. If `at` is null, the result is false, without a comparison.
 #[inline]
 fn is_after<V, P: Probe<V>, O: Values<V>>(objects: &O, probe: &mut P, at: Option<Place>) -> bool
     requires placed { IfSome at (λ p. is_placed (O.values objects.now) p ≡ true) }
@@ -53,8 +53,8 @@ fn is_after<V, P: Probe<V>, O: Values<V>>(objects: &O, probe: &mut P, at: Option
     }
 }
 
-// The insert position where the searched key belongs. If the tree stores its last member, the last member is compared first, and the key may belong after
-// this member. Otherwise a descent finds the insert position.
+// The insert position where the searched key belongs. If the tree stores its last member, this member is compared first. If the searched key is not less, the
+// insert position is after this member. Otherwise a descent finds the insert position.
 #[inline]
 pub(crate) fn insert_pos_for<E: TreeHead, L: RBTreeOps, V, P: Probe<V>, O: Values<V>>(
     links: &L,
@@ -77,8 +77,8 @@ pub(crate) fn insert_pos_for<E: TreeHead, L: RBTreeOps, V, P: Probe<V>, O: Value
     (insert_pos.parent.get(), insert_pos.side)
 }
 
-// Returns the insert position in the gap between the neighbors `front` and `back`, or before the first member `back`. The insert position is below `back`,
-// or if `back` has a left subtree, below the last member of this subtree, which is `front`.
+// Returns the insert position in the gap between the neighbors `front` and `back`. If `back` is the first member, `front` is none. If `back` has no left
+// subtree, the insert position is below `back`. Otherwise it is below `front`, which is the last member of this subtree.
 #[inline]
 fn insert_pos_between<L: RBTreeOps>(
     links: &L,
@@ -95,8 +95,8 @@ fn insert_pos_between<L: RBTreeOps>(
     }
 }
 
-// Returns the insert position in the gap before the member at `place`, if the searched key belongs there. The function compares this member, and if the key
-// is less, also the member before it.
+// Returns the insert position in the gap before the member at `place` if the searched key belongs there, otherwise `None`. The function compares this member,
+// and if the searched key is less, also the member before it.
 #[inline]
 fn insert_pos_before<L: RBTreeOps, V, P: Probe<V>, O: Values<V>>(
     links: &L,

@@ -31,7 +31,7 @@ pub trait KeyAdapter: Copy {
         ensures { result.now ≡ key_of self.now value.now };
 }
 
-/// An end of a range of keys, as callers give it.
+/// An end of a range of keys, which a caller passes to a search.
 ///
 /// ```text
 /// tree.lower_bound(&links, &objects, Bound::Included(&5)) // the first member with a key of at least 5

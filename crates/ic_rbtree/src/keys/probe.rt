@@ -27,8 +27,8 @@ pub trait Probe<V> {
 
     /// Compares the searched key with `value`: `Less` if the key is less.
     ///
-    /// It requires that the probe has counted less than `u64::MAX` looks, which are its comparisons. The probe counts one look more, and later compares as
-    /// it did before.
+    /// It requires that the probe has counted less than `u64::MAX` looks (comparisons). The call counts one look more, and does not change how the probe
+    /// compares.
     fn compare(&mut self, value: &V) -> Ordering
         requires room { count self.old < 18446744073709551615 }
         ensures answer { result ≡ order self.old value.now }
@@ -79,14 +79,14 @@ impl<A: KeyAdapter> Probe<A::Value> for KeyProbe<'_, A> {
     #[inline]
     fn compare(&mut self, value: &A::Value) -> Ordering {
         self.looks += 1;
-        // The value's key is the first operand. For this reason a search chooses the left or the right child by one flag of the processor, for `v < k` and
-        // not for `k > v`.
+        // The value's key `v` is the first operand. A search for the first equal member then chooses a child by `v < k`, for which the processor tests one
+        // flag. It would test more than one flag for `k > v`.
         self.adapter.get_key(value).cmp(self.key).reverse()
     }
 }
 
-/// A search for a key in the form that an insert uses. An insert goes left if its key is less. The key of the insert is the first operand, so that one flag
-/// of the processor decides, for `k < v`.
+/// A search for a key that compares in the form that an insert uses. An insert goes left at a member if its key `k` is less than the member's key `v`. Here `k`
+/// is the first operand, so that the processor tests one flag, for `k < v`.
 #[derive(Drop)]
 pub(crate) struct KeyFirst<'k, A: KeyAdapter>
 where
@@ -120,7 +120,7 @@ impl<A: KeyAdapter> Probe<A::Value> for KeyFirst<'_, A> {
     }
 }
 
-// Returns a bound whose end is a new search for the key at the end of `bound`. The search has made no comparison yet.
+// Returns `bound` with a search for its key instead of the key. The search has made no comparison yet.
 #[inline]
 pub(crate) fn probe_in_bound<'k, A: KeyAdapter>(
     adapter: A,

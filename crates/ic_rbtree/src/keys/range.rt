@@ -24,7 +24,7 @@ use ic_unsafe_ref::{Place, Values};
 use std::marker::PhantomData;
 
 impl<A: KeyAdapter, E: TreeHead> RBTree<A, E> {
-    // Whether both positions are on members, and the key at `high` is at least the key at `low`. The comparison is not counted as a look.
+    // Whether `low` and `high` are both members, and the key at `high` is at least the key at `low`. The comparison is not counted as a look.
     fn runs_up<O: Values<A::Value>>(
         &self,
         objects: &O,
@@ -97,7 +97,7 @@ impl<A: KeyAdapter, E: TreeHead> RBTree<A, E> {
         }
     }
 
-    /// A walk over the objects whose keys are between two bounds: `range_by` with two searches for keys. O(log n).
+    /// A walk over the objects whose keys are between two bounds: `range_by` with a `KeyProbe` for each bound. O(log n).
     pub fn range<'a, L: RBTreeOps, O: Values<A::Value>>(
         &'a self,
         links: &'a L,

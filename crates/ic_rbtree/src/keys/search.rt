@@ -40,7 +40,7 @@ impl<A: KeyAdapter, E: TreeHead> RBTree<A, E> {
         descent.back
     }
 
-    // Returns the member after the gap that a descent for the lower bound reaches. This member meets the bound.
+    // Returns the member after the gap that a descent for the lower bound reaches, `None` if there is none. The member, if any, meets the bound.
     #[inline]
     pub(crate) fn lower<L: RBTreeOps, P: Probe<A::Value>, O: Values<A::Value>>(
         &self,
@@ -65,7 +65,7 @@ impl<A: KeyAdapter, E: TreeHead> RBTree<A, E> {
         }
     }
 
-    // Returns the member before the gap that a descent for the upper bound reaches. This member meets the bound.
+    // Returns the member before the gap that a descent for the upper bound reaches, `None` if there is none. The member, if any, meets the bound.
     #[inline]
     pub(crate) fn upper<L: RBTreeOps, P: Probe<A::Value>, O: Values<A::Value>>(
         &self,

@@ -13,7 +13,7 @@ use crate::repair::writers::{rotate, set_child, set_color, set_node};
 use ic_link_ops::{Color, PlaceWord, Side};
 use ic_unsafe_ref::Place;
 
-// Case 1, the uncle is red: the children of `grand` turn black, and `grand` turns red unless it is the root.
+// Case 1, the uncle is red: `parent` and `uncle`, the children of `grand`, turn black, and `grand` turns red unless it is the root.
 pub(crate) fn recolor<N: NodeStore>(links: &mut N, parent: Place, uncle: Place, grand: Place)
     requires parent { IsNode N.node (N.table links.old) parent }
     requires uncle { IsNode N.node (N.table links.old) uncle }
@@ -28,8 +28,8 @@ pub(crate) fn recolor<N: NodeStore>(links: &mut N, parent: Place, uncle: Place, 
     set_color(links, grand, color);
 }
 
-// Case 2, the place is an inner grandchild: it is rotated above its parent, so its parent is an outer grandchild. Returns the upper one of the place and
-// its old parent.
+// Case 2, `place` is an inner grandchild: it is rotated above `parent`, and then `parent` is an outer grandchild. `parent` is on the side `side` of the
+// grandparent, so `place` is an inner grandchild if it is on the other side of `parent`. Returns the upper one of `place` and `parent`.
 #[inline(always)]
 pub(crate) fn rotate_inner_grandchild<N: NodeStore>(
     links: &mut N,
@@ -51,8 +51,9 @@ pub(crate) fn rotate_inner_grandchild<N: NodeStore>(
     place
 }
 
-// One step of the repair if `parent` is on this side of `grand`. Returns the place of the next step, `None` if this step was the last. Case 3, the red
-// child of `upper` is an outer grandchild: `upper` is rotated above `grand`.
+// One step of the repair, where `parent` is on the side `side` of `grand`. Returns the place of the next step, or `None` if this step was the last. If the
+// uncle is red, the step is case 1. Otherwise the red child of `upper` is an outer grandchild, if need be after case 2, and case 3 rotates `upper` above
+// `grand`.
 #[inline(always)]
 pub(crate) fn fix_red_pair_on<N: NodeStore>(
     links: &mut N,
@@ -99,7 +100,8 @@ pub(crate) fn fix_red_pair<N: NodeStore>(
     }
 }
 
-// One step of the repair at a red place below this parent, which may be black. Returns the place of the next step, `None` if this step was the last.
+// One step of the repair at the red member `place`, whose parent `parent` may be black or none. Returns the place of the next step, or `None` if this step was
+// the last.
 #[inline(always)]
 pub(crate) fn fix_red_parent<N: NodeStore>(
     links: &mut N,
@@ -120,8 +122,8 @@ pub(crate) fn fix_red_parent<N: NodeStore>(
     fix_red_pair(links, root, place, parent, grand)
 }
 
-/// Repairs the colors above a member that was inserted red below this parent, in O(log n): RB-INSERT-FIXUP. It returns whether the
-/// tree has grown, which means that the repair reached the root, and each path down has one black member more.
+/// Repairs the colors above `place`, a member that was inserted red below `parent`, in O(log n): RB-INSERT-FIXUP. Returns whether the repair has reached the
+/// root. If it has, each path down has one black member more.
 #[inline(always)]
 pub(crate) fn insert_fixup<N: NodeStore>(
     links: &mut N,
@@ -146,7 +148,7 @@ pub(crate) fn insert_fixup<N: NodeStore>(
     false
 }
 
-// Inserts a linked place, which is in no collection, into an insert position of the tree.
+// Inserts `place`, which is linked and in no collection, as the child of `parent` on the side `side`. If `parent` is none, the tree is empty.
 #[inline(always)]
 pub(crate) fn attach<N: NodeStore>(
     links: &mut N,

@@ -1,6 +1,6 @@
-//! Removes a member from a tree, and repairs the colors. The cases are numbered as in RB-DELETE-FIXUP of Cormen, Leiserson, Rivest and Stein. The children
-//! of the short subtree's sibling are the nephews of the short subtree. The near nephew is on the side of the short subtree, and the far nephew is on the
-//! opposite side.
+//! Removes a member from a tree, and repairs the colors. The cases are numbered as in RB-DELETE-FIXUP of Cormen, Leiserson, Rivest and Stein. A subtree is
+//! short if the paths through it have one black member too few. The other child of the short subtree's parent is its sibling, and the children of the sibling
+//! are the nephews. The near nephew is on the side of the short subtree, and the far nephew is on the opposite side.
 
 ghost use Rattle.std.specs.Prelude.{Option, Some, [], ◌∷◌};
 ghost use Rattle.ic_unsafe_ref.specs.declared.place.Place.{Place};
@@ -18,7 +18,8 @@ use crate::repair::writers::{change_child, rotate, set_color, set_parent_and_col
 use ic_link_ops::{Color, PlaceWord, Side};
 use ic_unsafe_ref::Place;
 
-// Case 1, the sibling is red: the sibling is rotated up, and one of its children becomes the new sibling. Returns the new sibling, which is black.
+// Case 1, the sibling of the short subtree is red: the sibling is rotated above `place`, and one of its children becomes the new sibling. The short subtree is
+// on the side `side` of `place`. Returns its sibling after this, which is black.
 #[inline(always)]
 pub(crate) fn blacken_sibling<N: NodeStore>(
     links: &mut N,
@@ -40,7 +41,8 @@ pub(crate) fn blacken_sibling<N: NodeStore>(
     child(&*links, place, far)
 }
 
-// Case 3, the far nephew is black and the near one red: the near one is rotated above the sibling. Returns the new sibling, whose far child is red.
+// Case 3, the far nephew is black and the near nephew is red: the near nephew is rotated above `sibling`. The short subtree is on the side `side`. Returns its
+// sibling after this, whose far child is red.
 #[inline(always)]
 pub(crate) fn rotate_near_nephew<N: NodeStore>(
     links: &mut N,
@@ -63,8 +65,7 @@ pub(crate) fn rotate_near_nephew<N: NodeStore>(
     Some(near)
 }
 
-// Case 4, the far nephew is red, if need be after case 3: the sibling is rotated up with the parent's color, and the tree is
-// right.
+// Case 4, the far nephew is red, if need be after case 3: the sibling is rotated above `place`, and gets the color of `place`. After this, the tree is right.
 #[inline(always)]
 pub(crate) fn rotate_far_nephew<N: NodeStore>(
     links: &mut N,
@@ -90,8 +91,8 @@ pub(crate) fn rotate_far_nephew<N: NodeStore>(
     rotate(links, root, place, upper, side, Color::Black, color);
 }
 
-// Case 2, both nephews are black: the sibling turns red. If the parent is red, the parent turns black, and the tree is right. Returns whether the parent
-// was red.
+// Case 2, both nephews are black: `sibling` turns red. If its parent `place` is red, `place` turns black, and the tree is right. Returns whether `place` was
+// red.
 pub(crate) fn redden_sibling<N: NodeStore>(links: &mut N, place: Place, sibling: Place) -> bool
     requires place { IsNode N.node (N.table links.old) place }
     requires sibling { IsNode N.node (N.table links.old) sibling }
@@ -107,7 +108,7 @@ pub(crate) fn redden_sibling<N: NodeStore>(links: &mut N, place: Place, sibling:
     false
 }
 
-// One step of the repair, if the paths on the side `side` of the member `place` have one black member too few. Returns whether this step was the last.
+// One step of the repair, where the paths on the side `side` of the member `place` have one black member too few. Returns whether this step was the last.
 #[inline(always)]
 pub(crate) fn delete_fixup_on<N: NodeStore>(
     links: &mut N,
@@ -148,7 +149,7 @@ pub(crate) fn delete_fixup_step<N: NodeStore>(
     }
 }
 
-/// Repairs a tree whose paths on this side of `parent` have one black member too few, in O(log n): RB-DELETE-FIXUP.
+/// Repairs a tree whose paths on the side `side` of `parent` have one black member too few, in O(log n): RB-DELETE-FIXUP.
 #[inline(always)]
 pub(crate) fn delete_fixup<N: NodeStore>(
     links: &mut N,
@@ -175,8 +176,8 @@ pub(crate) fn delete_fixup<N: NodeStore>(
     }
 }
 
-// Gives the child of a removed member of this color its new parent. A child without a sibling is red, and the removed member above it was black, so the
-// child turns black. Returns whether the paths through the position of the removed member have one black member too few after this.
+// Gives `child`, the only child of a removed member, the new parent `parent`. The removed member had the color `color`. A child without a sibling is red, and
+// its parent is black, so the child turns black. Returns whether the paths through the old position of the removed member then have one black member too few.
 pub(crate) fn fill_gap<N: NodeStore>(
     links: &mut N,
     color: Color,
@@ -199,8 +200,8 @@ pub(crate) fn fill_gap<N: NodeStore>(
     }
 }
 
-// Removes a member that has at most one child, which takes its position. Returns whether the paths through this position have one black member too few now.
-// Also returns below which parent and on which side the position is.
+// Removes the member at `place`, which has at most one child. The child, if any, takes the member's position. Returns whether the paths through this position
+// then have one black member too few. Also returns the parent above the position, and the side of the parent on which the position is.
 #[inline(always)]
 pub(crate) fn splice_out<N: NodeStore>(
     links: &mut N,
@@ -221,8 +222,8 @@ pub(crate) fn splice_out<N: NodeStore>(
     (short, parent, side)
 }
 
-// Removes a member without a repair of colors. If the removed member has two children, the next member takes its position. Returns what `splice_out`
-// returns.
+// Removes the member at `place`, and leaves the repair of the colors to the caller. If the removed member has two children, the next member takes its position.
+// Returns what `splice_out` returns.
 #[inline(always)]
 pub(crate) fn take_out<N: NodeStore>(
     links: &mut N,
@@ -249,7 +250,7 @@ pub(crate) fn take_out<N: NodeStore>(
     (short, parent, side)
 }
 
-// Removes a member from the tree, and leaves it linked. If the removed member has two children, the next member takes its position.
+// Removes the member at `place` from the tree, and leaves the place linked. If the removed member has two children, the next member takes its position.
 pub(crate) fn unlink<N: NodeStore>(links: &mut N, root: &mut PlaceWord, place: Place)
     requires { IsSafe N.node (N.table links.old) root.old (Some place ∷ []) }
     ensures taken { TakesAway N.node (N.table links.old) (N.table links.new) root.old root.new place }

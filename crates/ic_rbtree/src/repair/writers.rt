@@ -1,4 +1,4 @@
-//! Functions that write children and parents: rotations, and the replacement of a place by another.
+//! Functions that write children, parents and colors, also for a rotation and for the replacement of a member by a place.
 
 ghost use Rattle.std.specs.Prelude.{◌≡◌, ◌≢◌, Option, Some, [], ◌∷◌};
 ghost use Rattle.ic_link_ops.specs.Prelude.{Place, ChangesOnly};
@@ -94,7 +94,7 @@ pub(crate) fn set_node<N: NodeStore>(
     set_parent_and_color(links, place, parent, color);
 }
 
-// Sets the parent of a subtree's root.
+// Sets the parent of `child`, which is the root of a subtree. If `child` is none, the function writes nothing.
 pub(crate) fn adopt<N: NodeStore>(links: &mut N, child: Option<Place>, parent: Option<Place>)
     requires child { IsNamed N.node (N.table links.old) child }
     requires parent { IsNamed N.node (N.table links.old) parent }
@@ -129,8 +129,8 @@ pub(crate) fn change_child<N: NodeStore>(
     }
 }
 
-/// Rotates the place down to this side, so that `upper`, its child on the other side, is above it. The place gets the color `low`, and `upper` gets the
-/// color `high`.
+/// Rotates `place` down to the side `side`, and rotates `upper`, the child of `place` on the other side, above `place`. `place` gets the color `low`, and
+/// `upper` gets the color `high`.
 #[inline(always)]
 pub(crate) fn rotate<N: NodeStore>(
     links: &mut N,
@@ -156,7 +156,7 @@ pub(crate) fn rotate<N: NodeStore>(
     set_parent_and_color(links, place, Some(upper), low);
 }
 
-/// Replaces a member by another place, which was in no collection before.
+/// Replaces the member at `place` by the place `new`, which was in no collection before.
 pub(crate) fn take_place<N: NodeStore>(
     links: &mut N,
     root: &mut PlaceWord,

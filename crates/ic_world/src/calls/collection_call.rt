@@ -1,4 +1,5 @@
-//! The calls of one collection. Each call has a type of its own, which also says of which type the answer is.
+//! The calls of one collection. Each variant of `Call` has a type of its own with the trait `CollectionCall`, which also says what type the call
+//! returns.
 //!
 //! ```text
 //! Command::On(2, Call::Take(Gap::Front)) // `pop_front` of collection 2
@@ -31,8 +32,8 @@ pub enum Neighbor {
     Prev,
 }
 
-/// A call of one collection. Three other calls of one collection are not in this list: `current` and `show` only read the collection, and
-/// `fast_clear` also changes the mark of its field.
+/// A call that changes at most one collection and the links of its field. A call that only reads a collection, such as `show`, is not in this list. A
+/// call that changes more, such as `fast_clear` or `take`, is not in it either.
 #[derive(Clone, Copy)]
 pub enum Call<K> {
     /// `push_front`, `push_back`, `insert_before`, `insert_after`: inserts an object into a gap.
@@ -55,14 +56,14 @@ pub enum Call<K> {
     Enter(K, Place),
 }
 
-/// A call of one collection, with the type of what it returns.
+/// A type whose values are calls of one collection.
 pub trait CollectionCall<A: KeyAdapter> {
     /// The type of what the call returns.
     type Answer;
 
     ghost use Rattle.ic_world.specs.declared.calls.collection_call.Call.{Call};
 
-    // The call as a value of `Call`, and the reply of the model that an accepted answer stands for.
+    // `call` is the call as a value of `Call`. `reply` is the `Reply` by which contracts describe what an accepted call returns.
     ghost call: { Self → Call A.Key };
 
     ghost reply: { Self.Answer → Reply };
@@ -71,9 +72,9 @@ pub trait CollectionCall<A: KeyAdapter> {
     fn is_placed<M: Allocator>(&self, objects: &Objects<A::Value, M>) -> bool
         ensures { result ≡ list_all (place_is_placed objects.now) (names (call self.now)) };
 
-    /// Makes the call. It requires that the table keeps the collection, and that the table covers each place that the call names. There has to be an
-    /// object at each member and at each of these places. A refused call changes nothing. It is refused with `WrongKind` if the collection's kind
-    /// lacks the call, and otherwise with the call's own refusals.
+    /// Makes the call. It requires that the table `links` represents a sequence for the collection `members`, and covers each place that the call
+    /// names. There has to be an object at the place of each member, and at each place that the call names. A refused call changes nothing. If the
+    /// collection's kind lacks the call, the refusal is `WrongKind`, and otherwise one of the call's own refusals.
     fn run<M: Allocator>(
         &self,
         members: &mut AnyCollection<A::Value>,

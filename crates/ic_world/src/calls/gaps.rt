@@ -19,8 +19,8 @@ use std::alloc::Allocator;
 #[derive(Clone, Copy)]
 pub struct Put(pub Gap, pub Place);
 
-/// Removes the member after the gap, or the last member if the gap is at the back. A cursor that is on the removed member goes on to the next member.
-/// If the gap is at an end, the cursor goes to null.
+/// Removes the member after the gap, or the last member if the gap is at the back. If the gap is at an end, the cursor goes to null. Otherwise a
+/// cursor that is on the removed member goes to the next member.
 #[derive(Clone, Copy)]
 pub struct Take(pub Gap);
 

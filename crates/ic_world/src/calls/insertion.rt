@@ -81,7 +81,7 @@ impl<A: KeyAdapter> CollectionCall<A> for Insertion {
     }
 }
 
-/// Searches for a member with the key. If no member has the key, it inserts the object where the key belongs.
+/// Searches for a member with the key. If no member has the key, the call inserts the object where the key belongs.
 #[derive(Clone, Copy)]
 pub struct EntryAt<K> {
     pub key: K,

@@ -1,4 +1,4 @@
-//! Keyed calls of one tree. Each call returns the number of its looks, which are the keys that it compared. In a tree of n members it makes at most 2
+//! Keyed calls of one tree. Each call returns how many looks it made, which are comparisons of keys. In a tree of n members a call makes at most 2
 //! log2(n + 1) looks for each search.
 //!
 //! ```text
@@ -26,7 +26,7 @@ where
     ghost use Rattle.ic_world.specs.Replies.{reply_of};
     ghost use Rattle.ic_world.specs.Calls.{found, looked, entry, range};
 
-    /// Puts the cursor on the first member of this key, or to null if there is none. It returns the member and the number of looks. O(log n).
+    /// Puts the cursor on the first member with this key, or to null if there is none. It returns the member and the number of looks. O(log n).
     ///
     /// Refused: `NoSuchCollection`, `WrongKind` for a list.
     pub fn find(&mut self, collection: usize, key: A::Key) -> Result<(Option<Place>, u64), Refusal>
@@ -80,11 +80,14 @@ where
         self.call(collection, &Insertion::CursorInsert(object))
     }
 
-    /// Puts the cursor on the first member with this key. If no member has it, inserts the object where the key belongs, and puts the cursor on the
-    /// object.
+    /// Puts the cursor on the first member with this key. If no member has it, the call inserts the object where the key belongs, and puts the cursor
+    /// on the object.
     ///
-    /// It returns whether a member had the key, which member the cursor is on, and the number of looks. It does not read the key of the object. O(log
-    /// n). Refused: `NoSuchCollection`, `NoSuchObject`, `WrongKind` for a list; and `AlreadyLinked` if no member has the key.
+    /// The call returns whether a member had the key, the member that the cursor is then on, and the number of looks. It does not read the key of the
+    /// object. O(log n).
+    ///
+    /// Refused: `NoSuchCollection`, `NoSuchObject`, `WrongKind` for a list, `AlreadyLinked` if no member has the key and the object is already
+    /// linked.
     pub fn entry(
         &mut self,
         collection: usize,
@@ -100,7 +103,7 @@ where
         }
     }
 
-    /// Returns the members between two bounds, and the number of looks of each of the two searches. The cursor stays. O(log n + answer).
+    /// Returns the members between two bounds, and the number of looks of the search for each bound. The cursor stays. O(log n + returned members).
     ///
     /// Refused: `NoSuchCollection`, `WrongKind` for a list, `OutOfMemory`.
     pub fn range(

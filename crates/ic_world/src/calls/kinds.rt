@@ -1,4 +1,4 @@
-//! Which kinds have which calls.
+//! Which kinds of collections have which calls.
 //!
 //! ```text
 //! has_before(Kind::Singly) // false: no call of a singly linked list goes back
@@ -19,7 +19,7 @@ pub(crate) fn has_before(kind: Kind) -> bool
     !matches!(kind, Kind::Singly)
 }
 
-// Returns whether the kind is a list, which every kind except the tree is.
+// Returns whether the kind is a list. Every kind except the tree is a list.
 #[inline]
 pub(crate) fn is_list(kind: Kind) -> bool
     ensures { result ≡ kinds.is_list kind }
@@ -27,7 +27,7 @@ pub(crate) fn is_list(kind: Kind) -> bool
     !matches!(kind, Kind::Tree)
 }
 
-// Returns whether the kind is a list with calls at its back.
+// Returns whether the kind is the doubly linked list or the XOR list, which also have calls at the back.
 #[inline]
 pub(crate) fn is_two_way_list(kind: Kind) -> bool
     ensures { result ≡ kinds.is_two_way_list kind }
@@ -49,7 +49,7 @@ pub(crate) fn is_tree(kind: Kind) -> bool
     matches!(kind, Kind::Tree)
 }
 
-// Returns whether a cursor can be made on a member from its place alone.
+// Returns whether the place of a member suffices to put a cursor on it, in collections of this kind. In an XOR list a neighbor has to be named, too.
 #[inline]
 pub(crate) fn has_pointer(kind: Kind) -> bool
     ensures { result ≡ kinds.has_pointer kind }

@@ -1,4 +1,4 @@
-//! The probes with which keyed calls compare keys, and how often they have compared.
+//! The probes with which keyed calls compare keys, and the number of comparisons that a probe has made.
 //!
 //! ```text
 //! let mut probe = probe_in_bound(adapter, &Bound::Included(5));

@@ -34,8 +34,8 @@ pub enum Seek {
     Null,
     /// The cursor goes to a member, which is named by its place.
     On(Place),
-    /// The cursor goes to a member of an XOR list, which is named by its place and the place of one of its neighbors. The neighbor is `None` if the
-    /// member is at that end of the list.
+    /// The cursor goes to the member of an XOR list at the `Place`. The `Option<Place>` names the member's neighbor in the direction `Neighbor`, or
+    /// is `None` if the member has no such neighbor.
     With(Neighbor, Place, Option<Place>),
 }
 
@@ -139,7 +139,7 @@ impl<A: KeyAdapter> CollectionCall<A> for Seek {
     }
 }
 
-// Puts the cursor on the object, or returns the refusal `NotAMember`. No table is written.
+// Puts the cursor on the member `object`, or returns the refusal `NotAMember`. It writes no table.
 fn seek_on<T, M: Allocator>(
     members: &mut AnyCollection<T>,
     links: &AnyTable<M>,
@@ -161,7 +161,7 @@ fn seek_on<T, M: Allocator>(
     Ok(())
 }
 
-// Returns the neighbor of the member `object` in the direction `way`, or `None` if the member is at that end. `prev` is the member before `object`.
+// Returns the neighbor of the member `object` in the direction `way`, or `None` if there is none. `prev` is the member before `object`, if any.
 #[inline]
 fn neighbor<T, M: Allocator>(
     members: &AnyCollection<T>,
@@ -180,7 +180,7 @@ fn neighbor<T, M: Allocator>(
     }
 }
 
-// Puts the cursor of an XOR list on the object, if `beside` is the neighbor of the object in the direction `way`.
+// Puts the cursor of an XOR list on the member `object`, if `beside` is its neighbor in the direction `way`. Otherwise it returns a refusal.
 fn seek_with<T, M: Allocator>(
     members: &mut AnyCollection<T>,
     links: &AnyTable<M>,

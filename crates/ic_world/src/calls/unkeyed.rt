@@ -60,8 +60,8 @@ impl<A: KeyAdapter, M: Allocator + Copy> World<A, M> {
         self.call(collection, &Take(Gap::Back))
     }
 
-    /// Moves the cursor to the next member, from null to the first one and from the last one to null, and returns the member that it is then on.
-    /// O(1), in a tree O(log n).
+    /// Moves the cursor to the next member, and returns the member that the cursor is then on. From null the cursor goes to the first member, and
+    /// from the last member to null. O(1), in a tree O(log n).
     ///
     /// Refused: `NoSuchCollection`.
     pub fn move_next(&mut self, collection: usize) -> Result<Option<Place>, Refusal>
@@ -70,8 +70,8 @@ impl<A: KeyAdapter, M: Allocator + Copy> World<A, M> {
         self.call(collection, &Move(Neighbor::Next))
     }
 
-    /// Moves the cursor to the previous member, from null to the last one and from the first one to null, and returns the member that it is then on.
-    /// O(1), in a tree O(log n).
+    /// Moves the cursor to the previous member, and returns the member that the cursor is then on. From null the cursor goes to the last member, and
+    /// from the first member to null. O(1), in a tree O(log n).
     ///
     /// Refused: `NoSuchCollection`, `WrongKind` for a singly linked list.
     pub fn move_prev(&mut self, collection: usize) -> Result<Option<Place>, Refusal>
@@ -110,8 +110,8 @@ impl<A: KeyAdapter, M: Allocator + Copy> World<A, M> {
         self.call(collection, &Seek::On(object))
     }
 
-    /// Puts the cursor of an XOR list on a member. `prev` names the member before it, or is `None` for the first member. O(members), or O(1) if the
-    /// object is not linked in the field.
+    /// Puts the cursor of an XOR list on the member `object`. `prev` names the member before `object`, or is `None` if `object` is the first member.
+    /// O(members), or O(1) if the object is not linked in the field.
     ///
     /// Refused: `NoSuchCollection`, `NoSuchObject` for either object, `WrongKind` for other kinds, `NotAMember`, `NotANeighbour`.
     pub fn seek_with_prev(
@@ -125,8 +125,8 @@ impl<A: KeyAdapter, M: Allocator + Copy> World<A, M> {
         self.call(collection, &Seek::With(Neighbor::Prev, object, prev))
     }
 
-    /// Puts the cursor of an XOR list on a member. `next` names the member after it, or is `None` for the last member. O(members), or O(1) if the
-    /// object is not linked in the field.
+    /// Puts the cursor of an XOR list on the member `object`. `next` names the member after `object`, or is `None` if `object` is the last member.
+    /// O(members), or O(1) if the object is not linked in the field.
     ///
     /// Refused: `NoSuchCollection`, `NoSuchObject` for either object, `WrongKind` for other kinds, `NotAMember`, `NotANeighbour`.
     pub fn seek_with_next(
@@ -168,8 +168,8 @@ impl<A: KeyAdapter, M: Allocator + Copy> World<A, M> {
         self.call(collection, &Take(Gap::Before))
     }
 
-    /// Removes the member after the cursor of a singly linked list, or the first one if the cursor is at null. It returns the member, or `None` if
-    /// there is none. The cursor stays. O(1).
+    /// Removes the member after the cursor of a singly linked list, or the first one if the cursor is at null. It returns the removed member, or
+    /// `None` if there is none. The cursor stays. O(1).
     ///
     /// Refused: `NoSuchCollection`, `WrongKind` for other kinds.
     pub fn remove_next(&mut self, collection: usize) -> Result<Option<Place>, Refusal>
@@ -178,7 +178,7 @@ impl<A: KeyAdapter, M: Allocator + Copy> World<A, M> {
         self.call(collection, &Take(Gap::After))
     }
 
-    /// Replaces the member that the cursor is on by an object, and returns the member. The cursor is then on the object. O(1).
+    /// Replaces the member at the cursor by an object, and returns the member. The cursor is then on the object. O(1).
     ///
     /// Refused: `NoSuchCollection`, `NoSuchObject`, `WrongKind` for a singly linked list, `NothingThere` at null, `AlreadyLinked`.
     pub fn replace_with(&mut self, collection: usize, object: Place) -> Result<Place, Refusal>
@@ -187,8 +187,8 @@ impl<A: KeyAdapter, M: Allocator + Copy> World<A, M> {
         self.call(collection, &Swap(Gap::Before, object))
     }
 
-    /// Replaces the member after the cursor of a singly linked list, or the first one if the cursor is at null, by an object, and returns the member.
-    /// The cursor stays. O(1).
+    /// Replaces the member after the cursor of a singly linked list by an object, and returns the member. If the cursor is at null, it replaces the
+    /// first member. The cursor stays. O(1).
     ///
     /// Refused: `NoSuchCollection`, `NoSuchObject`, `WrongKind` for other kinds, `NothingThere` if there is no such member, `AlreadyLinked`.
     pub fn replace_next_with(&mut self, collection: usize, object: Place) -> Result<Place, Refusal>
@@ -215,8 +215,8 @@ impl<A: KeyAdapter, M: Allocator + Copy> World<A, M> {
         self.call(collection, &BulkEdit::Clear)
     }
 
-    /// Removes all members but leaves them linked until [`World::force_unlink`], and puts the cursor to null. The field is then marked, which means
-    /// that a linked object of the field need not be a member of a collection. O(1).
+    /// Removes all members but leaves them linked, and puts the cursor to null. [`World::force_unlink`] can unlink them one by one. The call marks
+    /// the field, because afterwards a linked object of the field need not be a member of a collection. O(1).
     ///
     /// Refused: `NoSuchCollection`.
     pub fn fast_clear(&mut self, collection: usize) -> Result<(), Refusal>

@@ -1,4 +1,4 @@
-//! Inserts and removals of a hash table by the entry of a key. One search finds the entry, and the insert or the removal searches no more.
+//! Inserts and removals of a hash table by the entry of a key. One search finds the entry, and the insert or the removal makes no second search.
 
 ghost use Rattle.std.specs.Prelude.{◌≡◌, true};
 ghost use Rattle.ic_link_ops.specs.Prelude.{is_placed, IsCovered};

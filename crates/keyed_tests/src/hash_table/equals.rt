@@ -12,7 +12,7 @@ use ic_link_ops::LinkOps as _;
 use ic_link_ops::singly_linked_list::SinglyLinkedListOps;
 use ic_unsafe_ref::Objects;
 
-/// A call of a hash table that keeps objects with equal keys next to each other. An object stands for the index of its place.
+/// A call of a hash table that keeps objects with equal keys next to each other. Each object is given as the index of its place.
 pub(super) enum EqualStep {
     /// Inserts the object next to the members that have the same key. Its link must not be refused.
     Insert(usize),
@@ -20,7 +20,7 @@ pub(super) enum EqualStep {
     Remove(usize),
     /// Takes one more bucket into use. There must be an unused one.
     Grow,
-    /// Takes the last bucket out of use, which must not be the only one.
+    /// Takes the last bucket out of use. It must not be the only bucket in use.
     Shrink,
     /// Walks over all objects of the table, chain by chain. The answer is their numbers.
     Members(&'static [u64]),

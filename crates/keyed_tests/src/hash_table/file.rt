@@ -18,7 +18,7 @@ use ic_unsafe_ref::{Objects, Place, UnsafeRef};
 use std::alloc::Global;
 use std::process::Abort;
 
-// The number that a file has where it names no place.
+// A file has this number in a word that names no place.
 const NONE: usize = 8;
 
 // Returns the place with this index, or `None` if the index is not below 8.
@@ -31,7 +31,7 @@ fn named(index: usize) -> Option<Place>
     Some(place_at(index))
 }
 
-// Links the first place of each pair, so that the second place of the pair comes after it. The pairs are what a file says.
+// Links the first place of each pair, so that the second place of the pair comes after it. The pairs are read from a file.
 fn read_links(links: &mut LinkOps, pairs: &[(usize, usize)])
     requires covers { (table wide no_word links.old).extent.places ≡ 8 }
 {

@@ -9,7 +9,7 @@ use ic_hash_table::{BucketsFor, HashAdapter, HashTable};
 use ic_link_ops::singly_linked_list::SinglyLinkedListOps;
 use ic_link_ops::{LinkOps as _, LinkValues};
 
-/// A call of a hash table whose keys are stored beside the links, and the answer that the test expects. An object stands for the index of its place.
+/// A call of a hash table whose keys are stored beside the links, and the answer that the test expects. Each object is given as the index of its place.
 pub(super) enum KeyedStep {
     /// Inserts the object by the key that is stored beside its link. The link must not be refused.
     Insert(usize),

@@ -10,7 +10,7 @@ use ic_link_ops::singly_linked_list::SinglyLinkedListOps;
 use ic_unsafe_ref::{Objects, Place};
 use std::alloc::{AllocError, Global};
 
-/// Returns whether the table has `len` members and `chains` chains, and says of itself that it is empty if and only if `is_empty` is true.
+/// Returns whether the table reports `len` members and `chains` chains, and reports that it is empty exactly if `is_empty` is true.
 pub(super) fn has_counts<A, B>(
     table: &HashTable<A, B>,
     len: usize,
@@ -32,7 +32,7 @@ pub(super) fn has_members<A: HashAdapter<Value = u64>, L: SinglyLinkedListOps, B
     table.iter(links, objects).eq(numbers)
 }
 
-/// Returns whether the first member with this key is at the place with the index `member`, and the next member with the same key at `next`.
+/// Returns whether the first member with this key is at the place with the index `member`. The next member with the same key must be at the index `next`.
 pub(super) fn has_equals<A: HashAdapter<Value = u64>, L: SinglyLinkedListOps, B: BucketsFor<L>>(
     table: &HashTable<A, B>,
     links: &L,
@@ -50,8 +50,7 @@ pub(super) fn has_equals<A: HashAdapter<Value = u64>, L: SinglyLinkedListOps, B:
     false
 }
 
-/// Returns whether the first member with this key is at the place with the index `member`, and the search for it looks at as many members as `looks`
-/// says.
+/// Returns whether the first member with this key is at the place with the index `member`. The search for it must look at as many members as `looks` says.
 pub(super) fn is_found_by_looks<
     A: HashAdapter<Value = u64>,
     L: SinglyLinkedListOps,

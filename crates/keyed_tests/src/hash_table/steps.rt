@@ -14,8 +14,8 @@ use ic_link_ops::singly_linked_list::SinglyLinkedListOps;
 use ic_test_support::objects::reference;
 use ic_unsafe_ref::{Objects, Place, UnsafeRef};
 
-/// A call of a hash table with its arguments, and the answer that the test expects. An object stands for the index of its place. The key 10 is that of
-/// the objects at the places 0 and 2.
+/// A call of a hash table with its arguments, and the answer that the test expects. Each object is given as the index of its place. The objects at the
+/// places 0 and 2 have the key 10.
 pub(super) enum Step {
     /// Inserts the object, whose link must not be refused.
     Insert(usize),

@@ -16,7 +16,7 @@ use ic_test_support::notes::{Answer, Text};
 use ic_test_support::objects::{eight_objects, reference};
 use ic_unsafe_ref::{Objects, UnsafeRef};
 
-// Inserts the object into the hash table, which keeps its buckets, its adapter and its chains in use.
+// Inserts the object into the hash table. Its buckets, its adapter and the number of its chains in use stay the same.
 fn put<A: HashAdapter<Value = u64>, L: SinglyLinkedListOps, B: BucketsFor<L>>(
     table: &mut HashTable<A, B>,
     links: &mut L,
@@ -59,7 +59,7 @@ fn found_again<A: HashAdapter<Value = u64>, L: SinglyLinkedListOps, B: BucketsFo
     again.find(&*links, objects, key)
 }
 
-// Inserts an object into a table over lent words of which one chain is in use, takes a second chain into use, which always succeeds, and empties the
+// Inserts an object into a table over lent words, which has one chain in use. Then it takes a second chain into use, which always succeeds, and empties the
 // table. Returns whether the table grew, and the lent words, all of which are 0 again.
 fn grown_and_cleared<'a, L: SinglyLinkedListOps>(
     words: &'a mut [u64],

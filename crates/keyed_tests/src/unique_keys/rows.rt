@@ -123,8 +123,8 @@ fn play_new(by: By, memory: &Rationed, rows: &[Row]) -> Option<usize> {
     }
 }
 
-// Returns whether the refusal of each request for memory refuses exactly one call. There must be at least three requests for memory, because each table
-// and the objects grow.
+// Makes the calls of the rows once for each request for memory, and refuses this request. Returns whether exactly one insert is refused each time. There
+// must be at least three requests, because each table and the objects grow.
 fn is_refused_in_turn(by: By, alloc: Global, rows: &[Row]) -> bool {
     let memory = Rationed::new(alloc, u64::MAX);
     let mut as_wanted = play_new(by, &memory, rows) == Some(0);

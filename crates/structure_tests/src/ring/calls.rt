@@ -78,7 +78,8 @@ fn given_back(put: Result<UnsafeRef<u64>, ReplaceError<u64>>) -> Option<UnsafeRe
     }
 }
 
-// Returns the object on which a cursor is, if a reading cursor that is made of it is on the same place.
+// The place of a cursor is `at`, and the place of a reading cursor that is made from it is `read`. Returns the object at this place if both are equal and
+// the cursor is not at null.
 fn object_on(is_null: bool, at: Option<Place>, read: Option<Place>) -> Option<UnsafeRef<u64>> {
     match at {
         Some(place) if !is_null && read == at => Some(UnsafeRef::new(place)),
@@ -86,7 +87,7 @@ fn object_on(is_null: bool, at: Option<Place>, read: Option<Place>) -> Option<Un
     }
 }
 
-// Returns the place of the object that is the argument of a call. Each index names one of the first six places.
+// Returns the place of the object that is the argument of a call. It is one of the first six places.
 fn argument(index: usize) -> Place
     ensures few { index_of result < 8 }
 {

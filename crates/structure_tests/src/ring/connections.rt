@@ -1,4 +1,4 @@
-//! Connections in queues, which are rings. A connection that closes is removed from its queue, and the caller does not need to know which queue this
+//! Connections in queues. Each queue is a ring. A connection that closes is removed from its queue, and the caller does not need to know which queue this
 //! is.
 
 ghost use Rattle.std.specs.Prelude.{◌≡◌, ◌≢◌, ◌<◌, ◌∷◌, ◌++◌, List, [], IfSome, Some, true};
@@ -50,7 +50,7 @@ pub(crate) fn close_oldest<L: LinkedListOps>(
     idle.pop_front(links)
 }
 
-// Removes the first connection of the queue. Returns the removed connection, the connection that is then the first, and the number of the latter.
+// Removes the first connection of the queue. Returns the removed connection, the new first connection, and the number of the new first connection.
 fn close_first<L: LinkedListOps>(
     links: &mut L,
     objects: &Objects<u64>,
@@ -80,7 +80,7 @@ fn is_last<L: LinkedListOps>(links: &L, queue: &Ring<u64>, connection: &UnsafeRe
     cursor.is_null()
 }
 
-// Removes the connection from the queue, and returns the connection after it, and whether there is no connection after it.
+// Removes the connection from the queue. Returns the connection that came after it, and whether there is none.
 fn close_here<L: LinkedListOps>(
     links: &mut L,
     queue: &Ring<u64>,
@@ -95,8 +95,7 @@ fn close_here<L: LinkedListOps>(
     (cursor.as_cursor().get_ptr(), cursor.is_null())
 }
 
-// Removes the last connection of the queue, if there is one. Returns whether it was the last, the connection after it, and whether there is no
-// connection after it.
+// Removes the last connection of the queue, if there is one. Returns whether it was the last, the connection that came after it, and whether there is none.
 fn close_last<L: LinkedListOps>(links: &mut L, queue: &Ring<u64>) -> (bool, Option<Place>, bool)
     requires queue { InRing L.neighbors (L.table links.old) queue.now }
     ensures queue { InRing L.neighbors (L.table links.new) queue.now }
@@ -138,9 +137,9 @@ fn remove_first<L: LinkedListOps>(links: &mut L, queue: &Ring<u64>)
 
 /// Makes the calls of a server on a queue of connections, and notes what the calls return.
 ///
-/// The first connection is used and moves to the back. The connection that is then the first is closed, and the members are noted. A cursor closes the
-/// next first connection, and the function notes which connection is then the first, and its number. Then the connection that has been idle longest is
-/// closed, and finally the last one.
+/// The first connection is used and moves to the back. The new first connection is closed, and the members are noted. A cursor closes the connection that
+/// is then the first, and the function notes the next first connection and its number. Then the connection that has been idle longest is closed, and
+/// finally the last one.
 pub(crate) fn write_served<L: LinkedListOps>(
     notes: &mut Text,
     links: &mut L,

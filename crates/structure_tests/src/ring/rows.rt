@@ -18,8 +18,8 @@ pub(crate) enum Row {
     Both(Pair, usize),
     /// The test notes whether the first ring is empty, its first and its last member, and the places before and after its head.
     Ends,
-    /// The test notes whether a cursor at the head is on no member, the second and the last member of the first ring, and the object of the second
-    /// member.
+    /// The test notes whether a cursor at the head is on no member. Then it notes the second and the last member of the first ring, and the object of the
+    /// second member.
     Second,
 }
 
@@ -97,8 +97,8 @@ pub(crate) const BOTH_RINGS: &[(Row, &str)] = &[
     (Ring(Call::PushFront, 4), "none 50 30 40 10 20 20, none,"),
 ];
 
-/// The notes that the test makes after the rows. The successors of the two heads are exchanged, where the second ring is empty, and the notes begin
-/// with the first ring. Then come the notes of [`write_served`], and the text that the ring prints. At last the first member is bypassed and linked
+/// The notes that the test makes after the rows. The second ring is empty when the successors of the two heads are exchanged, and the notes begin with the
+/// members of the first ring. Then come the notes of [`write_served`], and the text that the ring prints. At last the first member is bypassed and linked
 /// again, and the first member is noted each time.
 ///
 /// [`write_served`]: crate::ring::connections::write_served

@@ -127,8 +127,8 @@ fn play_new(by: By, memory: &Rationed, capacity: usize, rows: &[Row]) -> Option<
     }
 }
 
-// Returns whether the refusal of each request for memory refuses exactly one call. There must be at least `least` requests, which is three if the cache
-// keeps an entry, because each table and the objects grow.
+// Makes the calls of the rows once for each request for memory, and refuses this request. Returns whether exactly one insert is refused each time. There
+// must be at least `least` requests. The number is three if the cache keeps an entry, because each table and the objects grow.
 fn is_refused_in_turn(by: By, alloc: Global, capacity: usize, rows: &[Row], least: u64) -> bool {
     let memory = Rationed::new(alloc, u64::MAX);
     let mut as_wanted = play_new(by, &memory, capacity, rows) == Some(0);

@@ -86,8 +86,8 @@ fn plays(space: &mut RegionAllocator, rows: &[Row]) -> bool {
     as_wanted
 }
 
-// Returns whether a refused request for memory changes nothing, so that the call can be made again, and whether a freed region that joins another one
-// requests no memory.
+// Refuses the request for memory with this number. Returns whether the refused call changes nothing and succeeds when it is made again, and whether a freed
+// region that joins another one then requests no memory.
 fn is_refused_once(memory: &Rationed, number: u64) -> bool {
     let mut space = RegionAllocator::new(memory);
     memory.refuse(number);

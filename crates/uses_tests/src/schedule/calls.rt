@@ -44,8 +44,8 @@ pub(crate) fn make<A: Allocator>(tasks: &mut Scheduler<u64, A>, call: Call) -> A
     }
 }
 
-// Makes two ticks at the same time, and returns how many tasks each tick moved. By a law of the scheduler there is a list that it represents, so the
-// second tick moves no task.
+// Calls `tick` twice with the same time `now`, and returns how many tasks each call moved. A law of the scheduler says that its waiting tasks are sorted by
+// deadline. With this law, the contract of `tick` implies that the second tick moves no task.
 fn tick_twice<V, A: Allocator>(tasks: &mut Scheduler<V, A>, now: u64) -> (usize, usize)
     ensures { result.1 ≡ 0 }
 {

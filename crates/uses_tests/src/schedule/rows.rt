@@ -84,8 +84,8 @@ fn play_both(memory: &Rationed, rows: &[Row], others: &[Row]) -> Option<usize> {
     }
 }
 
-// Returns whether the refusal of each request for memory refuses exactly one call. There must be at least three requests, because each table and the
-// objects grow. All requests together must be for at most `BYTES` bytes.
+// Makes the calls of the rows once for each request for memory, and refuses this request. Returns whether exactly one call of `rows` is refused each time.
+// There must be at least three requests, because each table and the objects grow. All requests together must be for at most `BYTES` bytes.
 fn is_refused_in_turn(alloc: Global, rows: &[Row], others: &[Row]) -> bool {
     let memory = Rationed::new(alloc, u64::MAX);
     let mut as_wanted = play_both(&memory, rows, others) == Some(0);

@@ -1,8 +1,9 @@
-//! Random commands at cursors, and `retain`, beside plain sequences.
+//! Makes random commands at cursors, and calls of `retain`, and compares the results with plain sequences.
 
 use super::*;
 
-/// What the list or tree of the cursor and another one are to be, and which of the members the cursor is on. It is on none at their number.
+/// The members that the list or tree of the cursor should have, and those that another list or tree should have. `at` is the index of the
+/// cursor's member, or the number of members if the cursor is on no member.
 #[derive(Default)]
 struct Plain {
     members: Vec<u32>,
@@ -19,17 +20,17 @@ impl Plain {
         self.members.get(self.at).copied()
     }
 
-    /// Where a step leads. There are as many positions as members, and one more.
+    /// Returns the position to which `by` steps forwards lead. The number of positions is the number of members plus 1.
     fn step(&self, by: usize) -> usize {
         (self.at + by) % (self.members.len() + 1)
     }
 
-    /// The gap after the cursor, by how many members are before it.
+    /// Returns the gap after the cursor, as the number of members before this gap.
     fn gap_after(&self) -> usize {
         self.step(1)
     }
 
-    /// Whether a place can be inserted.
+    /// Returns whether a place can be inserted, or the error with which it is refused.
     fn accepts(&self, place: u32) -> Result<(), Error> {
         if place as usize >= PLACES {
             Err(Error::OutOfRange)
@@ -40,7 +41,7 @@ impl Plain {
         }
     }
 
-    /// Puts places into a gap. The cursor stays on its member, or on none.
+    /// Inserts places into a gap. The cursor stays on its member, or on no member.
     fn insert(&mut self, gap: usize, places: &[u32]) {
         if gap <= self.at {
             self.at += places.len();
@@ -49,7 +50,7 @@ impl Plain {
     }
 }
 
-/// A cursor, another list or tree of its table, and both as they are to be.
+/// A cursor, another list or tree of the same table, and the members that both lists or trees should have.
 struct Session<'a, C: Kind> {
     cursor: CursorMut<'a, C>,
     other: &'a mut C,
@@ -178,7 +179,7 @@ fn looks_backward<C: Kind + Bidirectional>(it: &Session<'_, C>) {
     assert_eq!((iter.next(), iter.next_back()), (None, None));
 }
 
-/// Makes random commands, at one cursor some at a time, and unlinks random members then.
+/// Makes random commands, several of them at one cursor, and then removes random members by `retain`.
 fn run<C: Kind>(commands: &[Command<C>], checks: &[Check<C>]) {
     let mut random = Random::new(1);
     let mut table = vec![C::Link::default(); PLACES];

@@ -1,11 +1,12 @@
-//! Iterators, cursors and `retain` over any words.
+//! Tests iterators, cursors and `retain` over tables whose words are random.
 
 use super::*;
 
-/// How many tables of words are tried.
+/// The number of random tables that each test tries.
 const TABLES: u64 = 20_000;
 
-/// Any word: one that names a place of the table or another one, marked or not, one with bits that count for nothing, or none of these.
+/// Returns a random word. It may name a place inside or outside the table, may have the mark in bit 0, and may have bits set that the library
+/// ignores.
 fn any_word(random: &mut Random) -> u64 {
     let (word, noise) = (random.below(PLACES + 4) as u64 * 8, random.word());
     match random.below(8) {
@@ -17,7 +18,7 @@ fn any_word(random: &mut Random) -> u64 {
     }
 }
 
-/// Two lists or trees, and a table between two links that no call may touch, all of any words.
+/// Two lists or trees and a table, all with random words. Before and after the table there is a link that no call may touch.
 pub(super) struct Hostile<C: Kind> {
     pub(super) own: C,
     other: C,
@@ -77,7 +78,7 @@ fn walks_from_both_ends_end<C: Kind + Bidirectional>() {
     }
 }
 
-/// An edit, and whether it is made.
+/// The type of a function that makes an edit at a cursor, and returns whether the edit was accepted.
 pub(super) type Edit<C> = fn(&mut CursorMut<'_, C>, &mut C, u32) -> bool;
 
 pub(super) fn edits<C: Kind>() -> Vec<Edit<C>> {
@@ -114,7 +115,8 @@ fn both_moves<C: Kind + Bidirectional>() -> [Move<C>; 2] {
     [|cursor| cursor.move_next(), |cursor| cursor.move_prev()]
 }
 
-/// Moves, and edits at once. An edit that is refused changes nothing, and no edit changes what is outside of the table.
+/// Moves a cursor at random, and then edits. The test checks that a refused edit changes nothing, and that no edit changes a link outside the
+/// table.
 fn edits_stay_within<C: Kind>(moves: &[Move<C>], edits: &[Edit<C>]) {
     let mut made = 0;
     for seed in 0..TABLES {
@@ -146,7 +148,7 @@ fn one_edit<C: Kind>(hostile: &mut Hostile<C>, moves: &[Move<C>], edits: &[Edit<
     is_made
 }
 
-/// It asks about each member once at most, and ends.
+/// Checks that `retain` ends, and does not call its closure more often than the table has places.
 fn retain_ends<C: Kind>() {
     for seed in 0..TABLES {
         let mut hostile = Hostile::<C>::new(seed);
@@ -161,7 +163,7 @@ fn retain_ends<C: Kind>() {
     }
 }
 
-/// A list in which each member comes after itself, and whose first member is 5.
+/// Calls `retain` on a list whose first member is 5, and in which each member comes after itself.
 fn a_ring_is_broken<C: Kind>(mut own: C) {
     let mut table = vec![C::link(|| ic_word(5) | 1); PLACES];
     assert_eq!(members(&own, &table), [5; PLACES]);

@@ -1,4 +1,4 @@
-//! Tests of what is written once for all kinds: views, iterators, cursors and `retain`.
+//! Tests of the code that all lists and trees share: views, iterators, cursors and `retain`.
 
 extern crate std;
 
@@ -14,10 +14,10 @@ use ic_sys::*;
 use std::vec::Vec;
 use std::{format, vec};
 
-/// How many places a table of the tests has.
+/// The number of places of each table in the tests.
 const PLACES: usize = 12;
 
-/// A generator of Marsaglia's kind: three shifts.
+/// A generator of random numbers by three shifts, as Marsaglia described it.
 struct Random(u64);
 
 impl Random {
@@ -36,13 +36,13 @@ impl Random {
         (self.word() >> 16) as usize % bound
     }
 
-    /// A place of the table, or the first that is none.
+    /// Returns a place of the table, or the first number that is no place of the table.
     fn place(&mut self) -> u32 {
         self.below(PLACES + 1) as u32
     }
 }
 
-/// A kind, whose words the tests read and make.
+/// A kind of list or tree, whose words the tests read and make.
 trait Kind: Collection<Link: Copy + Default> + Clone + Default {
     fn link(word: impl FnMut() -> u64) -> Self::Link;
 
@@ -54,7 +54,7 @@ trait Kind: Collection<Link: Copy + Default> + Clone + Default {
 
     fn is_empty(&self) -> bool;
 
-    /// What the call returns that hands out the first member.
+    /// Makes the call that hands out the first member, and returns its result.
     fn first_by_call(self, table: &mut [Self::Link]) -> Result<Option<u32>, Error>;
 }
 
@@ -94,7 +94,7 @@ kind!(XorList, ic_xor_list { head, tail }, Link1, ic_link1 { next }, XorList::po
 kind!(Tree, ic_tree { root }, Link3, ic_link3 { left, right, parent }, |tree: &mut Tree, table: &mut [Link3]| tree
     .first(table));
 
-/// All words of a table and of a list or tree.
+/// Returns all words of a table and of a list or tree.
 fn words_of<C: Kind>(collection: &C, table: &[C::Link]) -> Vec<Vec<u64>> {
     let mut words = vec![collection.own_words()];
     words.extend(table.iter().map(C::words));

@@ -1,11 +1,11 @@
-//! A word is read as the calls read it: its number is that of the bits 3 to 35.
+//! Tests that this crate reads a word as the calls of C do: bits 3 to 35 are its number.
 
 use super::hostile::{edits, edits_both_ways, edits_of_lists, edits_of_stacks, Edit, Hostile};
 use super::*;
 
-/// The highest bit of a number. No place in a `u32` has it.
+/// The highest bit of the number in a word. No word for a `u32` has this bit.
 const HIGHEST: u64 = 1 << 35;
-/// The bits that count for nothing in each word, but the lowest one, which may be a mark.
+/// The bits that the library ignores in each word. Bit 0, which may be a mark, is not one of them.
 const NOISE: u64 = !((1 << 36) - 1) | 0b110;
 
 #[test]
@@ -22,7 +22,7 @@ fn a_word_names_one_place() {
     }
 }
 
-/// A list or tree of up to all places of a table.
+/// Returns a list or tree that has some or all places of a table.
 fn random_collection<C: Kind>(random: &mut Random) -> (C, Vec<C::Link>) {
     let (mut own, mut table) = (C::default(), vec![C::Link::default(); PLACES]);
     for _ in 0..random.below(2 * PLACES) {
@@ -35,7 +35,8 @@ fn random_collection<C: Kind>(random: &mut Random) -> (C, Vec<C::Link>) {
     (own, table)
 }
 
-/// The same words, but that bits are set which count for nothing. The second word of a link has no mark.
+/// Returns the words of a list or tree and of its table, and sets random bits that the library ignores. In the second word of a link, bit 0 is
+/// no mark and may be set, too.
 fn with_noise<C: Kind>(own: &C, table: &[C::Link], random: &mut Random) -> (C, Vec<C::Link>) {
     let mut words = own.own_words().into_iter();
     let noisy = C::collection(|| words.next().unwrap() | random.word() & (NOISE | 1));
@@ -46,7 +47,7 @@ fn with_noise<C: Kind>(own: &C, table: &[C::Link], random: &mut Random) -> (C, V
     (noisy, links.collect())
 }
 
-/// Edits at a cursor are the same with noise and without.
+/// Checks that edits at a cursor have the same results with the ignored bits and without them.
 fn noise_counts_for_nothing<C: Kind>(edits: &[Edit<C>]) {
     let mut random = Random::new(3);
     for _ in 0..2_000 {
@@ -68,7 +69,7 @@ fn noise_counts_for_nothing<C: Kind>(edits: &[Edit<C>]) {
     }
 }
 
-/// A list or tree whose word has the highest bit is not empty, and has no members that a table could have.
+/// Checks that a list or tree whose words have the highest bit is not empty, but has no members in the table.
 fn the_highest_bit_names_no_first_member<C: Kind>() {
     let mut random = Random::new(4);
     for _ in 0..2_000 {
@@ -80,7 +81,7 @@ fn the_highest_bit_names_no_first_member<C: Kind>() {
     }
 }
 
-/// A walk through a list ends at a link whose word has the highest bit.
+/// Checks that a walk through a list ends at a link whose words have the highest bit.
 fn the_highest_bit_names_no_next_member<C: Kind>() {
     let mut random = Random::new(5);
     for _ in 0..2_000 {
@@ -94,7 +95,7 @@ fn the_highest_bit_names_no_next_member<C: Kind>() {
     }
 }
 
-/// Whatever the words say, a list or tree is empty if the call says that it has no first member.
+/// Checks, for random words, that a list or tree is empty exactly if a call of C finds no first member.
 fn empty_is_what_calls_see<C: Kind>() {
     let mut empty = 0;
     for seed in 0..20_000 {

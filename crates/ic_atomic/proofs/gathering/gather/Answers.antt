@@ -24,7 +24,7 @@ push_back-requires-clause-covered g c =
 pub push_back-requires-clause-shown : goal.push_back-requires-clause-shown
 push_back-requires-clause-shown g c = c.loop-object.invariant.shown
 
--- the claimed places with the current place are the first offered places, one more than before
+-- the places claimed before this turn, followed by the place of this turn, are the first `object-index` + 1 offered places
 module _ (g : given.Over) (c : goal.After-passed-in-loop-object g) where
   seen_more : take c.loop-object.object-index c.args.offered.now ++ c.new.result ∷ [] ≡ take (c.loop-object.object-index + 1) c.args.offered.now
   seen_more =

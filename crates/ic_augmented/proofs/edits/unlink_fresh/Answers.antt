@@ -21,10 +21,10 @@ settle_without-requires-clause-member g c =
     let n = g.N.NodeStore.node in
     let p = c.args.place in
     let m = c.requires.member in
-    (_, m.front ++ m.back, (unlinked n _ _ _ _ m.front p m.back c.unlink_marking-edge.ensures.taken m.shown (unchanged n _ p)).shows, unlinked_edge n _ _ _ m.front p m.back m.shown c.unlink_marking-edge.ensures.inside)
+    (_, m.front ++ m.back, (unlinked n _ _ _ _ m.front p m.back c.unlink_marking-edge.ensures.taken m.shown (unchanged n _ p)).shows, unlinked_edge n _ _ _ m.front p m.back m.shown c.unlink_marking-edge.ensures.marked.inside)
 
 pub settle_without-requires-clause-covered : goal.settle_without-requires-clause-covered
-settle_without-requires-clause-covered g c q is = c.unlink_marking-edge.ensures.covers q (c.requires.covered q (sym (c.unlink_marking-edge.ensures.linked q) ∙ is))
+settle_without-requires-clause-covered g c q is = c.unlink_marking-edge.ensures.marked.covers q (c.requires.covered q (sym (c.unlink_marking-edge.ensures.marked.linked q) ∙ is))
 
 pub refresh_below-requires-clause-tree : goal.refresh_below-requires-clause-tree
 refresh_below-requires-clause-tree g c =
@@ -34,7 +34,7 @@ refresh_below-requires-clause-tree g c =
 
 pub refresh_below-requires-clause-covered : goal.refresh_below-requires-clause-covered
 refresh_below-requires-clause-covered g c q is =
-    c.settle_without.ensures.covers q (c.unlink_marking-edge.ensures.covers q (c.requires.covered q (sym (c.unlink_marking-edge.ensures.linked q) ∙ is)))
+    c.settle_without.ensures.covers q (c.unlink_marking-edge.ensures.marked.covers q (c.requires.covered q (sym (c.unlink_marking-edge.ensures.marked.linked q) ∙ is)))
 
 pub returns-clause-fresh : goal.returns-clause-fresh
 returns-clause-fresh g c front back h =
@@ -43,9 +43,9 @@ returns-clause-fresh g c front back h =
     let w = g.N.NodeStore.table c.unlink_marking-edge.new.summed.links in
     let taken = c.unlink_marking-edge.ensures.taken in
     let shown = (unlinked n _ _ _ _ front p back taken h.0 (unchanged n _ p)).shows in
-    let but = c.unlink_marking-edge.ensures.consistent (front ++ p ∷ back) h.1 in
+    let but = c.unlink_marking-edge.ensures.marked.consistent (front ++ p ∷ back) h.1 in
     let out = unlinked_absent n _ _ _ _ front p back taken h.0 in
-    let edge = unlinked_edge n _ _ _ front p back h.0 c.unlink_marking-edge.ensures.inside in
+    let edge = unlinked_edge n _ _ _ front p back h.0 c.unlink_marking-edge.ensures.marked.inside in
     let right = c.settle_without.ensures.consistent _ (front ++ back) shown edge out (without_member n w _ _ front p back but) in
     let fresh = c.refresh_below.ensures.refreshed None shown.tree shown.held.entries (c.root-top.ensures ∙ shown.starts) in
     all_fresh n _ _ _ (front ++ back)
@@ -62,7 +62,7 @@ returns-clause-beside g c =
     let z3 = g.M.Summaries.summaries c.refresh_below.new.summaries in
     let z4 = g.M.Summaries.summaries c.invalidate.new.self in
     let r = unlinked n _ _ _ _ m.front p m.back c.unlink_marking-edge.ensures.taken m.shown (unchanged n _ p) in
-    let edge = unlinked_edge n _ _ _ m.front p m.back m.shown c.unlink_marking-edge.ensures.inside in
+    let edge = unlinked_edge n _ _ _ m.front p m.back m.shown c.unlink_marking-edge.ensures.marked.inside in
     let fresh = c.refresh_below.ensures.refreshed None r.shows.tree r.shows.held.entries (c.root-top.ensures ∙ r.shows.starts) in
     record {
       others = λ s t other shown apart h.
@@ -70,20 +70,20 @@ returns-clause-beside g c =
           let both = disjoint_remove m.front m.back t p (disjoint_sym t (m.front ++ p ∷ m.back) from) in
           let still = represents_frame h.0 from r.frame in
           let out = (disjoint_sym t (p ∷ m.back) (disjoint_right t m.front (p ∷ m.back) from)).0 in
-          let right = c.settle_without.ensures.others _ other (m.front ++ m.back) t r.shows edge still both out (c.unlink_marking-edge.ensures.consistent t h.1) in
+          let right = c.settle_without.ensures.others _ other (m.front ++ m.back) t r.shows edge still both out (c.unlink_marking-edge.ensures.marked.consistent t h.1) in
           let recomputed = others_consistent n _ _ _ other t fresh.join (λ q k. fresh.frame q (holds_out r.shows.held q (member_out q (m.front ++ m.back) t both k))) (still, right) in
           invalidated_represents n _ _ _ other t p out c.invalidate.ensures.invalidated recomputed;
       same = λ s shown within q absent.
           let out = absent_out q s absent in
           let written = written_among z0 s within in
-          let put = subst (λ (S : Place → Bool). IsWrittenIn z0 S → IsSameBeside z0 z1 S) (members_are n shown) c.unlink_marking-edge.ensures.beside written in
+          let put = subst (λ (S : Place → Bool). IsWrittenIn z0 S → IsSameBeside z0 z1 S) (members_are n shown) c.unlink_marking-edge.ensures.marked.beside written in
           let beyond : IsAbsent q (m.front ++ p ∷ m.back) = subst (IsAbsent q) (one_sequence shown m.shown) absent in
           let others = absent_without m.front m.back p q beyond in
           let settled = c.settle_without.ensures.beside _ (m.front ++ m.back) r.shows edge q others in
           let stale = invalidated_same z3 z4 p q c.invalidate.ensures.invalidated (absent_right q m.front (p ∷ m.back) beyond).0 in
           same_on z0 z1 z4 q (put q out) (same_on z1 z2 z4 q settled (same_on z2 z3 z4 q (fresh.frame q (holds_out r.shows.held q others)) stale));
-      join = c.invalidate.ensures.invalidated.join ∙ (fresh.join ∙ (c.settle_without.ensures.join ∙ c.unlink_marking-edge.ensures.join));
-      covers = λ q h. c.invalidate.ensures.covers q (c.refresh_below.ensures.covers q (c.settle_without.ensures.covers q (c.unlink_marking-edge.ensures.covers q h)));
+      join = c.invalidate.ensures.invalidated.join ∙ (fresh.join ∙ (c.settle_without.ensures.join ∙ c.unlink_marking-edge.ensures.marked.join));
+      covers = λ q h. c.invalidate.ensures.covers q (c.refresh_below.ensures.covers q (c.settle_without.ensures.covers q (c.unlink_marking-edge.ensures.marked.covers q h)));
       extent = r.frame.extent;
       adapter = c.unlink_marking-edge.ensures.adapter;
     }

@@ -1,15 +1,14 @@
 use Rattle.std.proofs.Common.{subst, sym}
 use Rattle.ic_link_ops.specs.LinkedList.{Represents, members}
-use Rattle.ic_container.proofs.EditLemmas.{done, joined_front, refused_linked}
 use Rattle.ic_container.proofs.HoldsLemmas.{list_reading}
 use Rattle.ic_container.proofs.lists.push_front.Goals as goal
 
 pub returns : goal.returns
 returns g c =
     let links = c.args.links.now in
+    let t = g.L.LinkOps.table links in
     let e = rw c.new.ensures at c.push_front.ensures in
-    let shown = c.requires.shown.1 in
     let reading = list_reading {table = g.L.LinkOps.table} (record { alike = g.met.L.LinkedListOps.linked_alike; covered = g.met.L.LinkOps.linked_is_covered }) in
-    joined_front (members g.L.LinkedListOps.neighbors (g.L.LinkOps.table links) c.args.list.now) (subst (Represents g.L.LinkedListOps.neighbors (g.L.LinkOps.table links) c.args.list.now) (sym (reading.members_are links c.args.list.now _ shown)) shown) _ c.push_front.result
-    c.requires.unlinked (refused_linked c.push_front.result (g.met.L.AcceptsUnlinked.refused_is_linked links c.push_front.new.links c.args.place) e.refused) e.inserted
-    (done c.push_front.result (g.met.L.LinkOps.does_replay links c.push_front.new.links _) e.acquired) e.frame
+    let s = members g.L.LinkedListOps.neighbors t c.args.list.now in
+    let shown = subst (Represents g.L.LinkedListOps.neighbors t c.args.list.now) (sym (reading.members_are links c.args.list.now _ c.requires.shown.1)) c.requires.shown.1 in
+    record { was = shown; is = e.shown s shown; also = e.linked; frame = e.frame s shown }

@@ -4,5 +4,5 @@ use Rattle.ic_container.proofs.lists.remove.Goals as goal
 pub returns : goal.returns
 returns g c =
     let e = rw c.new.ensures at c.remove.ensures in
-    let links = c.args.links.now in
-    (c.requires.member.front, c.requires.member.back, left c.requires.member e.removed (g.met.L.LinkOps.does_replay links c.remove.new.links _ e.released) e.frame)
+    let m = c.requires.member in
+    (m.front, m.back, left m e.shown e.unlinked e.frame)

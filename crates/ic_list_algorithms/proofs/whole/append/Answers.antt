@@ -1,4 +1,4 @@
-use Rattle.std.proofs.Common.{[], inl, refl, sym, ◌∙◌, append-nil}
+use Rattle.std.proofs.Common.{[], inl, refl, sym, ◌∙◌, append-nil, rules}
 use Rattle.ic_link_ops.specs.Sequences.{at_back}
 use Rattle.ic_link_ops.proofs.RepresentedLists.{last_linked, gap_after_linked}
 use Rattle.ic_chain.proofs.Standing.{last_kept}
@@ -18,8 +18,12 @@ splice_between-requires-clause-end g c q e =
     let p = c.requires.two in
     last_linked g.met.K.ForwardLinks.between_linked p.other (sym e ∙ c.last-end.ensures ∙ last_kept g.K.ListKind.kept g.K.ListKind.kept_last g.met.K.DoubleEnded.keeps_both g.met.K.ListKind.tells_last p.other.tail)
 
-pub returns-clause-appended : goal.returns-clause-appended
-returns-clause-appended g c s u shown other apart =
-    c.splice_between.ensures.spliced (at_back s) u (rw append-nil shown)
-    (c.last-last.ensures ∙ last_kept g.K.ListKind.kept g.K.ListKind.kept_last g.met.K.DoubleEnded.keeps_both g.met.K.ListKind.tells_last shown.tail) refl (rw c.take-given.ensures.whole other)
-    (inl (c.last-end.ensures ∙ last_kept g.K.ListKind.kept g.K.ListKind.kept_last g.met.K.DoubleEnded.keeps_both g.met.K.ListKind.tells_last other.tail)) (rw append-nil apart)
+pub returns : goal.returns
+returns g c = record {
+  appended = λ s u shown other apart.
+      c.splice_between.ensures.spliced (at_back s) u (rw append-nil shown)
+      (c.last-last.ensures ∙ last_kept g.K.ListKind.kept g.K.ListKind.kept_last g.met.K.DoubleEnded.keeps_both g.met.K.ListKind.tells_last shown.tail) refl (rw c.take-given.ensures.whole other)
+      (inl (c.last-end.ensures ∙ last_kept g.K.ListKind.kept g.K.ListKind.kept_last g.met.K.DoubleEnded.keeps_both g.met.K.ListKind.tells_last other.tail)) (rw append-nil apart);
+  empty = search rules;
+  trace_stays = search rules;
+}

@@ -6,7 +6,7 @@ use Rattle.ic_plain.specs.SortedTrees.{IsInOrder}
 use Rattle.ic_plain.proofs.KeyOrder.{inserted, inserted_in_order}
 use Rattle.ic_plain.proofs.rbtree.insert.Goals as goal
 
--- a call cannot refuse an object that is not linked, so what an accepted call states holds
+-- a call cannot refuse an object that is not linked, so the clause for an accepted call holds
 accepted : {A X P Refused : Type 0} {was : Bool} (r : Result A X) → (Refused → was ≡ true) → was ≡ false → OnErr r Refused → OnOk r P → P
 accepted (Ok a) law off refused holds = holds
 accepted (Err x) law off refused holds = let never : false ≡ true = sym off ∙ law refused in absurd (cc)

@@ -1,4 +1,4 @@
--- Each call of the table is the call that the line stands for, and is a step of a sound family.
+-- Each call of the table is the call that the line means, and is a step from a sound family.
 use Rattle.std.proofs.Common.{codes, refl}
 use Rattle.ic_world.specs.declared.call.Command.TheVariants as call
 use Rattle.ic_any_collection.specs.declared.gap.Gap.TheVariants.{Front, Back, Before, After}

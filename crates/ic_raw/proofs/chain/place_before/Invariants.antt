@@ -9,7 +9,7 @@ use Rattle.ic_raw.proofs.HashWalks.{Comes}
 use Rattle.ic_raw.proofs.Own.{IsPast}
 use Rattle.ic_raw.proofs.chain.place_before.Given as goal
 
--- before each step, `before` is none or linked, and `current` is the place after it. If `before` is a place, the member is not the first. In each
+-- before each step, `before` is none or linked, and `current` is the place after it. If `before` is a place, `member` is not the first. In each
 -- sequence that the words represent, the walk has passed only other members
 abbrev pub invariant-loop-left : goal.invariant-loop-left
 invariant-loop-left l = record {

@@ -7,8 +7,8 @@ use Rattle.ic_raw.specs.Tables.{nameable_table}
 use Rattle.ic_raw.proofs.Runs.{Fills, LinksRun}
 use Rattle.ic_raw.proofs.fill.link_run.Given as goal
 
--- before each step, the places beside the gap are none or linked. If the run is free, the places before the number are linked and are in the list,
--- and the places after them are free
+-- before each step, the places beside the gap are none or linked. If the run is free, the places of the run with a number below `number` are linked
+-- and in the list, and the other places of the run are free
 abbrev pub invariant-loop-left : goal.invariant-loop-left
 invariant-loop-left g l = record {
   small : l.number < 4294967296;

@@ -12,8 +12,8 @@ use Rattle.ic_raw.specs.Words.{is_linked_three}
 use Rattle.ic_raw.proofs.TreeWalks.{HasComeTo}
 use Rattle.ic_raw.proofs.tree_clear.leads_to_end.Given as goal
 
--- before each step, a walk through the tree, as an edit reads it, has come to `at`. Whatever the words say, a step leads to `at` from none or from a
--- linked place, to which steps have led
+-- before each step, a walk through the tree, as an edit reads it, has come to `at`. Whatever the words say, a step leads to `at` from the place
+-- `from`, which is none or linked. If steps from `from` lead to an end, then steps from the first member do so, too
 abbrev pub invariant-loop-left : goal.invariant-loop-left
 invariant-loop-left l =
     let t = lent_table l.fn.links in

@@ -16,7 +16,7 @@ use Rattle.ic_raw.proofs.Views.{unlinks_none}
 use Rattle.ic_raw.proofs.Xor.{other_after, unlinks_more}
 use Rattle.ic_raw.proofs.xor_list.release_all.Goals as goal
 
--- the word of the member p and its previous place give the place after p, which is the member after p in the sequence
+-- the word of the member p and the place before p name the place after p. This place is the member after p in the sequence
 after : {old new : Table RawOne} {s : List Place} {p : Place} {prev next : Option Place}
     → (k : Releases (IsJoined is_linked_one HasNeighbors) old new s (Some p)) → prev ≡ last k.done → next ≡ other (new.entry p) prev → next ≡ first (drop 1 k.rest)
 after {new = new} {p} k prev next = next ∙ rw prev (other_after (new.entry p) _ _ (next_between k).joined)

@@ -6,7 +6,7 @@ use Rattle.ic_raw.specs.Tree.{lent_table}
 use Rattle.ic_raw_augmented.proofs.Searches.{FindsBelow}
 use Rattle.ic_raw_augmented.proofs.find.first_below.Given as goal
 
--- a result that is right for the search from the current place is right for the search from the first place
+-- a result that is right for the search from the place of this turn is right for the search from the first place
 abbrev pub invariant-loop : goal.invariant-loop
 invariant-loop l =
     let t = lent_table l.fn.links in

@@ -5,7 +5,7 @@ use Rattle.ic_raw_augmented.specs.Ends.{EndsAbove}
 use Rattle.ic_raw_augmented.proofs.Searches.{SumsAbove}
 use Rattle.ic_raw_augmented.proofs.find.sum_above.Given as goal
 
--- a result that is right for the search from the current place is right for the search from the first place
+-- a result that is right for the sum from the place of this turn is right for the sum from the first place
 abbrev pub invariant-loop : goal.invariant-loop
 invariant-loop l =
     let t = lent_table l.fn.links in

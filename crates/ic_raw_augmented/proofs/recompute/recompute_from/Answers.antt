@@ -12,7 +12,7 @@ use Rattle.ic_raw_augmented.specs.Sums.{IsSummedBut}
 use Rattle.ic_raw_augmented.proofs.Recomputing.{off_also}
 use Rattle.ic_raw_augmented.proofs.recompute.recompute_from.Goals as goal
 
--- if no place is given, no member is the given place, so the sums are already right at all members that are required
+-- if no place is given, no member is the given place, so the sums are already right at all members of s that are not in `but`
 pub returns-in_default-clause-right : goal.returns-in_default-clause-right
 returns-in_default-clause-right c root s but shown right q m off =
     right q m (off_also c.args.place but q (is_end_not c.args.place q (λ e. none_not q (sym c.in_default.is ∙ e))) off)

@@ -7,7 +7,7 @@ use Rattle.ic_raw.specs.TreeShape.{IsSeen}
 use Rattle.ic_raw_augmented.specs.Sums.{IsNear, IsSummedBut, KeepsValues, StaysBeside}
 use Rattle.ic_raw_augmented.proofs.recompute.recompute_up.Given as goal
 
--- if the sums were wrong only at the first place of the way up, they are now wrong only at the current place
+-- if the sums were wrong only at the first place of the way up, they are wrong only at the place of this turn
 abbrev pub invariant-loop : goal.invariant-loop
 invariant-loop l =
     let t = lent_table l.fn.links in

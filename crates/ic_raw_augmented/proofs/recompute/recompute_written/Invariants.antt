@@ -6,7 +6,7 @@ use Rattle.ic_raw_augmented.specs.Sums.{IsSummedBut, KeepsValues}
 use Rattle.ic_raw_augmented.specs.Written.{is_among}
 use Rattle.ic_raw_augmented.proofs.recompute.recompute_written.Given as goal
 
--- the sums are right at all members except the recorded places at which the loop has not yet computed them again
+-- the sums are right at all members except those recorded places from which the loop has not yet computed sums again
 abbrev pub invariant-loop-word : goal.invariant-loop-word
 invariant-loop-word l = record {
   right : (root : Option Place) (s : List Place) → IsSeen (lent_table l.fn.links) root s

@@ -7,8 +7,8 @@ use Rattle.ic_raw.proofs.HashWalks.{Comes}
 use Rattle.ic_raw_keyed.specs.Growth.{LeadsToLinked}
 use Rattle.ic_raw_keyed.proofs.growth.can_move.Given as goal
 
--- The places that the walk has passed are linked, and their hashes lead to buckets that are empty or begin with linked places. In each represented sequence at
--- most `left` members are left
+-- The places that the walk has passed are linked, and their hashes lead to buckets that are empty or begin with linked places. In each sequence that the table
+-- represents, the walk has still to visit at most `left` members
 abbrev pub invariant-loop-left : goal.invariant-loop-left
 invariant-loop-left l = record {
   comes : (s : List Place) → Represents (lent_table l.fn.links) (list_from l.fn.front) s

@@ -24,7 +24,7 @@ returns-then-to_word c s ring =
     let same = same_word _ _ c.to_word.ensures.value c.to_word-in-loop-count.ensures.value (eq-eqb _ _ c.if-to_word.true) in
     is_among c.args.apart k.passed c.loop-count.at rest.0 same (subst (IsNotAmong c.args.apart) rest.1 ring.out)
 
--- the words represent no ring, because in a ring each place leads to a next place
+-- the words represent no ring, because the place of this turn names no next place, and each place of a ring does
 pub returns-in_default : goal.returns-in_default
 returns-in_default c s ring =
     let k = c.loop-count.invariant.0 in

@@ -1,4 +1,4 @@
-use Rattle.std.proofs.Common.{◌∷◌, ◌++◌}
+use Rattle.std.proofs.Common.{◌∷◌, ◌++◌, rules}
 use Rattle.ic_ring.proofs.Circles.{next_not, rotated, seen_from, seen_at, next_in_ring, next_stands, circle_after, after_apart}
 use Rattle.ic_ring.proofs.OtherRings.{others_from}
 use Rattle.ic_ring.proofs.beside.insert_after.Goals as goal
@@ -14,27 +14,23 @@ insert_between-requires g c =
       before = (next_stands ring.0 ring.1 c.next_of-next.ensures).1;
     }
 
-pub returns-clause-inserted : goal.returns-clause-inserted
-returns-clause-inserted g c head front back shown =
-    let put = circle_after (back ++ head ∷ front) (seen_from front c.args.at back shown) c.next_of-next.ensures c.if-not-insert_between.ensures.inserted in
-    rw (← c.place.ensures) (rotated (c.args.at ∷ c.place.result ∷ back) (head ∷ front) put)
-
-pub returns-clause-at_head : goal.returns-clause-at_head
-returns-clause-at_head g c s shown = rw (← c.place.ensures) (circle_after s shown c.next_of-next.ensures c.if-not-insert_between.ensures.inserted)
-
-pub returns-clause-acquired : goal.returns-clause-acquired
-returns-clause-acquired g c = rw (← c.place.ensures) c.if-not-insert_between.ensures.acquired
-
-pub returns-clause-others : goal.returns-clause-others
-returns-clause-others g c =
-    let ring = c.requires.ring in
-    others_from (λ r circle out. after_apart r c.args.at circle out (next_stands ring.0 ring.1 c.next_of-next.ensures).1) c.insert_between.ensures.others
-
-pub returns-clause-frame : goal.returns-clause-frame
-returns-clause-frame g c r ring =
-    let seen = seen_at ring.0 ring.1 in record {
-      extent = c.insert_between.ensures.extent;
-      others = λ q out.
-          let apart = seen.2 q out.1 in
-          c.insert_between.ensures.beside q apart.0 (rw c.place.ensures out.0) (next_not seen.0 seen.1 c.next_of-next.ensures apart);
-    }
+pub returns : goal.returns
+returns g c = record {
+  inserted = λ head front back shown.
+      let put = circle_after (back ++ head ∷ front) (seen_from front c.args.at back shown) c.next_of-next.ensures c.if-not-insert_between.ensures.inserted in
+      rw (← c.place.ensures) (rotated (c.args.at ∷ c.place.result ∷ back) (head ∷ front) put);
+  at_head = λ s shown. rw (← c.place.ensures) (circle_after s shown c.next_of-next.ensures c.if-not-insert_between.ensures.inserted);
+  acquired = rw (← c.place.ensures) c.if-not-insert_between.ensures.acquired;
+  refused = search rules;
+  unchanged = search rules;
+  others =
+      let ring = c.requires.ring in
+      others_from (λ r circle out. after_apart r c.args.at circle out (next_stands ring.0 ring.1 c.next_of-next.ensures).1) c.insert_between.ensures.others;
+  frame = λ r ring.
+      let seen = seen_at ring.0 ring.1 in record {
+        extent = c.insert_between.ensures.extent;
+        others = λ q out.
+            let apart = seen.2 q out.1 in
+            c.insert_between.ensures.beside q apart.0 (rw c.place.ensures out.0) (next_not seen.0 seen.1 c.next_of-next.ensures apart);
+      };
+}

@@ -13,7 +13,7 @@ stands_in-requires g c =
     let r = c.requires in
     (r.0, rw c.deref.ensures.value (subst (λ list. Rises 0 r.0 list.items) (sym c.list-item.is) (rises_at r.0 c.args.lists.now r.1 c.loop-list.list-index c.list-item.result c.loop-list-test.true)))
 
--- the number of lists that contain the index, up to the current list
+-- the number of lists that contain the index, up to and including the list of this turn
 module _ (g : given.Over) (c : goal.Joined-stands_in g) where
   one_more : times (places_in (take (c.loop-list.list-index + 1) c.args.lists.now)) c.args.index ≡ c.loop-list.count + cond c.stands_in.result 1 0
   one_more =

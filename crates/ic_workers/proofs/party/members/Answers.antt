@@ -27,7 +27,7 @@ move_next-requires g c =
     let gap = gap_after (record { front = c.loop-place.places.items; back = k.rest }) (position (λ at. at) c.loop-place.cursor) k.at in
     record { stands = stands_here gap.0 (rw (i.links, i.list, gap.1) (rw k.is at s.1)) gap.2 tt refl }
 
--- the member at which the cursor was has been seen, and the cursor is at the next member
+-- the walk has visited the member at which the cursor was, and the cursor is at the next member
 module _ (g : given.Over) (c : goal.After-move_next g) (s : List Place) (shown : Represents g.L.LinkedListOps.neighbors (g.L.LinkOps.table c.args.links.now) c.args.list.now s) where
   here : Some c.in-Some.place ≡ position (λ at. at) c.loop-place.cursor
   here = sym c.in-Some.is ∙ c.get_ptr.ensures

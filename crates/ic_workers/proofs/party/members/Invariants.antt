@@ -5,7 +5,7 @@ use Rattle.ic_cursors.specs.Cursor.{list_of, links_of, position}
 use Rattle.ic_workers.proofs.Walking.{Seen}
 use Rattle.ic_workers.proofs.party.members.Given as goal
 
--- the cursor is at the first member that was not seen yet
+-- the cursor is at the first member that the walk has not visited
 abbrev pub invariant-loop-place : goal.invariant-loop-place
 invariant-loop-place g l = record {
   list : list_of l.cursor ≡ l.fn.list;

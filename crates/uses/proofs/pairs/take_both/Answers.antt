@@ -1,7 +1,7 @@
 use Rattle.std.proofs.Common.{◌≡◌, Option, arith, IfNone, false, is_some, sym, ◌∙◌, rules}
 use Rattle.uses.proofs.pairs.take_both.Goals as goal
 
--- if the result is `None`, then what a contract says of the result `None` holds
+-- `IfNone r P` says that `P` holds if the option `r` is `None`. So if `r` is `None`, then `P` holds
 none_says : {A P : Type 0} (r : Option A) → is_some r ≡ false → IfNone r P → P
 none_says r e h = grind arith
 

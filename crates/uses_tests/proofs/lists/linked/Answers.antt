@@ -5,7 +5,7 @@ use Rattle.ic_link_ops.proofs.CollectionLaws.{new_represents_nothing}
 use Rattle.ic_link_ops.proofs.DoublyLists.{plain_lists}
 use Rattle.uses_tests.proofs.lists.linked.Goals as goal
 
--- if there is an object at each member of a sequence and at the place p, then there is an object at each member of the sequence followed by p
+-- if there is an object at each member of the sequence `s` and at the place `p`, then there is an object at each member of `s` followed by `p`
 placed_last : {T : Type 0} (objects : Objects T) (p : Place) → is_placed objects p ≡ true → (s : List Place) → ArePlaced objects s → ArePlaced objects (s ++ p ∷ [])
 placed_last objects p there [] placed = (there, tt)
 placed_last objects p there (x ∷ s) placed = (placed.0, placed_last objects p there s placed.1)

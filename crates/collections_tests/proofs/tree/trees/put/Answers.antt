@@ -6,7 +6,7 @@ use Rattle.ic_rbtree.specs.PlainTrees.{PlainRepresentsSome}
 use Rattle.ic_rbtree.specs.Tree.{root_of}
 use Rattle.collections_tests.proofs.tree.trees.put.Goals as goal
 
--- if the goal holds for an insert that is accepted and for one that is refused, then it holds for each result of the insert
+-- `Goal` holds for each result of an insert if it holds for an accepted insert and for a refused insert
 either_way : {A X P Q Goal : Type 0} {U : X → Type 0} (r : Result A X) → OnOk r P → OnErr r Q → IfErr r U → (P → Goal) → ((x : X) → Q → U x → Goal) → Goal
 either_way (Ok a) holds refused left accepts refuses = accepts holds
 either_way (Err e) holds refused left accepts refuses = refuses e refused left

@@ -5,7 +5,7 @@ use Rattle.ic_link_ops.proofs.XorLists.{joined_symmetric}
 use Rattle.ic_link_ops.proofs.RepresentedLists.{represents_reversed}
 use Rattle.ic_any_collection.proofs.any_collection.AnyCollection.reverse.Goals as goal
 
--- A TABLE THAT KEEPS s for an XOR list keeps the reverse of s for the reversed list. No entry changes
+-- A TABLE THAT KEEPS s for an XOR list (`Keeps`) also keeps the reverse of s for the reversed list. No entry changes
 keeps_turned : {V : Type 0} {t : Table Entry} {l l' : Ends} {at at' : Option PlaceAndNext} {s : List Place} → Keeps {V = V} t (Xor l at) s
     → l' ≡ list_head l.tail l.head → at' ≡ None → Keeps {V = V} t (Xor l' at') (reverse s)
 keeps_turned {s = s} kept list null = record {

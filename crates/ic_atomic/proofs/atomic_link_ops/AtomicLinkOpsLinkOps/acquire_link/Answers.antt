@@ -6,7 +6,7 @@ use Rattle.ic_atomic.proofs.AtomicTables.{certain, not_refused, held_with}
 use Rattle.ic_atomic.proofs.atomic_link_ops.AtomicLinkOpsLinkOps.acquire_link.Given as given
 use Rattle.ic_atomic.proofs.atomic_link_ops.AtomicLinkOpsLinkOps.acquire_link.Goals as goal
 
--- the table cannot refuse the place, because the holder did not hold it, so that it was not linked
+-- after the claim succeeded, the table cannot refuse to link the place. The holder did not hold the place before the claim, so the table did not link it
 never : (g : given.Over) (c : goal.After-acquire_link g) → OnFalse c.acquire_link.result ⊥
 never g c =
     let free : g.L.LinkOps.linked ((g.L.LinkOps.table c.args.self.now.links).entry c.args.place) ≡ false = c.args.self.now.held c.args.place ∙ c.if-claim.ensures.claimed.was in

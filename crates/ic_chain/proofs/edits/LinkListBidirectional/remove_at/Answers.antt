@@ -49,7 +49,7 @@ removes g c gap shown is_before =
       frame = rw is (c.unlink.ensures.frame gap.front rest whole before after);
     }
 
--- the place that was read as the next place is the second place after the gap
+-- the place that the call read as the next place of the removed member is the second place after the gap
 moves : (g : Over) (c : goal.After-drop-at g) (gap : Cut) → RepresentsChain g.K.ForwardLinks.Between g.K.ListKind.kept (g.L.LinkOps.table c.args.links.now) c.args.self.now (join gap)
     → IsBefore gap (g.K.Position.Position.member c.args.at.now) → IsSecondAfter gap c.after-after.result
 moves g c gap shown is_before =

@@ -7,7 +7,7 @@ use Rattle.ic_link_ops.proofs.StepLemmas.{releases_append}
 use Rattle.ic_chain.proofs.list.LinkList.clear.Goals as goal
 use Rattle.ic_chain.proofs.list.LinkList.clear.Given.{Over}
 
--- while `clear` unlinks the members of s, the place that the entry of p names is the second of the members that are left
+-- while `clear` unlinks the members of s, p is the first of the members that are left, and the entry of p names the second of them, if any
 after : (g : Over) {old new : Table g.row.L-Entry.Denot} {s : List Place} {p : Place} {prev next : Option Place}
     → (k : Releases g.K.ForwardLinks.Between old new s (Some p)) → prev ≡ last k.done → next ≡ g.K.ForwardLinks.step (new.entry p) prev
     → next ≡ first (drop 1 k.rest)

@@ -7,7 +7,7 @@ use Rattle.ic_link_ops.proofs.Naming.{end_named}
 use Rattle.ic_chain.proofs.Walking.{told_some, told_none, turned_nowhere, turned_to_none}
 use Rattle.ic_chain.proofs.list.LinkList.splice_between.Goals as goal
 
--- the ends of the list after the splice, given that the two names of the first spliced member are equal
+-- if the splice sets the ends of the list for the first spliced member `begins`, it sets them for `first`, which is the same member
 begins_alike : {W : Type 0} {kept : Option Place → W} {old new : ListHead W} {before after begins first end : Option Place} → begins ≡ first
     → TurnsEnds kept old new before after begins end → TurnsEnds kept old new before after first end
 begins_alike {old = old} {before = before} same turns = record { head = turns.head ∙ ap (λ f. end_of before f old.head) same; tail = turns.tail }
@@ -70,7 +70,7 @@ pub returns-in-Some-end-clause-ends : goal.returns-in-Some-end-clause-ends
 returns-in-Some-end-clause-ends g c first is =
     begins_alike (sym c.in-Some.is ∙ c.first.ensures ∙ is) (rw (← c.self.view_is) (record { head = c.set_next_or_head.ensures.head; tail = c.set_prev_or_tail.ensures.tail }))
 
--- the case without a given last member: lists of the kind do not store their last member, and no member is after the gap
+-- in one case the call is given no last member. Then lists of the kind do not store their last member, and no member is after the gap
 pub returns-clause-spliced : goal.returns-clause-spliced
 returns-clause-spliced g c gap t shown before after other kept_last apart =
     let list : ListHead g.row.K-Tail.Denot = list_head (Some c.in-Some.first) c.args.given.tail in

@@ -6,7 +6,7 @@ use Rattle.ic_indexed.proofs.indexed.Indexed.place_front.Goals as goal
 pub place-requires : goal.place-requires
 place-requires g c = record { all = c.self.invariant.keyed }
 
--- no object was stored, so the invariant holds as before
+-- in this case `place` was refused and stored no object, so the invariant holds as before
 pub invariant_of-self : goal.invariant_of-self
 invariant_of-self g c =
     let e = c.in-Err.ensures in record { keyed = e.all; listed = rw e.refused.1 (listed_grown c.self.invariant.listed c.place.new.pool.links.1 e.keeps) }
@@ -17,7 +17,7 @@ returns-in-Err-clause-refused g c =
     rw (← c.self.view_is, e.refused.1, e.parts)
     (e.refused.0, ap (λ (o : Order g.row.T.Denot). record { order = o.order; values = o.values; parts = g.I.Index.parts c.self.inside.index }) (order_grown c.self.invariant.listed c.place.new.pool.links.1 e.keeps))
 
--- an object was stored, so it is not linked, and it can be inserted into the list
+-- in this case `place` has stored a new object. The list's table does not link it yet, so it can be inserted into the list
 pub push_front-requires-clause-unlinked : goal.push_front-requires-clause-unlinked
 push_front-requires-clause-unlinked g c = let e = c.in-Ok.ensures in rw c.place-2.ensures (listed_off c.self.invariant.listed c.place.new.pool.links.1 e.keeps e.placed)
 

@@ -1,5 +1,5 @@
--- The call `allocate` counts the request first. If this request is to be refused, the result is an error, and otherwise the result is the one of the
--- allocator below.
+-- The call `allocate` counts the request first. If this request is to be refused, the result is an error. Otherwise the call returns what the allocator
+-- below returns.
 use Rattle.std.proofs.Common.{◌≡◌, ℕ, ◌+◌, ◌^◌, ◌<◌, true, false, List, [], ◌∷◌, Ok, Err, refl, w64, Bor}
 use Rattle.std.proofs.alloc.Calls.{Al, α, seen, Answer, answer_val, Answer-typed, Answer-Ok, Answer-err, takes_key, Takes, at_takes, Answered, Takes-goes, Takes-gives, answers}
 use Rattle.std.proofs.VecSteps.Shapes.{after}

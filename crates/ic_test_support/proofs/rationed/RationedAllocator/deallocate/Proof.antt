@@ -1,4 +1,4 @@
--- The call `deallocate` gives the block back to the allocator below, from which the block came. The call neither reads nor changes the count.
+-- The call `deallocate` returns the block to the allocator below, from which the block came. The call neither reads nor changes the count.
 use Rattle.std.proofs.Common.{◌≡◌, ℕ, ◌+◌, ◌^◌, ◌<◌, List, [], ◌∷◌, refl, w64, Bor}
 use Rattle.std.proofs.alloc.Calls.{Al, α, seen, token, gives_key, Gives, at_gives, Gives-goes, Gives-Gives}
 use Rattle.std.proofs.raw_atomic.Walks.{proved}

@@ -7,7 +7,8 @@ use Rattle.ic_unsafe_ref.specs.Objects.{Objects, object_at}
 use Rattle.ic_unsafe_ref.proofs.ObjectLemmas.{get_entries}
 use Rattle.ic_unsafe_ref.proofs.objects.Objects.next_place.Goals as goal
 
--- If a statement is true for the next key of the store, the statement is true for the place with this key as its index.
+-- Let o be what `Place::new` returns for the next key of a store that has no value under this key. Then o satisfies the contract
+-- of `next_place`.
 next_is : {T : Type 0} (o : Option Place) (key : ℕ) (objects : Objects T) → key ≡ objects.next → map.get objects.values key ≡ None
     → MatchOption o (4294967296 ≤ key) (λ p. (index_of p ≡ key) × key < 4294967296)
     → MatchOption o (4294967296 ≤ objects.next) (λ p. (index_of p ≡ objects.next) × objects.next < 4294967296 × (object_at objects p ≡ None))

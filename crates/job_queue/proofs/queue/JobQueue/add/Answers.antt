@@ -5,7 +5,7 @@ use Rattle.job_queue.specs.Kept.{queue_of}
 use Rattle.job_queue.proofs.Keeping.{jobs_are, kept, passed_on, queue_is}
 use Rattle.job_queue.proofs.queue.JobQueue.add.Goals as goal
 
--- The following proofs are for the case that the job is refused, where only the table may have grown
+-- The following proofs are for the case that the job is refused, and at most the table has grown
 pub invariant_of-self : goal.invariant_of-self
 invariant_of-self g c =
     let e = c.in_err-object.ensures in rw e.refused.1 (kept c.place.new.self.links (has_covered e.keeps.entries c.self.invariant))
@@ -17,7 +17,7 @@ returns-in_err-object-clause-refused g c =
     rw e.refused.1 (queue_is c.place.new.self.links (has_covered e.keeps.entries c.self.invariant)) in
     passed_on _ c.from_residual.result c.from_residual.ensures (e.refused.0, rw (← c.self.view_is) same, rw (← c.self.view_is) (lacks_exactly _ _ e.full e.refused.0))
 
--- The following proofs are for the case that the job is added, so that it waits after all other jobs
+-- The following proofs are for the case that the job is added, and then waits after all other jobs
 pub invariant_of-self-2 : goal.invariant_of-self-2
 invariant_of-self-2 g c =
     let placed = c.in_ok-object.ensures in

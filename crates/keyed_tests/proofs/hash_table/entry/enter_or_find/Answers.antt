@@ -12,7 +12,7 @@ use Rattle.ic_hash_table.specs.HashTable.{Holds}
 use Rattle.ic_hash_table.proofs.Callers.{held_represented}
 use Rattle.keyed_tests.proofs.hash_table.entry.enter_or_find.Goals as goal
 
--- if P holds of an entry that is occupied, or vacant, and Q follows from P, then Q holds of the entry
+-- if `P` holds of an occupied entry, and `Q` follows from `P`, then `Q` holds of the entry. `vacant_part` says the same of a vacant entry
 module _ {A B L : Type 0} where
   occupied_part : (P Q : OccupiedEntry A B L → Type 0) → ((e : OccupiedEntry A B L) → P e → Q e) → (entry : Entry A B L) → IfOccupied entry P → IfOccupied entry Q
   occupied_part P Q part (Occupied e) h = part e h

@@ -53,7 +53,7 @@ invariant_of-self-2 g c =
 pub returns-clause-inserted : goal.returns-clause-inserted
 returns-clause-inserted g c = rw (c.place-3.ensures, ← c.self.view_is) (inserts_new c.in-Ok.slot c.self.inside.len c.in-Ok.ensures.placed)
 
--- if a new slot was placed, then no slot was vacant, so that the condition of the clause `reused` does not hold
+-- if a new slot was placed, then no slot was vacant. So the condition of the clause `reused` does not hold
 pub returns-clause-reused : goal.returns-clause-reused
 returns-clause-reused g c can =
     let k = c.self.invariant in

@@ -32,7 +32,7 @@ returns-in-Some-back-2-clause-freed g c =
     let t = rw (c.in-Some.is, c.in-Some-back-2.is) at c.in-Ok.ensures.touched in
     both_frees c.requires.kept c.requires.region t c.take_out.new.self.pool.objects c.take_out.ensures.taken c.take_out.ensures.others c.resize-in-Some-back-2.ensures.resized
 
--- a new region touches no free region, so that the cases in which a region is touched cannot occur for it
+-- a new region touches no free region, so the cases in which it touches one cannot occur
 pub returns-in-Some-back-clause-full : goal.returns-in-Some-back-clause-full
 returns-in-Some-back-clause-full g c full new = let n = touches_none c.requires.kept c.requires.region c.in-Ok.ensures.touched new.1 in absurd (cc)
 

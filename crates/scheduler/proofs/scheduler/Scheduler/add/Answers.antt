@@ -30,7 +30,7 @@ returns-in-Err-OutOfMemory-clause-refused g c =
     let full = rw c.in-Err-OutOfMemory.field-0-is at e.full in
     rw (← c.self.view_is, back.1) (ap (λ task. task.value) back.0, same_grown c.self.invariant c.place.new.self.links.1 c.place.new.self.links.0 e.keeps.1 e.keeps.0, ap refusal_number (lacks_exactly _ _ full back.0))
 
--- The following proofs are for the case that the task was placed, so that it is then scheduled
+-- The following proofs are for the case that the task was placed and is then scheduled
 pub schedule-requires-clause-queue : goal.schedule-requires-clause-queue
 schedule-requires-clause-queue g c = let e = c.in-Ok.ensures in ready c.self.invariant c.place.new.self.links.1 c.place.new.self.links.0 e.keeps.1 e.keeps.0 e.placed
 

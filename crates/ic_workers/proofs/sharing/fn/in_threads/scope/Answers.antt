@@ -61,7 +61,7 @@ loop-party-preserved g c =
       count = omega (arith, was.count, step.1, c.in_ok-push.ensures.len);
     }
 
--- the result of the thread at position k has what this thread guarantees, for these claims and for the number k + 1
+-- the result of the thread at position k satisfies the guarantee of this thread, which is about the claims and the worker with the number k + 1
 module _ (g : given.Over) (c : goal.In_ok-join_promised g) (k : ℕ) (d : Gathered g.row.A.Denot) (low : k < length c.in_ok-join_promised.field-0.items) where
   kept : HasGathered c.captures.claims.now (slice_index_or c.in_ok-join_promised.field-0.items k d) × g.G.Gate.Reported c.captures.gate.now (k + 1) (places_of c.captures.claims.now)
   kept =
