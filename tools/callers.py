@@ -99,7 +99,7 @@ class House:
 
     def types(self, words, of=None):
         """The types that these words name, with those for which an alias stands."""
-        found = {of if word == "Self" else word for word in words if word[0].isupper()}
+        found = {of if word == "Self" else word for word in words if word[0].isupper()} - {None}
         return found.union(*(self.aliases[name] for name in found if name in self.aliases))
 
     def read(self, crate, file, words, of=None, in_trait=False):

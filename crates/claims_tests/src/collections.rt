@@ -32,18 +32,26 @@ pub(crate) trait Collection<L: LinkOps>: Drop {
         ensures shown { Represented (L.table links.new) self.new };
 }
 
+// Inserts the object into a list by the given method, and returns whether it was inserted. If there is no object, removes the first member and then all
+// other members, and returns false.
+macro_rules! put_or_empty {
+    ($list:ident.$push:ident, $links:ident, $object:ident) => {
+        match $object {
+            Some(object) => $list.$push($links, object).is_ok(),
+            None => {
+                let _ = $list.pop_front($links);
+                $list.clear($links);
+                false
+            }
+        }
+    };
+}
+
 impl<L: SinglyLinkedListOps> Collection<L> for SinglyLinkedList<u64> {
     ghost Represented = { singly.RepresentsSome L.successor };
 
     fn put_or_empty(&mut self, links: &mut L, object: Option<UnsafeRef<u64>>) -> bool {
-        match object {
-            Some(object) => self.push_front(links, object).is_ok(),
-            None => {
-                let _ = self.pop_front(links);
-                self.clear(links);
-                false
-            }
-        }
+        put_or_empty!(self.push_front, links, object)
     }
 }
 
@@ -51,14 +59,7 @@ impl<L: LinkedListOps> Collection<L> for LinkedList<u64> {
     ghost Represented = { doubly.RepresentsSome L.neighbors };
 
     fn put_or_empty(&mut self, links: &mut L, object: Option<UnsafeRef<u64>>) -> bool {
-        match object {
-            Some(object) => self.push_back(links, object).is_ok(),
-            None => {
-                let _ = self.pop_front(links);
-                self.clear(links);
-                false
-            }
-        }
+        put_or_empty!(self.push_back, links, object)
     }
 }
 
@@ -66,14 +67,7 @@ impl<L: XorLinkedListOps> Collection<L> for XorLinkedList<u64> {
     ghost Represented = { xor.RepresentsSome L.linked L.HasNeighbors };
 
     fn put_or_empty(&mut self, links: &mut L, object: Option<UnsafeRef<u64>>) -> bool {
-        match object {
-            Some(object) => self.push_back(links, object).is_ok(),
-            None => {
-                let _ = self.pop_front(links);
-                self.clear(links);
-                false
-            }
-        }
+        put_or_empty!(self.push_back, links, object)
     }
 }
 

@@ -1,12 +1,10 @@
 -- Lemmas on edits by a cursor: each call of a test leaves what the next call requires. An insert does not change how many places the table covers. After a
 -- split, the two parts share no member, so a splice can put them together again.
 use Rattle.std.proofs.Common.{◌≡◌, Bool, Result, Ok, Err, List, [], ap}
-use Rattle.ic_link_ops.specs.Prelude.{Place, IsAfter, IsBefore, Table, CursorState, IsValidCursor, LinkStep}
+use Rattle.ic_link_ops.specs.Prelude.{Place, IsAfter, IsBefore, Table, CursorState, IsValidCursor, LinkStep, InsertsBeside, SplicesBeside, SplitsAfter, SplitsBefore, WhereApart}
 use Rattle.ic_link_ops.specs.declared.errors.AlreadyLinked.{AlreadyLinked}
-use Rattle.ic_link_ops.specs.EditsAt.{InsertsBeside, SplicesBeside, SplitsAfter, SplitsBefore, WhereApart}
 use Rattle.ic_link_ops.specs.TwoLists.{AreApart}
-use Rattle.ic_link_ops.proofs.CollectionLaws.{IsKind}
-use Rattle.ic_link_ops.proofs.Positions.{gap_there}
+use Rattle.ic_link_ops.proofs.Prelude.{IsKind, gap_there}
 use Rattle.ic_link_ops.proofs.SequenceLemmas.{gap_before}
 use Rattle.ic_link_ops.proofs.TwoLists.{split_after, split_before}
 

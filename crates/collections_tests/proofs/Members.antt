@@ -1,8 +1,7 @@
 -- If a cursor moves from one member to the next one, then a second cursor can be made on each of the two members, by the member and its neighbor.
 use Rattle.std.proofs.Common.{◌≡◌, Option, Some, List, [], ◌∷◌, ◌++◌, append_assoc, drop, sym, ◌∙◌}
 use Rattle.ic_link_ops.specs.Prelude.{Place, Table, CursorState, RepresentsAt, IsValidCursor, MovesOn}
-use Rattle.ic_link_ops.proofs.Positions.{member_there}
-use Rattle.ic_link_ops.proofs.SequenceLemmas.{first_is, last_of_push}
+use Rattle.ic_link_ops.proofs.Prelude.{member_there, first_is, last_of_push}
 use Rattle.ic_chain.specs.Standing.{HasMemberAfter, HasMemberBefore}
 
 module _ {L E H : Type 0} {S : Table E → H → List Place → Type 0} {table : L → Table E} {at : CursorState L H} {next : Option Place} {p : Place}

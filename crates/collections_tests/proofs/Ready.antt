@@ -1,24 +1,13 @@
 -- An edit leaves a tree ready for the next edit: each fresh summary is right, and each place still has room for a summary.
-use Rattle.std.proofs.Common.{◌≡◌, ◌≤◌, ◌<◌, ◌+◌, ◌⊎◌, ℕ, zero, suc, Bool, true, false, Option, Some, None, Result, Ok, Err, OnOk, IfOk, OnSome, IfSome, IfNone, drop, slice_get, List, [], ◌∷◌, ◌++◌, refl, sym, ap, ◌∙◌, subst, arith, inl, inr}
+use Rattle.std.proofs.Common.{◌≡◌, ◌≤◌, ◌<◌, ◌+◌, ◌⊎◌, ℕ, zero, suc, Bool, true, false, Option, Some, None, Result, Ok, Err, OnOk, IfOk, OnSome, IfSome, IfNone, drop, slice_get, List, [], ◌∷◌, ◌++◌, refl, sym, ap, ◌∙◌, subst, arith, inl, inr, Ordering}
 use Rattle.std.specs.Result.{is_ok}
-use Rattle.std.specs.declared.cmp.Ordering.{Ordering}
-use Rattle.ic_link_ops.specs.Prelude.{Place, index_of, Objects, is_placed, Cut, join, insert, remove, at_front, but_last, Table, Extent, IsCovered, IsLinked, HasMember, RepresentsPlaced, LinkStep, acquires, releases}
-use Rattle.ic_unsafe_ref.proofs.PlaceLemmas.{same_or_not}
-use Rattle.ic_link_ops.specs.Edits.{Inserts}
+use Rattle.ic_link_ops.specs.Prelude.{Place, index_of, Objects, is_placed, Cut, join, insert, remove, at_front, but_last, Table, Extent, IsCovered, IsLinked, HasMember, RepresentsPlaced, LinkStep, acquires, releases, Inserts, one_at, times_in}
+use Rattle.ic_link_ops.proofs.Prelude.{same_or_not, all_members, none_not, some_same, holds_linked, one_sequence, represents_nothing, one_at_other, times_append}
 use Rattle.ic_link_ops.specs.RedBlackTree.{Node, Represents}
-use Rattle.ic_link_ops.specs.Times.{one_at, times_in}
-use Rattle.ic_link_ops.proofs.Each.{all_members}
-use Rattle.ic_link_ops.proofs.SequenceLemmas.{none_not, some_same}
-use Rattle.ic_link_ops.proofs.RepresentedTrees.{holds_linked, one_sequence, represents_nothing}
-use Rattle.ic_link_ops.proofs.Times.{one_at_other, times_append}
-use Rattle.ic_rbtree.specs.Closed.{IsNode}
-use Rattle.ic_rbtree.specs.Kept.{Kept, alone, ended, RepresentsFor, RepresentsKept, IsEmptied}
-use Rattle.ic_rbtree.specs.Ordered.{InsertsInOrder}
-use Rattle.ic_rbtree.specs.Tree.{head_of}
+use Rattle.ic_rbtree.specs.Prelude.{IsNode, Kept, alone, ended, RepresentsFor, RepresentsKept, IsEmptied, InsertsInOrder, head_of}
 use Rattle.ic_rbtree.specs.declared.tree.RBTree.{RBTree}
 use Rattle.ic_rbtree.proofs.KeptHeads.{shown}
-use Rattle.ic_augmented.specs.Consistent.{IsConsistent, IsJoined}
-use Rattle.ic_augmented.specs.Summaries.{Summaries}
+use Rattle.ic_augmented.specs.Prelude.{IsConsistent, IsJoined, Summaries}
 use Rattle.ic_augmented.specs.AugmentedSteps.{IsAcquired, TraceAugmented}
 use Rattle.ic_augmented.specs.declared.augmented.Augmented.{Augmented}
 use Rattle.ic_augmented.proofs.StepLemmas.{kept_right}

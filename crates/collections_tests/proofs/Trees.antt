@@ -1,24 +1,19 @@
 -- Lemmas on trees: a tree with no root represents the empty sequence, each member of a tree has an object, and a vacant entry can insert an object.
-use Rattle.std.proofs.Common.{◌≡◌, true, Option, None, List, [], ◌∷◌, refl}
+use Rattle.std.proofs.Common.{◌≡◌, true, Option, None, List, [], ◌∷◌, refl, Ordering}
 use Rattle.std.specs.List.{AllByRecursion}
-use Rattle.std.specs.declared.cmp.Ordering.{Ordering}
-use Rattle.ic_link_ops.specs.Prelude.{Place, index_of, Objects, is_placed, Table, IsCovered, ArePlaced, RepresentsPlaced}
+use Rattle.ic_link_ops.specs.Prelude.{Place, index_of, Objects, is_placed, Table, IsCovered, ArePlaced, RepresentsPlaced, link_of, entries, linked_by}
 use Rattle.ic_link_ops.specs.EntryLaws.{linked_in_range}
-use Rattle.ic_link_ops.specs.Links.{link_of}
-use Rattle.ic_link_ops.specs.PlainTables.{entries, linked_by}
 use Rattle.ic_link_ops.specs.RedBlackTree.{Node, Represents}
 use Rattle.ic_link_ops.specs.ThreeWords.{no_words, has_link, node_of}
 use Rattle.ic_link_ops.proofs.RepresentedTrees.{represents_nothing}
 use Rattle.ic_link_ops.proofs.Trees.{tree_covered}
 use Rattle.ic_rbtree.specs.CursorMut.{CursorOf}
 use Rattle.ic_rbtree.specs.Entry.{IfVacant, IsVacantFor, CanInsert}
-use Rattle.ic_rbtree.specs.PlainTrees.{TreeLinkOps, plain_table, PlainRepresents, PlainRepresentsSome}
-use Rattle.ic_rbtree.specs.Tree.{root_of}
+use Rattle.ic_rbtree.specs.Prelude.{TreeLinkOps, plain_table, PlainRepresents, PlainRepresentsSome, root_of, alone}
 use Rattle.ic_rbtree.specs.declared.keys.entry.Entry.{Entry}
 use Rattle.ic_rbtree.specs.declared.keys.entry.Entry.TheVariants.{Occupied, Vacant}
 use Rattle.ic_rbtree.specs.declared.keys.entry.InsertCursor.{InsertCursor}
 use Rattle.ic_rbtree.specs.declared.tree.RBTree.{RBTree}
-use Rattle.ic_rbtree.specs.Kept.{alone}
 
 pub none_represented : {A : Type 0} (links : TreeLinkOps A) (root : Option Place) → root ≡ None → PlainRepresentsSome links root
 none_represented links root e = ([], rw e (represents_nothing {n = node_of} (plain_table links)))

@@ -1,23 +1,13 @@
 -- Lemmas on two trees of one table: the first tree has any number of members, and the second tree has at most one.
-use Rattle.std.proofs.Common.{◌≡◌, ◌≢◌, ◌<◌, ◌≤◌, ◌+◌, ℕ, zero, suc, Option, None, List, [], ◌∷◌, ◌++◌, length, refl, sym, ap, ◌∙◌, subst, arith, inl, inr}
+use Rattle.std.proofs.Common.{◌≡◌, ◌≢◌, ◌<◌, ◌≤◌, ◌+◌, ℕ, zero, suc, Option, None, List, [], ◌∷◌, ◌++◌, length, refl, sym, ap, ◌∙◌, subst, arith, inl, inr, Ordering}
 use Rattle.std.specs.Bool.{⊤}
-use Rattle.std.specs.declared.cmp.Ordering.{Ordering}
-use Rattle.ic_link_ops.specs.Prelude.{Place, index_of, join, insert, IsAbsent, IsCovered, IsDisjoint, Table, Extent}
+use Rattle.ic_link_ops.specs.Prelude.{Place, index_of, join, insert, IsAbsent, IsCovered, IsDisjoint, Table, Extent, one_at, times_in, leaf}
 use Rattle.ic_link_ops.specs.RedBlackTree.{Node, Represents}
-use Rattle.ic_link_ops.specs.Times.{one_at, times_in}
-use Rattle.ic_link_ops.specs.Trees.{leaf}
-use Rattle.ic_unsafe_ref.proofs.PlaceLemmas.{same_or_not}
-use Rattle.ic_link_ops.proofs.RepresentedTrees.{represents_nothing}
-use Rattle.ic_link_ops.proofs.SequenceLemmas.{disjoint_nothing, disjoint_sym}
-use Rattle.ic_link_ops.proofs.Times.{absent_times, one_at_other, times_absent, times_append}
+use Rattle.ic_link_ops.proofs.Prelude.{same_or_not, represents_nothing, disjoint_nothing, disjoint_sym, absent_times, one_at_other, times_absent, times_append}
 use Rattle.ic_rbtree.specs.Ordered.{InsertsInOrder}
-use Rattle.ic_augmented.specs.Augmented.{links_of, summaries_of}
-use Rattle.ic_augmented.specs.AugmentedTables.{joined_in, room_of}
+use Rattle.ic_augmented.specs.Prelude.{links_of, summaries_of, joined_in, room_of, IsSameAt, RepresentsConsistent, RepresentsAugmented, counts, Summaries}
 use Rattle.ic_augmented.specs.Beside.{IsWrittenWithin}
-use Rattle.ic_augmented.specs.Consistent.{IsSameAt, RepresentsConsistent, RepresentsAugmented}
-use Rattle.ic_augmented.specs.Counts.{counts}
 use Rattle.ic_augmented.specs.Fresh.{RepresentsFresh}
-use Rattle.ic_augmented.specs.Summaries.{Summaries}
 use Rattle.ic_augmented.specs.declared.augmented.Augmented.{Augmented}
 use Rattle.ic_augmented.specs.declared.augmented_table.AugmentedTable.{AugmentedTable}
 use Rattle.ic_augmented.specs.declared.augmented_table.Cell.{Cell}

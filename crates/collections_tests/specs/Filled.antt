@@ -1,13 +1,8 @@
 -- Facts about a tree with counts, which each insert of a test maintains. The test inserts objects in the order of their places, and the count of each
 -- member stays fresh.
 use Rattle.std.specs.Prelude.{◌≡◌, ◌<◌, ◌≤◌, ℕ, ⊤, Option, None, List}
-use Rattle.ic_link_ops.specs.Prelude.{Place, index_of, Table, IsCovered}
-use Rattle.ic_link_ops.specs.RedBlackTree.{Node}
-use Rattle.ic_link_ops.specs.Times.{times_in}
-use Rattle.ic_augmented.specs.Augmented.{links_of, summaries_of}
-use Rattle.ic_augmented.specs.AugmentedTables.{room_of}
-use Rattle.ic_augmented.specs.Consistent.{RepresentsAugmented}
-use Rattle.ic_augmented.specs.Counts.{counts}
+use Rattle.ic_link_ops.specs.Prelude.{Place, index_of, Table, IsCovered, Node, times_in}
+use Rattle.ic_augmented.specs.Prelude.{links_of, summaries_of, room_of, RepresentsAugmented, counts}
 use Rattle.ic_augmented.specs.declared.augmented.Augmented.{Augmented}
 use Rattle.ic_augmented.specs.declared.augmented_table.AugmentedTable.{AugmentedTable}
 

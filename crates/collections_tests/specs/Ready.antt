@@ -1,15 +1,10 @@
 -- Facts about a list, and about a tree with summaries, which each edit of a test maintains. The tree's table covers eight places, the fresh summaries are
 -- right, and each place has an object and room for a summary.
 use Rattle.std.specs.Prelude.{◌≡◌, ◌<◌, true, Option, List}
-use Rattle.ic_link_ops.specs.Prelude.{Place, index_of, Objects, is_placed, Table, IsCovered}
-use Rattle.ic_link_ops.specs.Chains.{ListHead, RepresentsSomeChain}
-use Rattle.ic_link_ops.specs.RedBlackTree.{Node}
-use Rattle.ic_rbtree.specs.Kept.{Kept, RepresentsKept}
-use Rattle.ic_rbtree.specs.Tree.{head_of}
+use Rattle.ic_link_ops.specs.Prelude.{Place, index_of, Objects, is_placed, Table, IsCovered, ListHead, RepresentsSomeChain, Node}
+use Rattle.ic_rbtree.specs.Prelude.{Kept, RepresentsKept, head_of}
 use Rattle.ic_rbtree.specs.declared.tree.RBTree.{RBTree}
-use Rattle.ic_augmented.specs.Consistent.{IsConsistent}
-use Rattle.ic_augmented.specs.Summaries.{Summaries}
-use Rattle.ic_augmented.specs.Augmented.{links_of, summaries_of}
+use Rattle.ic_augmented.specs.Prelude.{IsConsistent, Summaries, links_of, summaries_of}
 use Rattle.ic_augmented.specs.declared.augmented.Augmented.{Augmented}
 
 module _ {H N M E S A : Type 0} (kept : H → Kept) (n : E → Node) (table : N → Table E) (summaries : M → Summaries S) (Covers : M → Place → Type 0) where

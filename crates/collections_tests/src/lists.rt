@@ -1,9 +1,7 @@
 //! Fixtures for tests of lists of any kind, over the plain table of their links.
 
 ghost use Rattle.std.specs.Prelude.{◌≡◌, ◌≤◌};
-ghost use Rattle.ic_link_ops.specs.Chains.{RepresentsChain, RepresentsSomeChain};
-ghost use Rattle.ic_link_ops.specs.PlacedObjects.{RepresentsPlaced};
-ghost use Rattle.ic_link_ops.specs.PlainTables.{table};
+ghost use Rattle.ic_link_ops.specs.Prelude.{RepresentsChain, RepresentsSomeChain, RepresentsPlaced, table};
 
 use ic_chain::{ForwardLinks, LinkList, ListKind};
 use ic_link_ops::{LinkOps, PlainTable, Words};

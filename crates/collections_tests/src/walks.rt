@@ -1,9 +1,7 @@
 //! Tests of walks over lists: walks over the objects from both ends, and walks that remove members and are then dropped or finished.
 
 ghost use Rattle.std.specs.Prelude.{◌≡◌};
-ghost use Rattle.ic_link_ops.specs.Chains.{RepresentsChain, RepresentsSomeChain};
-ghost use Rattle.ic_link_ops.specs.PlacedObjects.{RepresentsPlaced};
-ghost use Rattle.ic_link_ops.specs.PlainTables.{table};
+ghost use Rattle.ic_link_ops.specs.Prelude.{RepresentsChain, RepresentsSomeChain, RepresentsPlaced, table};
 ghost use Rattle.ic_chain.specs.Iter.{CanWalk};
 
 use crate::doubly::{DoublyFixture, NarrowDoublyFixture};

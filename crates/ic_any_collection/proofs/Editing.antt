@@ -2,8 +2,7 @@
 -- the kind's own call. The first lemmas are about removals: each removal by a kind's own call removes the member that the gap names.
 use Rattle.std.proofs.Common.{◌≡◌, ◌∙◌, Bool, true, false, is_some, ap, Option, Some, None, List, [], ◌∷◌, ◌++◌, refl, sym, subst, append-nil, IfSome, IfNone, OnSome}
 use Rattle.std.specs.Bool.{OnTrue, OnFalse}
-use Rattle.ic_link_ops.specs.Prelude.{Place, Cut, join, splice, at_front, at_back, first, last, IsAfter, IsBefore, IsDisjoint, Table, IsLinked, site, LinkStep, acquires, releases, ChangesOnlyIn, MovesOn, MovesBack, remove, but_last, CursorState}
-use Rattle.ic_link_ops.specs.Edits.{Replaces, Removes}
+use Rattle.ic_link_ops.specs.Prelude.{Place, Cut, join, splice, at_front, at_back, first, last, IsAfter, IsBefore, IsDisjoint, Table, IsLinked, site, LinkStep, acquires, releases, ChangesOnlyIn, MovesOn, MovesBack, remove, but_last, CursorState, Replaces, Removes}
 use Rattle.ic_link_ops.specs.EditsAt.{ReplacesThere, ReplacesNext, SplicesBeside, SplitsBeside, WhereApart, RemovesThere, RemovesNext}
 use Rattle.ic_cursors.specs.Answers.{replaced}
 use Rattle.ic_any_collection.specs.Prelude.{Kind, Gap, Front, Back, Before, After, is_singly, can_insert, can_remove, can_replace, from, is_after, beside, rests, onward, onto, IsGapAt, IsFrontOf, InsertsInGap, RemovesInGap, Entry, is_linked, AnyTable, table_in, AnyCollection, IsCursorIn, cursor_in, members_in, Keeps, Held, AtGap, Moves, Leaves, Puts, Swaps, PutsAll, Parts, TakesIfAny, SwapsIfAny, IsUnchanged, IsValidAt}

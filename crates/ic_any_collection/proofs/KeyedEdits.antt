@@ -1,14 +1,12 @@
 -- Searches and insertions by key. What the collection's call ensures follows from the contract of the tree's own call. The collection's call moves
 -- the cursor after the tree's own call.
-use Rattle.std.proofs.Common.{◌≡◌, ◌∙◌, Bool, true, false, cond, append_assoc, Option, Some, None, IfSome, List, [], ◌∷◌, ◌++◌, drop, refl, sym, ap, subst}
+use Rattle.std.proofs.Common.{◌≡◌, ◌∙◌, ℕ, Bool, true, false, cond, append_assoc, Option, Some, None, IfSome, List, [], ◌∷◌, ◌++◌, drop, refl, sym, ap, subst, Ordering}
 use Rattle.std.specs.Prelude.{⊤}
 use Rattle.std.specs.Bool.{OnTrue, OnFalse}
-use Rattle.std.specs.declared.cmp.Ordering.{Ordering}
-use Rattle.ic_link_ops.specs.Prelude.{Place, Cut, join, insert, at_front, first, IsAbsent, IsMember, Table, ChangesOnlyIn, LinksAlso, IsBefore, IsValidCursor, site, acquires}
-use Rattle.ic_link_ops.specs.Edits.{Inserts}
+use Rattle.ic_link_ops.specs.Prelude.{Place, Cut, join, insert, at_front, first, IsAbsent, IsMember, Table, ChangesOnlyIn, LinksAlso, IsBefore, IsValidCursor, site, acquires, Inserts}
 use Rattle.ic_any_collection.specs.Prelude.{tree_table_in, is_tree_linked, Link, ThreeWords, PlainTable, node_of, InsertsInOrder, root_of, RBTree, Entry, is_linked, node, Unkeyed, AnyTable, Tree, IsAt, members_in, Held, AtGap, Moves, Puts, PutsInOrder, PutsAtKey, IsVacantFor}
 use Rattle.ic_link_ops.specs.RedBlackTree as tree
-use Rattle.ic_link_ops.proofs.SequenceLemmas.{member_split, first_is, absent_right, absent_without, gap_after, last_of_push, none_not}
+use Rattle.ic_link_ops.proofs.Prelude.{member_split, first_is, absent_right, absent_without, gap_after, last_of_push, none_not, one_sequence_is_represented}
 use Rattle.ic_rbtree.specs.declared.keys.entry.Entry.{Entry as TreeEntry}
 use Rattle.ic_rbtree.specs.declared.keys.entry.Entry.TheVariants.{Occupied, Vacant}
 use Rattle.ic_rbtree.specs.declared.keys.entry.InsertCursor.{InsertCursor}
@@ -16,7 +14,6 @@ use Rattle.ic_rbtree.specs.Cursor.{Cursor, tree_of, links_of, position, site_of}
 use Rattle.ic_rbtree.specs.CursorMut.{CursorMut}
 use Rattle.ic_rbtree.specs.Borders.{Finds, equal_at, if_passes}
 use Rattle.ic_any_collection.proofs.OwnTrees.{of_field, to_own, step_in_field, inserts_in_field}
-use Rattle.ic_link_ops.proofs.CollectionLaws.{one_sequence_is_represented}
 use Rattle.ic_any_collection.proofs.Made.{own_trees, before_at}
 
 -- a cursor can be on each member of a sequence
@@ -51,7 +48,7 @@ still_at {s} gap p same (Some q) at =
 
 -- p is inserted in the order of keys, and the cursor stays or goes to p. `t` and `t'` are the tree's own table before and after the call, and `l'` is
 -- the tree after the call
-module _ {V : Type 0} {t t' : Table (Link ThreeWords ⊤)} {l l' : RBTree (Unkeyed V) (Option Place)} {at : Option Place} (held : Held {V = V} (of_field t) (Tree l at)) (by : Place → Ordering) (p : Place) where
+module _ {V : Type 0} {t t' : Table (Link (ThreeWords ℕ) ⊤)} {l l' : RBTree (Unkeyed V) (Option Place)} {at : Option Place} (held : Held {V = V} (of_field t) (Tree l at)) (by : Place → Ordering) (p : Place) where
   put_in_order : {at' cursor : Option Place} → InsertsInOrder (tree.Represents node_of) by t t' (root_of l') (members_in {V = V} (of_field t) (Tree l at)) p → LinksAlso is_tree_linked t t' p
       → ((gap : Cut) → join gap ≡ members_in {V = V} (of_field t) (Tree l at) → IsAt (insert gap p) cursor) → at' ≡ cursor
       → PutsInOrder {V = V} by (of_field t) (of_field t') (Tree l at) (Tree l' at') p cursor
@@ -62,7 +59,7 @@ module _ {V : Type 0} {t t' : Table (Link ThreeWords ⊤)} {l l' : RBTree (Unkey
       → PutsInOrder {V = V} by (of_field t) (of_field t') (Tree l at) (Tree l' at') p (Some p)
   puts_and_goes put links is = put_in_order put links (λ gap same. on_it gap.front p gap.back refl) is
 
-pub puts_and_stays : {V : Type 0} (acquired : Bool) (t t' : Table (Link ThreeWords ⊤)) (l l' : RBTree (Unkeyed V) (Option Place)) (at : Option Place) (by : Place → Ordering) (p : Place) → Held {V = V} (of_field t) (Tree l at)
+pub puts_and_stays : {V : Type 0} (acquired : Bool) (t t' : Table (Link (ThreeWords ℕ) ⊤)) (l l' : RBTree (Unkeyed V) (Option Place)) (at : Option Place) (by : Place → Ordering) (p : Place) → Held {V = V} (of_field t) (Tree l at)
     → ((s : List Place) → tree.Represents node_of t (root_of l) s → OnTrue acquired (InsertsInOrder (tree.Represents node_of) by t t' (root_of l') s p))
     → OnTrue acquired (LinksAlso is_tree_linked t t' p) → OnTrue acquired (PutsInOrder {V = V} by (of_field t) (of_field t') (Tree l at) (Tree l' at) p at)
 puts_and_stays true t t' l l' at by p held put links = put_in_order held by p (put _ (to_own held.shown)) links (λ gap same. still_at gap p same at held.stands) refl
@@ -81,11 +78,11 @@ vacant_one (Vacant v) other = (v, refl)
 
 -- AFTER AN EDIT THROUGH A BORROW, the root and the table are those with which the borrow ended. So what the edit ensures holds of this root and this
 -- table
-pub inserts_left : {old old' t t' : Table (Link ThreeWords ⊤)} {root root' : Option Place} {gap : Cut} {p p' : Place} → old ≡ old' → p ≡ p' → Inserts (tree.Represents node_of) old t root gap p
+pub inserts_left : {old old' t t' : Table (Link (ThreeWords ℕ) ⊤)} {root root' : Option Place} {gap : Cut} {p p' : Place} → old ≡ old' → p ≡ p' → Inserts (tree.Represents node_of) old t root gap p
     → t' ≡ t → root' ≡ root → Inserts (tree.Represents node_of) old' t' root' gap p'
 inserts_left same place put table head = rw (table, head, ← same, ← place) put
 
-pub links_left : {old old' t t' : Table (Link ThreeWords ⊤)} {p p' : Place} → old ≡ old' → p ≡ p' → LinksAlso is_tree_linked old t p → t' ≡ t → LinksAlso is_tree_linked old' t' p'
+pub links_left : {old old' t t' : Table (Link (ThreeWords ℕ) ⊤)} {p p' : Place} → old ≡ old' → p ≡ p' → LinksAlso is_tree_linked old t p → t' ≡ t → LinksAlso is_tree_linked old' t' p'
 links_left same place linked table = rw (table, ← same, ← place) linked
 
 -- A MEMBER WITH THE KEY was found, and the cursor moves to this member
@@ -103,7 +100,7 @@ moves_to_key {by = by} {p = p} held found same there =
     record { kept = record { carried = held.carried; shown = rw same held.shown; stands = rw there (k.0, k.1 ∙ found.same, k.2) }; alike = refl; cursor_is = there }
 
 -- AN OBJECT IS INSERTED into the gap where the searched key belongs, and the cursor is put on the object
-pub puts_at_key : {V : Type 0} (by : Place → Ordering) {t t' : Table (Link ThreeWords ⊤)} {l l' : RBTree (Unkeyed V) (Option Place)} {at at' : Option Place} {p : Place} → Held {V = V} (of_field t) (Tree l at)
+pub puts_at_key : {V : Type 0} (by : Place → Ordering) {t t' : Table (Link (ThreeWords ℕ) ⊤)} {l l' : RBTree (Unkeyed V) (Option Place)} {at at' : Option Place} {p : Place} → Held {V = V} (of_field t) (Tree l at)
     → AtGap (members_in {V = V} (of_field t) (Tree l at)) (λ gap. IsVacantFor by gap × Inserts (tree.Represents node_of) t t' (root_of l') gap p) → LinksAlso is_tree_linked t t' p
     → at' ≡ Some p → PutsAtKey {V = V} by (of_field t) (of_field t') (Tree l at) (Tree l' at') p (Some p)
 puts_at_key by {p = p} held put links there =
@@ -115,7 +112,7 @@ on_member None at = tt
 on_member (Some p) at = before_at at
 
 -- the position of a cursor that a search of the tree returns is a member, if it is not null
-pub found_member : {V M : Type 0} {links : PlainTable ThreeWords M ⊤} {l : RBTree (Unkeyed V) (Option Place)} {s : List Place} {at : Option Place} (c : Cursor (Unkeyed V) (PlainTable ThreeWords M ⊤) V (Option Place))
+pub found_member : {V M : Type 0} {links : PlainTable (ThreeWords ℕ) M ⊤} {l : RBTree (Unkeyed V) (Option Place)} {s : List Place} {at : Option Place} (c : Cursor (Unkeyed V) (PlainTable (ThreeWords ℕ) M ⊤) V (Option Place))
     → tree.Represents node_of (tree_table_in links) (root_of l) s → IsValidCursor (tree.Represents node_of) tree_table_in (site_of c) → tree_of c ≡ l → links_of c ≡ links → at ≡ position c
     → IfSome at (λ p. AtGap s (λ gap. IsBefore gap (Some p)))
 found_member {links = links} {l = l} {at = at} c shown valid same_tree same_links is =

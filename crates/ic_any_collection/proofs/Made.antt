@@ -3,18 +3,16 @@
 -- collection made from this list or tree, and valid positions stay valid. Because of this each edit is proved once for all kinds.
 use Rattle.std.proofs.Common.{◌≡◌, Option, None, List, refl, ◌∙◌, Some, IfSome, [], ◌∷◌, ◌++◌, drop, sym, ap, subst, append_assoc}
 use Rattle.std.specs.Prelude.{⊤}
-use Rattle.ic_link_ops.specs.Prelude.{Place, Table, ChangesOnlyIn, LinkStep, TraceIs, IsValidCursor, site, Cut, join, at_front, first, IsBefore, IsDistinct}
+use Rattle.ic_link_ops.specs.Prelude.{Place, Table, ChangesOnlyIn, LinkStep, TraceIs, IsValidCursor, site, Cut, join, at_front, first, IsBefore, IsDistinct, Front}
 use Rattle.ic_any_collection.specs.Prelude.{tree_table_in, is_tree_linked, Ends, IsValidAt, RBTree, root_of, member_of, CachesNext, AnyTable, node_of, table_in, is_linked, neighbors, successor, HasNeighbors, Unkeyed, AnyCollection, Singly, Doubly, Xor, Tree, IsCursorIn, RepresentsIn, cursor_in, Alike, PlaceAndNext, Entry, IsAt, IsXorAt, members_in, Held}
 use Rattle.ic_link_ops.specs.LinkedList as doubly
 use Rattle.ic_link_ops.specs.SinglyLinkedList as singly
-use Rattle.ic_link_ops.specs.SinglyLinkedList.{Front}
 use Rattle.ic_link_ops.specs.XorLinkedList as xor
 use Rattle.ic_link_ops.specs.RedBlackTree as tree
 use Rattle.ic_any_collection.specs.declared.any_table.AnyTable.TheVariants.{WithPrev}
 use Rattle.ic_any_collection.specs.declared.table_with_prev.TableWithPrev.TheVariants as variant
 use Rattle.ic_any_collection.specs.TablesWithPrev as with_prev
-use Rattle.ic_link_ops.proofs.CollectionLaws.{IsKind, one_sequence_is_represented}
-use Rattle.ic_link_ops.proofs.RepresentedTrees.{red_black_trees}
+use Rattle.ic_link_ops.proofs.Prelude.{IsKind, one_sequence_is_represented, red_black_trees}
 use Rattle.ic_any_collection.proofs.OwnTrees.{to_field, to_own, frame_in_field, trace_in_field}
 use Rattle.ic_any_collection.proofs.AllKinds.{singly_kind, doubly_kind, xor_kind}
 use Rattle.ic_link_ops.proofs.SequenceLemmas.{gap_after, gap_before, none_not, first_is, last_of_push, same_gap}

@@ -1,18 +1,11 @@
 -- How calls read a collection: the member after a member, and walks from the front. In a walk over a tree a cursor moves along with the walk, and
 -- each member that the cursor is on is appended to a list.
-use Rattle.std.proofs.Common.{◌≡◌, ◌≢◌, ◌∙◌, ◌<◌, ◌+◌, ◌++◌, true, false, cond, Option, Some, None, List, [], ◌∷◌, drop, length, refl, sym, ap, append_assoc, arith, nat_eq, eq-eqb, eqb-true, Bool, ℕ, Result, Ok, Err, IfOk, IsSome, subst, append-nil}
+use Rattle.std.proofs.Common.{◌≡◌, ◌≢◌, ◌∙◌, ◌<◌, ◌+◌, ◌++◌, true, false, cond, Option, Some, None, List, [], ◌∷◌, drop, length, refl, sym, ap, append_assoc, arith, nat_eq, eq-eqb, eqb-true, Bool, ℕ, Result, Ok, Err, IfOk, IsSome, subst, append-nil, length-append, Vec, Ordering}
 use Rattle.std.proofs.lemmas.Bool.{eqb-false, false_from_ne_true}
-use Rattle.std.proofs.lemmas.List.{length-append}
-use Rattle.ic_link_ops.specs.Prelude.{Place, index_of, Cut, join, first, last, IsAfter, IsBefore, IsAbsent, IsDistinct, Table, CursorState, RepresentsAt, MovesOn, Objects, object_at, IsCovered, IsValidCursor, ArePlaced, values_at}
-use Rattle.ic_unsafe_ref.proofs.PlaceLemmas.{same_index, word_tells}
-use Rattle.ic_link_ops.specs.Walk.{is_end}
-use Rattle.ic_link_ops.proofs.SequenceLemmas.{first_is, last_of_push, some_same, none_not}
-use Rattle.ic_link_ops.proofs.Walks.{is_end_yes}
+use Rattle.ic_link_ops.specs.Prelude.{Place, index_of, Cut, join, first, last, IsAfter, IsBefore, IsAbsent, IsDistinct, Table, CursorState, RepresentsAt, MovesOn, Objects, object_at, IsCovered, IsValidCursor, ArePlaced, values_at, is_end}
+use Rattle.ic_link_ops.proofs.Prelude.{same_index, word_tells, first_is, last_of_push, some_same, none_not, is_end_yes, stands_by_gap}
 use Rattle.std.specs.List.{cons_option}
-use Rattle.std.specs.declared.vec.Vec.{Vec}
 use Rattle.ic_link_ops.specs.RedBlackTree.{Node, Represents}
-use Rattle.ic_link_ops.proofs.Positions.{stands_by_gap}
-use Rattle.std.specs.declared.cmp.Ordering.{Ordering}
 use Rattle.ic_rbtree.specs.declared.keys.key_adapter.Bound.{Bound}
 use Rattle.ic_rbtree.specs.Ranges.{IsRange}
 use Rattle.ic_rbtree.specs.declared.iter.Iter.{Iter}

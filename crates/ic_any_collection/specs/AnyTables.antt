@@ -1,9 +1,6 @@
 -- What contracts see of a field's table of any kind.
 use Rattle.std.specs.Prelude.{refl}
-use Rattle.ic_link_ops.specs.Prelude.{Place, index_of, Table, IsLinked, IsCovered}
-use Rattle.ic_link_ops.specs.Links.{link_of}
-use Rattle.ic_link_ops.specs.PlainTables.{entries, table, linked_by}
-use Rattle.ic_link_ops.specs.Widths.{wide}
+use Rattle.ic_link_ops.specs.Prelude.{Place, index_of, Table, IsLinked, IsCovered, link_of, entries, table, linked_by, wide}
 use Rattle.ic_link_ops.specs.EntryLaws.{linked_in_range}
 use Rattle.ic_link_ops.specs.OneWord as one
 use Rattle.ic_any_collection.specs.declared.entry.Entry.{Entry}

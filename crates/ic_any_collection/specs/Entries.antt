@@ -1,13 +1,7 @@
 -- What an entry contains, whichever kind of table it is in.
-use Rattle.std.specs.Prelude.{◌≡◌, Bool, Option, None, [], ◌∷◌, bit_xor, ⊤}
-use Rattle.ic_link_ops.specs.Prelude.{Place, place_at, word_of, Table}
-use Rattle.ic_link_ops.specs.LinkedList.{Neighbors}
-use Rattle.ic_link_ops.specs.SinglyLinkedList.{Successor}
-use Rattle.ic_link_ops.specs.RedBlackTree.{Node}
+use Rattle.std.specs.Prelude.{◌≡◌, ℕ, Bool, Option, None, [], ◌∷◌, bit_xor, ⊤}
+use Rattle.ic_link_ops.specs.Prelude.{Place, place_at, word_of, Table, Neighbors, Successor, Node, words_of, table, wide}
 use Rattle.ic_link_ops.specs.declared.color.Color.TheVariants.{Red}
-use Rattle.ic_link_ops.specs.Links.{words_of}
-use Rattle.ic_link_ops.specs.PlainTables.{table}
-use Rattle.ic_link_ops.specs.Widths.{wide}
 use Rattle.ic_link_ops.specs.declared.table.PlainTable.{PlainTable}
 use Rattle.ic_link_ops.specs.DoublyEntries.{DoublyLink}
 use Rattle.ic_link_ops.specs.declared.link.Link.{Link}
@@ -21,20 +15,20 @@ use Rattle.ic_any_collection.specs.declared.kind.Kind.{Kind}
 use Rattle.ic_any_collection.specs.Kinds.{number_of, kind_with}
 
 -- three functions compute the entry that a link of one, two or three words describes
-abbrev pub of_one : {K : Type 0} → Link (OneWord K) ⊤ → Entry
+abbrev pub of_one : {K : Type 0} → Link (OneWord K ℕ) ⊤ → Entry
 of_one l = record { linked = one.has_word (words_of l); word = one.next_word_of (words_of l); prev = None; parent = None; color = Red }
 
 abbrev pub of_two : DoublyLink → Entry
 of_two l = record { linked = two.has_words (words_of l); word = two.next_word_of (words_of l); prev = two.prev_of (words_of l); parent = None; color = Red }
 
-abbrev pub of_three : Link ThreeWords ⊤ → Entry
+abbrev pub of_three : Link (ThreeWords ℕ) ⊤ → Entry
 of_three l = record { linked = three.has_link (words_of l); word = three.right_word_of (words_of l); prev = three.left_of (words_of l); parent = (three.node_of l).parent; color = (three.node_of l).color }
 
 -- a table of tree links as the contracts of trees describe it, and whether one of its links is linked
-abbrev pub tree_table_in : {M : Type 0} → PlainTable ThreeWords M ⊤ → Table (Link ThreeWords ⊤)
+abbrev pub tree_table_in : {M : Type 0} → PlainTable (ThreeWords ℕ) M ⊤ → Table (Link (ThreeWords ℕ) ⊤)
 tree_table_in t = table wide three.no_words t
 
-abbrev pub is_tree_linked : Link ThreeWords ⊤ → Bool
+abbrev pub is_tree_linked : Link (ThreeWords ℕ) ⊤ → Bool
 is_tree_linked l = three.has_link (words_of l)
 
 -- the following functions say what each kind of collection reads in an entry

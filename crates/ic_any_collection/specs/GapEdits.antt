@@ -1,9 +1,7 @@
 -- What an edit at a gap changes, for any kind of collection and table. The definitions of the kind and of the table are parameters.
 use Rattle.std.specs.Prelude.{◌≡◌, Bool, Option, OnSome, IfSome, IfNone, List, [], ◌∷◌}
 use Rattle.std.specs.Bool.{OnTrue, OnFalse}
-use Rattle.ic_link_ops.specs.Prelude.{Place, first, Table, site, LinkStep, releases}
-use Rattle.ic_link_ops.specs.Edits.{Removes}
-use Rattle.ic_link_ops.specs.EditsAt.{InsertsBeside}
+use Rattle.ic_link_ops.specs.Prelude.{Place, first, Table, site, LinkStep, releases, Removes, InsertsBeside}
 use Rattle.ic_cursors.specs.Answers.{inserted}
 use Rattle.ic_any_collection.specs.declared.gap.Gap.{Gap}
 use Rattle.ic_any_collection.specs.Edits.{AtGap}

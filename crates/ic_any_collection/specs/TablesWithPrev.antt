@@ -1,9 +1,6 @@
 -- What contracts see of a table whose entries also name the previous place.
 use Rattle.std.specs.Prelude.{refl}
-use Rattle.ic_link_ops.specs.Prelude.{Place, index_of, Table, IsLinked, IsCovered}
-use Rattle.ic_link_ops.specs.Links.{link_of}
-use Rattle.ic_link_ops.specs.PlainTables.{entries, table, linked_by}
-use Rattle.ic_link_ops.specs.Widths.{wide}
+use Rattle.ic_link_ops.specs.Prelude.{Place, index_of, Table, IsLinked, IsCovered, link_of, entries, table, linked_by, wide}
 use Rattle.ic_link_ops.specs.EntryLaws.{linked_in_range}
 use Rattle.ic_link_ops.specs.TwoWords as two
 use Rattle.ic_link_ops.specs.ThreeWords as three

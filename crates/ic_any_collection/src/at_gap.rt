@@ -7,8 +7,7 @@
 
 ghost use Rattle.std.specs.Prelude.{◌≡◌, true, List};
 ghost use Rattle.std.specs.Bool.{OnTrue, OnFalse};
-ghost use Rattle.ic_link_ops.specs.Prelude.{Place, IsAfter, IsBefore, IsCovered, site};
-ghost use Rattle.ic_link_ops.specs.EditsAt.{ReplacesThere};
+ghost use Rattle.ic_link_ops.specs.Prelude.{Place, IsAfter, IsBefore, IsCovered, site, ReplacesThere};
 ghost use Rattle.ic_any_collection.specs.Prelude.{RepresentsChain, IsValidAt, can_remove, from, is_after, rests, InsertsInGap, RemovesInGap};
 ghost use Rattle.ic_cursors.specs.Answers as answer;
 ghost use Rattle.ic_cursors.specs.Edited.{Edited};

@@ -8,17 +8,14 @@
 
 ghost use Rattle.std.specs.Prelude.{◌≡◌, List, ◌++◌, Option, Some, None, true, false, IfOk, IfSome, IfNone};
 ghost use Rattle.std.specs.Bool.{OnTrue, OnFalse};
-ghost use Rattle.ic_link_ops.specs.Prelude.{Place, IsBefore, IsCovered, IsLinked, LinksAlso, ArePlaced, RepresentsPlaced};
-ghost use Rattle.ic_link_ops.specs.Edits.{Inserts};
+ghost use Rattle.ic_link_ops.specs.Prelude.{Place, IsBefore, IsCovered, IsLinked, LinksAlso, ArePlaced, RepresentsPlaced, Inserts};
 ghost use Rattle.ic_link_ops.specs.RedBlackTree.{Represents};
-ghost use Rattle.ic_rbtree.specs.Borders.{Finds, IsLowerBorder, IsUpperBorder};
+ghost use Rattle.ic_rbtree.specs.Prelude.{Finds, IsLowerBorder, IsUpperBorder, key_order, looks_of, HasAdapter, runs_up, IsRange};
 ghost use Rattle.ic_rbtree.specs.Comparing.{compared, compared_within, HasRoom, HasRoomWithin, Looks, LooksWithin};
 ghost use Rattle.ic_rbtree.specs.CursorMut as editing;
 ghost use Rattle.ic_rbtree.specs.Entry as gaps;
 ghost use Rattle.ic_rbtree.specs.Iter.{rest_of, CanWalk};
-ghost use Rattle.ic_rbtree.specs.KeyProbe.{key_order, looks_of, HasAdapter};
 ghost use Rattle.ic_any_collection.specs.Prelude.{tree_table_in, is_tree_linked, InsertsInOrder, root_of, node_of, is_linked, table_in, AtGap, IsVacantFor, kind_in, cursor_in, members_in, is_tree, Held, Moves, Puts, IsUnchanged, PutsInOrder, PutsAtKey};
-ghost use Rattle.ic_rbtree.specs.Ranges.{runs_up, IsRange};
 
 use crate::unkeyed::Unkeyed;
 use crate::{AnyCollection, AnyTable};

@@ -1,7 +1,6 @@
 -- How one holder claims places one after the other, and gets a list of the places whose claims succeeded.
 use Rattle.std.proofs.Common.{◌≡◌, ◌+◌, ℕ, Bool, true, false, if◌then◌else◌, List, [], ◌∷◌, ◌++◌, length, refl, sym, ap, ◌∙◌, subst, arith, append_assoc, append-nil}
-use Rattle.ic_link_ops.specs.Prelude.{Place, IsAbsent, Table, ChangesOnlyIn}
-use Rattle.ic_link_ops.specs.Chains.{Ends}
+use Rattle.ic_link_ops.specs.Prelude.{Place, IsAbsent, Table, ChangesOnlyIn, Ends}
 use Rattle.ic_link_ops.specs.LinkedList.{Neighbors, Represents}
 use Rattle.ic_link_ops.proofs.SequenceLemmas.{absent_left, absent_right, absent_both}
 use Rattle.ic_atomic.specs.declared.step.Step.TheVariants.{Claim}

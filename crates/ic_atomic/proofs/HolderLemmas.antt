@@ -10,8 +10,7 @@ use Rattle.ic_atomic.specs.declared.held.HeldRecords.{HeldRecords}
 use Rattle.ic_atomic.specs.declared.claims.Claims.{Claims}
 use Rattle.ic_atomic.specs.declared.claims.Holder.{Holder}
 use Rattle.ic_atomic.specs.Held.{hand, without_first, only_first}
-use Rattle.ic_atomic.specs.Records.{holds}
-use Rattle.ic_atomic.specs.OneList.{record_at, IsOneList}
+use Rattle.ic_atomic.specs.Prelude.{holds, record_at, IsOneList}
 use Rattle.ic_atomic.specs.Rule.{mine, Compares}
 use Rattle.ic_atomic.specs.Holders.{holders_of, IsSeatOf, hand_of, hand_with, record_of, IsOf, AreOneList, AreWholeList, NoneTwice}
 

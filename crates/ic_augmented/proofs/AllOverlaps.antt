@@ -1,7 +1,6 @@
 -- A caller finds the first member that passes a test, and then again and again the next member that passes. These lemmas say that the caller gets all members
 -- that pass, in order.
-use Rattle.std.proofs.Common.{◌≡◌, Bool, true, false, cond, Some, None, List, [], ◌∷◌, ◌++◌, refl, sym, ap, ◌∙◌}
-use Rattle.std.specs.List.{filter}
+use Rattle.std.proofs.Common.{◌≡◌, Bool, true, false, cond, Some, None, List, [], ◌∷◌, ◌++◌, refl, sym, ap, ◌∙◌, filter}
 use Rattle.ic_link_ops.specs.Prelude.{Place, first}
 use Rattle.ic_link_ops.proofs.SequenceLemmas.{none_not, some_same}
 

@@ -1,14 +1,11 @@
 -- These lemmas say what values and summaries a table has after a cell is written.
 use Rattle.std.proofs.Common.{◌≡◌, ◌≢◌, ◌<◌, ℕ, Option, Some, None, List, length, slice_index_or, slice_set, sym, ap, ◌∙◌, subst, inl, inr}
 use Rattle.std.proofs.Math.Path.{fun_ext}
-use Rattle.ic_link_ops.specs.Prelude.{Place, index_of, Table}
-use Rattle.ic_unsafe_ref.proofs.PlaceLemmas.{same_or_not}
-use Rattle.ic_link_ops.specs.RedBlackTree.{Node}
-use Rattle.ic_link_ops.proofs.EntryLemmas.{others_same, entry_same, entry_read}
+use Rattle.ic_link_ops.specs.Prelude.{Place, index_of, Table, Node}
+use Rattle.ic_link_ops.proofs.Prelude.{same_or_not, others_same, entry_same, entry_read}
 use Rattle.ic_augmented.specs.declared.augmented_table.Cell.{Cell}
-use Rattle.ic_augmented.specs.Consistent.{IsSameAt, IsConsistent}
+use Rattle.ic_augmented.specs.Prelude.{IsSameAt, IsConsistent, Invalidates, Writes}
 use Rattle.ic_augmented.specs.AugmentedTables.{blank, cell_in, joined_in}
-use Rattle.ic_augmented.specs.Summaries.{Invalidates, Writes}
 use Rattle.ic_augmented.proofs.ConsistencyLemmas.{not_stale, joined_at}
 
 module _ {V S : Type 0} (join : V → Option S → Option S → S) (initial : V) where

@@ -2,17 +2,11 @@
 -- with a stale summary is added.
 use Rattle.std.proofs.Common.{◌≡◌, ◌≤◌, ◌+◌, ℕ, Bool, true, false, cond, ◌||◌, Option, Some, None, List, [], ◌∷◌, ◌++◌, refl, sym, ap, ◌∙◌, subst, arith, inl, inr}
 use Rattle.std.proofs.lemmas.Bool.{false_from_ne_true}
-use Rattle.ic_link_ops.specs.Prelude.{Place, Cut, join, insert, IsAbsent, Table}
-use Rattle.ic_unsafe_ref.proofs.PlaceLemmas.{same_or_not}
-use Rattle.ic_link_ops.specs.RedBlackTree.{Node}
-use Rattle.ic_link_ops.specs.Times.{one_at, times, times_in}
-use Rattle.ic_link_ops.specs.Trees.{Tree, leaf, fork}
-use Rattle.ic_link_ops.proofs.SequenceLemmas.{none_not, some_same, absent_left, absent_right, absent_both, absent_with}
-use Rattle.ic_link_ops.proofs.Times.{absent_times, one_at_self, one_at_other, times_order}
+use Rattle.ic_link_ops.specs.Prelude.{Place, Cut, join, insert, IsAbsent, Table, Node, one_at, times, times_in, Tree, leaf, fork}
+use Rattle.ic_link_ops.proofs.Prelude.{same_or_not, none_not, some_same, absent_left, absent_right, absent_both, absent_with, absent_times, one_at_self, one_at_other, times_order}
 use Rattle.ic_rbtree.specs.Closed.{IsIn}
 use Rattle.ic_rbtree.proofs.RepresentedClosed.{is_it, among}
-use Rattle.ic_augmented.specs.Summaries.{Summaries, is_fresh, IsSummed}
-use Rattle.ic_augmented.specs.Consistent.{RepresentsAugmented}
+use Rattle.ic_augmented.specs.Prelude.{Summaries, is_fresh, IsSummed, RepresentsAugmented}
 use Rattle.ic_augmented.specs.Beside.{IsWrittenWithin, IsWrittenIn, IsEdgeOf}
 use Rattle.ic_augmented.proofs.ConsistencyLemmas.{where_is}
 

@@ -1,16 +1,12 @@
 -- If a summary has changed, the change is passed on to the summaries above it. The edge is the place whose summary may be wrong during an edit.
 use Rattle.std.proofs.Common.{◌≡◌, ◌≢◌, ◌≤◌, ◌+◌, true, false, Option, Some, None, List, [], ◌∷◌, ◌++◌, refl, sym, ap, ◌∙◌, subst, arith, inl, inr}
-use Rattle.ic_link_ops.specs.Prelude.{Place, IsAbsent, IsDisjoint, IsMember, Table}
+use Rattle.ic_link_ops.specs.Prelude.{Place, IsAbsent, IsDisjoint, IsMember, Table, one_at, times, times_in, times_around, Tree, leaf, fork, top, in_order}
 use Rattle.ic_link_ops.specs.declared.color.Color.{Color}
 use Rattle.ic_link_ops.specs.declared.side.Side.{Side}
 use Rattle.ic_link_ops.specs.declared.side.Side.TheVariants.{Left, Right}
 use Rattle.ic_link_ops.specs.Frames.{Frame, frame, plug, put_in, above, IsAround}
 use Rattle.ic_link_ops.specs.RedBlackTree.{Node, IsTree, Represents}
-use Rattle.ic_link_ops.specs.Times.{one_at, times, times_in, times_around}
-use Rattle.ic_link_ops.specs.Trees.{Tree, leaf, fork, top, in_order}
-use Rattle.ic_link_ops.proofs.SequenceLemmas.{none_not, some_same}
-use Rattle.ic_link_ops.proofs.RepresentedTrees.{holds_out}
-use Rattle.ic_link_ops.proofs.Times.{one_at_self, apart, times_plug, times_order, absent_times}
+use Rattle.ic_link_ops.proofs.Prelude.{none_not, some_same, holds_out, one_at_self, apart, times_plug, times_order, absent_times}
 use Rattle.ic_augmented.specs.Summaries.{Summaries, is_fresh, seen, IsSummed, Writes}
 use Rattle.ic_augmented.specs.Consistent.{IsUnder, IsJoined, IsSameAt, IsConsistentTree, IsConsistentBelow, IsConsistentBut, IsConsistent, Refreshes}
 use Rattle.ic_augmented.specs.Changes.{IsAmong, Rejoins, seen_upper, join_on, IsJoinedOn, IsConsistentAbove, IsEdgeAbove, IsEdgeAt, RecomputesAt, PassesOn, ClimbsTo}

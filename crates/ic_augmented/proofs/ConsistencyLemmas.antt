@@ -1,14 +1,9 @@
 -- Each write keeps fresh summaries right, and stale summaries are written again. The edge is the place whose summary may be wrong during an edit.
 use Rattle.std.proofs.Common.{◌≡◌, ◌≢◌, ◌≤◌, ◌+◌, ℕ, suc, zero, ◌-◌, true, false, Option, Some, None, List, refl, sym, ap, ◌∙◌, subst, arith, inl, inr, ◌⊎◌}
 use Rattle.std.proofs.Math.Nat.{le-max_left, le-max_right}
-use Rattle.ic_link_ops.specs.Prelude.{Place, Table, ChangesOnly}
-use Rattle.ic_unsafe_ref.proofs.PlaceLemmas.{same_or_not}
+use Rattle.ic_link_ops.specs.Prelude.{Place, Table, ChangesOnly, Tree, leaf, fork, top, Node, IsTree, one_at, times, times_in}
+use Rattle.ic_link_ops.proofs.Prelude.{same_or_not, none_not, some_same, one_at_self, one_at_other, apart}
 use Rattle.ic_link_ops.specs.declared.color.Color.{Color}
-use Rattle.ic_link_ops.specs.Trees.{Tree, leaf, fork, top}
-use Rattle.ic_link_ops.specs.RedBlackTree.{Node, IsTree}
-use Rattle.ic_link_ops.specs.Times.{one_at, times, times_in}
-use Rattle.ic_link_ops.proofs.SequenceLemmas.{none_not, some_same}
-use Rattle.ic_link_ops.proofs.Times.{one_at_self, one_at_other, apart}
 use Rattle.ic_rbtree.specs.Height.{height}
 use Rattle.ic_augmented.specs.Summaries.{Summaries, is_fresh, seen, total, IsSummed, WritesNoSummary, Invalidates, Writes}
 use Rattle.ic_augmented.specs.Consistent.{IsBelowStale, IsUnder, IsJoined, IsSameAt, IsConsistentTree, IsConsistentBelow, Refreshes, IsConsistentBut, IsConsistent}

@@ -1,21 +1,15 @@
 -- The counts of subtrees give the positions of members.
-use Rattle.std.proofs.Common.{◌≡◌, ◌≢◌, ◌≤◌, ◌<◌, ◌+◌, ◌-◌, ◌^◌, ℕ, suc, zero, Option, Some, None, List, [], ◌∷◌, ◌++◌, length, min, refl, sym, ap, ◌∙◌, subst, arith, length-append}
+use Rattle.std.proofs.Common.{◌≡◌, ◌≢◌, ◌≤◌, ◌<◌, ◌+◌, ◌-◌, ◌^◌, ℕ, suc, zero, Option, Some, None, List, [], ◌∷◌, ◌++◌, length, min, refl, sym, ap, ◌∙◌, subst, arith, length-append, slice_get}
 use Rattle.std.specs.Bool.{⊤}
 use Rattle.std.proofs.Math.Nat.{min-eq_left, le-max_left, le-max_right}
-use Rattle.std.specs.List.{slice_get}
-use Rattle.ic_link_ops.specs.Prelude.{Place, Table}
+use Rattle.ic_link_ops.specs.Prelude.{Place, Table, Tree, leaf, fork, top, in_order, Node, IsTree}
 use Rattle.ic_link_ops.specs.declared.color.Color.{Color}
-use Rattle.ic_link_ops.specs.Trees.{Tree, leaf, fork, top, in_order}
-use Rattle.ic_link_ops.specs.RedBlackTree.{Node, IsTree}
-use Rattle.ic_link_ops.proofs.SequenceLemmas.{none_not, some_same}
-use Rattle.ic_link_ops.proofs.Walks.{few_places}
+use Rattle.ic_link_ops.proofs.Prelude.{none_not, some_same, few_places}
 use Rattle.ic_rbtree.specs.Height.{height}
 use Rattle.ic_rbtree.proofs.Climbed.{path_few}
 use Rattle.ic_augmented.specs.declared.augmented_table.Cell.{Cell}
-use Rattle.ic_augmented.specs.Summaries.{seen, total, IsSummed}
-use Rattle.ic_augmented.specs.AugmentedTables.{or_zero}
+use Rattle.ic_augmented.specs.Prelude.{seen, total, IsSummed, or_zero, RepresentsAugmented}
 use Rattle.ic_augmented.specs.Counts.{counts_in}
-use Rattle.ic_augmented.specs.Consistent.{RepresentsAugmented}
 use Rattle.ic_augmented.proofs.ConsistencyLemmas.{summed_seen}
 
 -- THE COUNT OF A TREE is the number of its members

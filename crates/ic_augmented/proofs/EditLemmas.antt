@@ -1,23 +1,11 @@
 -- Edits of a tree keep each fresh summary right. The edge is the place whose summary may be wrong during an edit.
-use Rattle.std.specs.declared.cmp.Ordering.{Ordering}
-use Rattle.std.proofs.Common.{◌≡◌, ◌≢◌, ◌≤◌, ◌+◌, Bool, true, false, Option, Some, None, List, [], ◌∷◌, ◌++◌, refl, sym, ap, ◌∙◌, subst, arith, inl, inr}
-use Rattle.ic_link_ops.specs.Prelude.{Place, Objects, Cut, join, insert, IsAbsent, IsDisjoint, Table, ChangesOnly}
-use Rattle.ic_unsafe_ref.proofs.PlaceLemmas.{same_or_not}
+use Rattle.std.proofs.Common.{◌≡◌, ◌≢◌, ◌≤◌, ◌+◌, Bool, true, false, Option, Some, None, List, [], ◌∷◌, ◌++◌, refl, sym, ap, ◌∙◌, subst, arith, inl, inr, Ordering}
+use Rattle.ic_link_ops.specs.Prelude.{Place, Objects, Cut, join, insert, IsAbsent, IsDisjoint, Table, ChangesOnly, Removes, top, in_order, one_at, times, times_in}
+use Rattle.ic_link_ops.proofs.Prelude.{same_or_not, one_at_self, one_at_other, times_append, times_order, absent_times, disjoint_cons, some_same}
 use Rattle.ic_link_ops.specs.declared.side.Side.{Side}
-use Rattle.ic_link_ops.specs.Edits.{Removes}
-use Rattle.ic_link_ops.specs.Trees.{top, in_order}
 use Rattle.ic_link_ops.specs.RedBlackTree.{Node, Represents}
-use Rattle.ic_link_ops.specs.Times.{one_at, times, times_in}
-use Rattle.ic_link_ops.proofs.Times.{one_at_self, one_at_other, times_append, times_order, absent_times}
-use Rattle.ic_link_ops.proofs.SequenceLemmas.{disjoint_cons, some_same}
 use Rattle.ic_link_ops.proofs.RepresentedTrees.{holds_once, represents_beside, represents_frame, free_absent, one_sequence}
-use Rattle.ic_rbtree.specs.Closed.{IsIn, AreIn, IsNode, IsClosed, IsClosedBut}
-use Rattle.ic_rbtree.specs.Comparing.{compared, own_order}
-use Rattle.ic_rbtree.specs.Height.{height}
-use Rattle.ic_rbtree.specs.Insertion.{IsInsertPos, Attaches}
-use Rattle.ic_rbtree.specs.Ordered.{InsertsInOrder}
-use Rattle.ic_rbtree.specs.Pieces.{loose, Represented}
-use Rattle.ic_rbtree.specs.Transplants.{TakesAway}
+use Rattle.ic_rbtree.specs.Prelude.{IsIn, AreIn, IsNode, IsClosed, IsClosedBut, compared, own_order, height, IsInsertPos, Attaches, InsertsInOrder, loose, Represented, TakesAway}
 use Rattle.ic_rbtree.proofs.Attaching.{inserts}
 use Rattle.ic_rbtree.proofs.Removing.{removes, loose_absent, represented_of, represents_of}
 use Rattle.ic_rbtree.proofs.Climbed.{path_few}

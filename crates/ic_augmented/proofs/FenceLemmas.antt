@@ -2,21 +2,14 @@
 use Rattle.std.proofs.Common.{◌≡◌, ◌≤◌, ◌+◌, ℕ, zero, suc, Bool, true, false, ◌&&◌, Option, Some, None, List, [], ◌∷◌, ◌++◌, refl, sym, ap, ◌∙◌, subst, arith, inl, inr}
 use Rattle.std.proofs.lemmas.Bool.{and_from}
 use Rattle.std.proofs.Math.Nat.{le-max_left, le-max_right}
-use Rattle.ic_link_ops.specs.Prelude.{Place, Cut, Table}
-use Rattle.ic_unsafe_ref.proofs.PlaceLemmas.{same_or_not}
+use Rattle.ic_link_ops.specs.Prelude.{Place, Cut, Table, one_at, times, times_in, Tree, leaf, fork, top, in_order}
+use Rattle.ic_link_ops.proofs.Prelude.{same_or_not, none_not, some_same, one_at_self, one_at_other, times_append, times_order}
 use Rattle.ic_link_ops.specs.declared.side.Side.{Side}
 use Rattle.ic_link_ops.specs.declared.side.Side.TheVariants.{Left, Right}
 use Rattle.ic_link_ops.specs.RedBlackTree.{Node, IsTree, Represents}
-use Rattle.ic_link_ops.specs.Times.{one_at, times, times_in}
-use Rattle.ic_link_ops.specs.Trees.{Tree, leaf, fork, top, in_order}
 use Rattle.ic_link_ops.proofs.Frames.{tree_same, side_same, around_same}
-use Rattle.ic_link_ops.proofs.SequenceLemmas.{none_not, some_same}
-use Rattle.ic_link_ops.proofs.Times.{one_at_self, one_at_other, times_append, times_order}
-use Rattle.ic_rbtree.specs.Closed.{IsIn, IsClosedBut, IsClosed, IsSafe, IsSafeBut, KeepsNodes}
-use Rattle.ic_rbtree.specs.Height.{height}
-use Rattle.ic_rbtree.specs.Insertion.{IsInsertPos, Attaches}
+use Rattle.ic_rbtree.specs.Prelude.{IsIn, IsClosedBut, IsClosed, IsSafe, IsSafeBut, KeepsNodes, height, IsInsertPos, Attaches, TakesAway}
 use Rattle.ic_rbtree.specs.Pieces.{Piece, cell, loose, below, around, times_all, times_piece, IsPiece, ArePieces, Represented}
-use Rattle.ic_rbtree.specs.Transplants.{TakesAway}
 use Rattle.ic_rbtree.proofs.Climbed.{path_few}
 use Rattle.ic_rbtree.proofs.Removing.{represented_of, represents_of}
 use Rattle.ic_rbtree.proofs.RepresentedClosed.{among, with_place}

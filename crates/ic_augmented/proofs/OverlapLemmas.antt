@@ -1,34 +1,22 @@
 -- A search finds the first interval that overlaps [from, to), below a place or after it.
-use Rattle.std.proofs.Common.{◌≡◌, ◌≢◌, ◌≤◌, ◌<◌, ◌-◌, ◌&&◌, nat_lt, ◌⊎◌, ℕ, Bool, true, false, cond, Option, Some, None, List, [], ◌∷◌, ◌++◌, length, map, max, refl, sym, ap, ◌∙◌, subst, arith, inl, inr, append_assoc}
+use Rattle.std.proofs.Common.{◌≡◌, ◌≢◌, ◌≤◌, ◌<◌, ◌-◌, ◌&&◌, nat_lt, ◌⊎◌, ℕ, Bool, true, false, cond, Option, Some, None, List, [], ◌∷◌, ◌++◌, length, map, max, refl, sym, ap, ◌∙◌, subst, arith, inl, inr, append_assoc, ltb-true, ltb-false, lt-ltb, le-ltb, filter, nat_cmp, Equal, Greater}
 use Rattle.std.proofs.Math.Nat.{le-max_left, le-max_right, max-le}
-use Rattle.std.proofs.lemmas.Bool.{ltb-true, ltb-false, lt-ltb, le-ltb}
 use Rattle.std.proofs.lemmas.List.Elements.{filter-append}
 use Rattle.std.specs.Cmp.{nat_cmp_is}
-use Rattle.std.specs.List.{filter}
-use Rattle.std.specs.Ordering.{nat_cmp}
-use Rattle.std.specs.declared.cmp.Ordering.TheVariants.{Equal, Greater}
-use Rattle.ic_link_ops.specs.Prelude.{Place, Objects, is_placed, first, Table, ArePlaced}
+use Rattle.ic_link_ops.specs.Prelude.{Place, Objects, is_placed, first, Table, ArePlaced, is_end, Node, IsTree, Tree, leaf, fork, top, in_order}
 use Rattle.ic_link_ops.specs.declared.color.Color.{Color}
 use Rattle.ic_link_ops.specs.declared.side.Side.TheVariants.{Left, Right}
 use Rattle.ic_link_ops.specs.Frames.{Frame, frame, plug, above, after}
-use Rattle.ic_link_ops.specs.Walk.{is_end}
-use Rattle.ic_link_ops.specs.RedBlackTree.{Node, IsTree}
-use Rattle.ic_link_ops.specs.Trees.{Tree, leaf, fork, top, in_order}
-use Rattle.ic_link_ops.proofs.SequenceLemmas.{none_not, some_same}
-use Rattle.ic_rbtree.specs.Borders.{IsSorted}
-use Rattle.ic_rbtree.specs.Height.{height}
+use Rattle.ic_link_ops.proofs.Prelude.{none_not, some_same, times_plug}
+use Rattle.ic_rbtree.specs.Prelude.{IsSorted, height}
 use Rattle.ic_rbtree.proofs.Climbed.{path_few}
 use Rattle.ic_augmented.specs.declared.augmented_table.Cell.{Cell}
-use Rattle.ic_augmented.specs.Consistent.{RepresentsAugmented}
+use Rattle.ic_augmented.specs.Prelude.{RepresentsAugmented, overlaps, or_zero, seen, total, IsSummed}
 use Rattle.ic_augmented.specs.Greatest.{number_in, greatest_in}
-use Rattle.ic_augmented.specs.Intervals.{overlaps}
-use Rattle.ic_augmented.specs.AugmentedTables.{or_zero}
-use Rattle.ic_augmented.specs.Summaries.{seen, total, IsSummed}
 use Rattle.ic_augmented.proofs.ConsistencyLemmas.{summed_seen, times_top}
 use Rattle.ic_augmented.specs.Subtrees.{IsSubtree}
 use Rattle.ic_augmented.proofs.SubtreeLemmas.{lower, member_subtree, subtree_left, subtree_right}
 use Rattle.ic_augmented.proofs.RankLemmas.{end_is, not_end, summed_below}
-use Rattle.ic_link_ops.proofs.Times.{times_plug}
 
 below_or_not : (a b : ℕ) → (a < b) ⊎ (b ≤ a)
 below_or_not a b = pick (nat_lt a b) refl where

@@ -1,13 +1,9 @@
 -- Summaries are recomputed from a place up to the root.
 use Rattle.std.proofs.Common.{◌≡◌, ◌≤◌, ◌<◌, ◌-◌, ℕ, Option, Some, None, List, [], ◌∷◌, ◌++◌, length, refl, sym, ◌∙◌, subst, arith}
-use Rattle.ic_link_ops.specs.Prelude.{Place, Table}
+use Rattle.ic_link_ops.specs.Prelude.{Place, Table, Node, IsTree, times, times_around, Tree, fork, top}
 use Rattle.ic_link_ops.specs.declared.side.Side.TheVariants.{Left, Right}
 use Rattle.ic_link_ops.specs.Frames.{Frame, frame, plug, above}
-use Rattle.ic_link_ops.specs.RedBlackTree.{Node, IsTree}
-use Rattle.ic_link_ops.specs.Times.{times, times_around}
-use Rattle.ic_link_ops.specs.Trees.{Tree, fork, top}
-use Rattle.ic_link_ops.proofs.SequenceLemmas.{none_not}
-use Rattle.ic_link_ops.proofs.Times.{times_plug}
+use Rattle.ic_link_ops.proofs.Prelude.{none_not, times_plug}
 use Rattle.ic_augmented.specs.Summaries.{Summaries, IsSummed}
 use Rattle.ic_augmented.specs.Consistent.{IsSameAt, IsConsistentTree, IsConsistentBelow, IsConsistentBeside, Refreshes, RepresentsConsistent, RepresentsAugmented}
 use Rattle.ic_augmented.specs.Subtrees.{IsSubtree}

@@ -1,17 +1,15 @@
 -- A caller with a pool needs these lemmas: fresh summaries stay right if tables grow, and an insert into a summed tree is also an insert into the tree
 -- alone.
-use Rattle.std.specs.declared.cmp.Ordering.{Ordering}
-use Rattle.std.proofs.Common.{◌≡◌, ℕ, Option, List, sym, ◌∙◌, subst}
+use Rattle.std.proofs.Common.{◌≡◌, ℕ, Option, List, sym, ◌∙◌, subst, Ordering}
 use Rattle.ic_link_ops.specs.Prelude.{Place, Table}
 use Rattle.ic_link_ops.specs.RedBlackTree.{Node, Represents}
 use Rattle.ic_link_ops.proofs.RepresentedTrees.{one_sequence}
 use Rattle.ic_rbtree.specs.Ordered.{InsertsInOrder}
 use Rattle.ic_augmented.specs.declared.augmented_table.AugmentedTable.{AugmentedTable}
-use Rattle.ic_augmented.specs.Consistent.{IsJoined, IsSameAt, IsConsistent, RepresentsConsistent}
+use Rattle.ic_augmented.specs.Prelude.{IsJoined, IsSameAt, IsConsistent, RepresentsConsistent, Summaries}
 use Rattle.ic_augmented.specs.Fresh.{RepresentsFresh}
 use Rattle.ic_augmented.specs.Greatest.{greatest, greatest_of, number_at}
 use Rattle.ic_augmented.specs.GreatestLaws.{greatest_tells}
-use Rattle.ic_augmented.specs.Summaries.{Summaries}
 use Rattle.ic_augmented.proofs.ConsistencyLemmas.{joined_at}
 use Rattle.ic_augmented.proofs.AugmentedTableLemmas.{same_value}
 

@@ -2,21 +2,14 @@
 use Rattle.std.proofs.Common.{◌≡◌, ◌≢◌, ◌≤◌, ◌+◌, ◌-◌, ◌^◌, ℕ, suc, true, false, Option, Some, None, List, [], ◌∷◌, ◌++◌, length, min, refl, sym, ap, ◌∙◌, subst, arith, length-append, eqb-true, eq-eqb}
 use Rattle.std.specs.Bool.{⊤}
 use Rattle.std.proofs.Math.Nat.{min-eq_left}
-use Rattle.ic_link_ops.specs.Prelude.{Place, index_of, Table}
-use Rattle.ic_unsafe_ref.proofs.PlaceLemmas.{same_index}
+use Rattle.ic_link_ops.specs.Prelude.{Place, index_of, Table, Node, Tree, fork, top, in_order, is_end}
+use Rattle.ic_link_ops.proofs.Prelude.{same_index, none_not, some_same, times_plug}
 use Rattle.ic_link_ops.specs.declared.side.Side.TheVariants.{Left, Right}
 use Rattle.ic_link_ops.specs.Frames.{Frame, frame, plug, above, before, after}
-use Rattle.ic_link_ops.specs.RedBlackTree.{Node}
-use Rattle.ic_link_ops.specs.Trees.{Tree, fork, top, in_order}
-use Rattle.ic_link_ops.specs.Walk.{is_end}
 use Rattle.ic_link_ops.proofs.Frames.{in_order_parts}
-use Rattle.ic_link_ops.proofs.SequenceLemmas.{none_not, some_same}
-use Rattle.ic_link_ops.proofs.Times.{times_plug}
 use Rattle.ic_augmented.specs.declared.augmented_table.Cell.{Cell}
 use Rattle.ic_augmented.specs.Counts.{counts_in}
-use Rattle.ic_augmented.specs.AugmentedTables.{or_zero}
-use Rattle.ic_augmented.specs.Summaries.{Summaries, seen, IsSummed}
-use Rattle.ic_augmented.specs.Consistent.{RepresentsAugmented}
+use Rattle.ic_augmented.specs.Prelude.{or_zero, Summaries, seen, IsSummed, RepresentsAugmented}
 use Rattle.ic_augmented.specs.Subtrees.{IsSubtree}
 use Rattle.ic_augmented.proofs.ConsistencyLemmas.{times_top}
 use Rattle.ic_augmented.proofs.CountLemmas.{seen_count}

@@ -1,12 +1,8 @@
 -- These lemmas say what a write of a link keeps of the summary at one place, and what link steps keep of the summaries of a sequence.
-use Rattle.std.specs.declared.cmp.Ordering.{Ordering}
-use Rattle.std.proofs.Common.{◌≡◌, ◌≢◌, ◌≤◌, ◌⊎◌, Option, Some, None, Result, Ok, Err, OnErr, List, [], ◌∷◌, ◌++◌, ap, sym, ◌∙◌, subst, arith, inl, inr}
-use Rattle.ic_link_ops.specs.Prelude.{Place, join, insert, Table, ChangesOnly, LinkStep, acquires, releases}
-use Rattle.ic_unsafe_ref.proofs.PlaceLemmas.{same_or_not}
+use Rattle.std.proofs.Common.{◌≡◌, ◌≢◌, ◌≤◌, ◌⊎◌, Option, Some, None, Result, Ok, Err, OnErr, List, [], ◌∷◌, ◌++◌, ap, sym, ◌∙◌, subst, arith, inl, inr, Ordering}
+use Rattle.ic_link_ops.specs.Prelude.{Place, join, insert, Table, ChangesOnly, LinkStep, acquires, releases, times_in}
+use Rattle.ic_link_ops.proofs.Prelude.{same_or_not, none_not, one_at_self, one_at_other, times_append}
 use Rattle.ic_link_ops.specs.RedBlackTree.{Node, Represents}
-use Rattle.ic_link_ops.specs.Times.{times_in}
-use Rattle.ic_link_ops.proofs.SequenceLemmas.{none_not}
-use Rattle.ic_link_ops.proofs.Times.{one_at_self, one_at_other, times_append}
 use Rattle.ic_rbtree.specs.Ordered.{InsertsInOrder}
 use Rattle.ic_augmented.specs.Consistent.{IsJoined, IsConsistent, IsConsistentBut, RepresentsConsistent, KeepsConsistent}
 use Rattle.ic_augmented.specs.Summaries.{Summaries}

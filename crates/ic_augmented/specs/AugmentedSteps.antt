@@ -1,7 +1,6 @@
 -- A link step links or unlinks a place, and this file says what it keeps of the summaries.
 use Rattle.std.specs.Prelude.{◌≡◌, ◌⊎◌, Some, List, [], ◌∷◌}
-use Rattle.ic_link_ops.specs.Prelude.{Place, Table, LinkStep, acquires, releases}
-use Rattle.ic_link_ops.specs.RedBlackTree.{Node}
+use Rattle.ic_link_ops.specs.Prelude.{Place, Table, LinkStep, acquires, releases, Node}
 use Rattle.ic_augmented.specs.Summaries.{Summaries, WritesNoSummary}
 use Rattle.ic_augmented.specs.Consistent.{IsJoined}
 use Rattle.ic_augmented.specs.Augmented.{links_of, summaries_of}

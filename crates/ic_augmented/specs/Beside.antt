@@ -1,7 +1,6 @@
 -- A climb from a tree follows stored parents upwards, and these definitions say which summaries it cannot reach.
 use Rattle.std.specs.Prelude.{◌≡◌, ◌≢◌, ◌≤◌, Bool, true, false, Option, Some, List}
-use Rattle.ic_link_ops.specs.Prelude.{Place, IsMember}
-use Rattle.ic_link_ops.specs.Times.{times_in}
+use Rattle.ic_link_ops.specs.Prelude.{Place, IsMember, times_in}
 use Rattle.ic_rbtree.specs.Closed.{IsIn}
 use Rattle.ic_augmented.specs.Summaries.{Summaries, is_fresh}
 use Rattle.ic_augmented.specs.Consistent.{IsSameAt}

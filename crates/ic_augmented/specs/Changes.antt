@@ -1,12 +1,10 @@
 -- If a summary changes, the summaries above it that were computed from it must change. These definitions say how they are recomputed.
 use Rattle.std.specs.Prelude.{◌≡◌, ◌⊎◌, true, Option, Some, None, List, [], ◌∷◌}
-use Rattle.ic_link_ops.specs.Prelude.{Place, Table}
+use Rattle.ic_link_ops.specs.Prelude.{Place, Table, Node, Tree, top}
 use Rattle.ic_link_ops.specs.declared.color.Color.{Color}
 use Rattle.ic_link_ops.specs.declared.side.Side.{Side}
 use Rattle.ic_link_ops.specs.declared.side.Side.TheVariants.{Left, Right}
 use Rattle.ic_link_ops.specs.Frames.{Frame, frame, plug, put_in}
-use Rattle.ic_link_ops.specs.RedBlackTree.{Node}
-use Rattle.ic_link_ops.specs.Trees.{Tree, top}
 use Rattle.ic_augmented.specs.Summaries.{Summaries, is_fresh, seen}
 use Rattle.ic_augmented.specs.Consistent.{IsUnder, IsConsistentTree, IsConsistentBelow}
 use Rattle.ic_augmented.specs.Subtrees.{IsSubtree}

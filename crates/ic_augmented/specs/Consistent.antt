@@ -1,10 +1,8 @@
 -- In a consistent tree each fresh summary is right. Every edit keeps a tree consistent.
 use Rattle.std.specs.Prelude.{◌≡◌, ◌≤◌, ℕ, true, Option, Some, None, List, [], ◌∷◌}
-use Rattle.ic_link_ops.specs.Prelude.{Place, Table}
+use Rattle.ic_link_ops.specs.Prelude.{Place, Table, Tree, leaf, fork, top, times, times_in}
 use Rattle.ic_link_ops.specs.Frames.{Frame, frame}
-use Rattle.ic_link_ops.specs.Trees.{Tree, leaf, fork, top}
 use Rattle.ic_link_ops.specs.RedBlackTree.{Node, Represents}
-use Rattle.ic_link_ops.specs.Times.{times, times_in}
 use Rattle.ic_rbtree.specs.Height.{height}
 use Rattle.ic_augmented.specs.Summaries.{Summaries, is_fresh, seen, IsSummed, WritesNoSummary}
 

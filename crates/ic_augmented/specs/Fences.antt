@@ -1,7 +1,6 @@
 -- A fence is a set of places. A place outside the fence counts as not linked, so no call can write there.
 use Rattle.std.specs.Prelude.{Bool, ◌&&◌}
-use Rattle.ic_link_ops.specs.Prelude.{Place, Table}
-use Rattle.ic_link_ops.specs.RedBlackTree.{Node}
+use Rattle.ic_link_ops.specs.Prelude.{Place, Table, Node}
 
 module _ {E : Type 0} where
   -- a table in which each entry also says whether its place is inside the fence

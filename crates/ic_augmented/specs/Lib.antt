@@ -16,3 +16,4 @@ pub mod GreatestLaws
 pub mod Intervals
 pub mod Subtrees
 pub mod Pooled
+pub mod Prelude

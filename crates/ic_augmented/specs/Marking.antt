@@ -1,8 +1,7 @@
 -- An edit may make summaries stale, and leave the summary above them as it was. These definitions say what such an edit keeps.
 use Rattle.std.specs.Prelude.{◌≡◌, Bool, Option, List}
 use Rattle.std.specs.Borrow.{MutBor}
-use Rattle.ic_link_ops.specs.Prelude.{Place, Table}
-use Rattle.ic_link_ops.specs.RedBlackTree.{Node}
+use Rattle.ic_link_ops.specs.Prelude.{Place, Table, Node}
 use Rattle.ic_rbtree.specs.Closed.{IsIn, KeepsNodes}
 use Rattle.ic_augmented.specs.Augmented.{links_of, summaries_of}
 use Rattle.ic_augmented.specs.Summaries.{Summaries, WritesNoSummary}

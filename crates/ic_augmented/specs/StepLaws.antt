@@ -1,8 +1,7 @@
 -- If each of two lists of link steps keeps fresh summaries right, both lists together keep them right.
 use Rattle.std.specs.Prelude.{◌⊎◌, List, [], ◌∷◌, ◌++◌}
 use Rattle.std.proofs.Common.{inl, inr}
-use Rattle.ic_link_ops.specs.Prelude.{Place, Table, LinkStep, acquires, releases}
-use Rattle.ic_link_ops.specs.RedBlackTree.{Node}
+use Rattle.ic_link_ops.specs.Prelude.{Place, Table, LinkStep, acquires, releases, Node}
 use Rattle.ic_augmented.specs.Summaries.{Summaries}
 use Rattle.ic_augmented.specs.AugmentedSteps.{IsAcquired, IsRightAt}
 

@@ -1,10 +1,7 @@
 -- A table represents a tree, and this file describes one subtree of it and the path above the subtree.
 use Rattle.std.specs.Prelude.{◌≤◌, List, length}
-use Rattle.ic_link_ops.specs.Prelude.{Place, Table}
+use Rattle.ic_link_ops.specs.Prelude.{Place, Table, Node, IsTree, times, Tree, top, in_order}
 use Rattle.ic_link_ops.specs.Frames.{Frame, plug, above, IsAround}
-use Rattle.ic_link_ops.specs.RedBlackTree.{Node, IsTree}
-use Rattle.ic_link_ops.specs.Times.{times}
-use Rattle.ic_link_ops.specs.Trees.{Tree, top, in_order}
 use Rattle.ic_rbtree.specs.Height.{height}
 
 module _ {E : Type 0} (n : E → Node) where

@@ -1,7 +1,6 @@
 -- Each place can have a summary, which is computed from the members of the subtree there.
 use Rattle.std.specs.Prelude.{◌≡◌, ◌≢◌, Bool, true, false, Option, Some, None}
-use Rattle.ic_unsafe_ref.specs.declared.place.Place.{Place}
-use Rattle.ic_link_ops.specs.Trees.{Tree, leaf, fork}
+use Rattle.ic_link_ops.specs.Prelude.{Place, Tree, leaf, fork}
 
 -- summaries store three things beside the links. `fresh` gives the summary of a place, or none if it is stale, and `upper` gives the parent that the place
 -- had when the summary was written. `join` computes a place's summary from the summaries of its two subtrees

@@ -6,9 +6,8 @@
 //! ```
 
 ghost use Rattle.std.specs.Prelude.{◌≡◌, ◌≢◌, ◌<◌, ◌≤◌, ◌↔◌, ⊤, Err, OnOk, OnErr, IsOk, IsTrue, IfSome, max, Option, Some, List};
-ghost use Rattle.ic_link_ops.specs.Prelude.{Place, index_of, IsAbsent};
+ghost use Rattle.ic_link_ops.specs.Prelude.{Place, index_of, IsAbsent, times_in};
 ghost use Rattle.ic_link_ops.specs.declared.errors.CoverError.TheVariants as CoverError;
-ghost use Rattle.ic_link_ops.specs.Times.{times_in};
 ghost use Rattle.ic_augmented.specs.Beside.{IsWrittenWithin};
 ghost use Rattle.ic_augmented.specs.Changes.{Rejoins};
 ghost use Rattle.ic_augmented.specs.Consistent.{IsConsistent, IsSameAt};

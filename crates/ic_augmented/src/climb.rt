@@ -7,11 +7,9 @@
 //! ```
 
 ghost use Rattle.std.specs.Prelude.{◌≡◌, Bool, false, Option, Some, None, List, ◌∷◌, ◌++◌, IsTrue, IfSome, IfNone};
-ghost use Rattle.ic_link_ops.specs.Prelude.{Place, IsAbsent, IsDisjoint, Table, HasMember};
+ghost use Rattle.ic_link_ops.specs.Prelude.{Place, IsAbsent, IsDisjoint, Table, HasMember, Tree, top, times};
 ghost use Rattle.ic_link_ops.specs.Frames.{Frame, plug};
 ghost use Rattle.ic_link_ops.specs.RedBlackTree.{IsTree, Represents};
-ghost use Rattle.ic_link_ops.specs.Trees.{Tree, top};
-ghost use Rattle.ic_link_ops.specs.Times.{times};
 ghost use Rattle.ic_rbtree.specs.Closed.{IsIn, IsNode};
 ghost use Rattle.ic_augmented.specs.Beside.{IsWrittenIn, IsEdgeOf};
 ghost use Rattle.ic_augmented.specs.Changes.{IsAmong, RecomputesAt, PassesOn, ClimbsTo};

@@ -11,11 +11,8 @@
 ghost use Rattle.std.specs.Prelude.{◌≡◌, Option, Some, None, List, [], ◌∷◌, ◌++◌};
 ghost use Rattle.ic_link_ops.specs.Prelude.{Place, Cut, join, insert, IsAbsent, IsDistinct, HasMember};
 ghost use Rattle.ic_link_ops.specs.RedBlackTree.{Represents};
-ghost use Rattle.ic_rbtree.specs.Closed.{IsNode, IsSafeBut, KeepsNodes};
-ghost use Rattle.ic_rbtree.specs.Insertion.{IsInsertPos, Attaches};
+ghost use Rattle.ic_rbtree.specs.Prelude.{IsNode, IsSafeBut, KeepsNodes, IsInsertPos, Attaches, TakesAway, head_of, root_in};
 ghost use Rattle.ic_rbtree.specs.Kept.{TellsEnds, IsBelow};
-ghost use Rattle.ic_rbtree.specs.Transplants.{TakesAway};
-ghost use Rattle.ic_rbtree.specs.Tree.{head_of, root_in};
 ghost use Rattle.ic_augmented.specs.Augmented.{links_of, summaries_of};
 ghost use Rattle.ic_augmented.specs.Consistent.{IsSameAt, RepresentsConsistent, RepresentsAugmented};
 ghost use Rattle.ic_augmented.specs.Fresh.{ChangesOnlyInTree, RepresentsFresh};

@@ -5,11 +5,9 @@
 //! ```
 
 ghost use Rattle.std.specs.Prelude.{◌≡◌, ◌≤◌, Option, List, filter};
-ghost use Rattle.ic_link_ops.specs.Prelude.{Place, first, Table};
+ghost use Rattle.ic_link_ops.specs.Prelude.{Place, first, Table, Tree, top, in_order};
 ghost use Rattle.ic_link_ops.specs.RedBlackTree.{IsTree, Represents};
-ghost use Rattle.ic_link_ops.specs.Trees.{Tree, top, in_order};
-ghost use Rattle.ic_rbtree.specs.Height.{height};
-ghost use Rattle.ic_rbtree.specs.Tree.{root_in};
+ghost use Rattle.ic_rbtree.specs.Prelude.{height, root_in};
 ghost use Rattle.ic_augmented.specs.Consistent.{RepresentsAugmented};
 ghost use Rattle.ic_augmented.specs.Greatest.{greatest, number_at, is_greater};
 ghost use Rattle.ic_augmented.specs.Augmented.{links_of, summaries_of};

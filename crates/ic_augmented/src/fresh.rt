@@ -10,9 +10,7 @@
 ghost use Rattle.std.specs.Prelude.{◌≡◌, None, OnOk, OnErr, IfErr, List, [], ◌∷◌, ◌++◌};
 ghost use Rattle.ic_link_ops.specs.Prelude.{Place, IsCovered, ChangesOnlyIn, HasMember, acquires, releases};
 ghost use Rattle.ic_link_ops.specs.RedBlackTree.{Represents};
-ghost use Rattle.ic_rbtree.specs.Comparing.{compared, own_order};
-ghost use Rattle.ic_rbtree.specs.Kept.{RepresentsKept};
-ghost use Rattle.ic_rbtree.specs.Ordered.{InsertsInOrder};
+ghost use Rattle.ic_rbtree.specs.Prelude.{compared, own_order, RepresentsKept, InsertsInOrder};
 ghost use Rattle.ic_rbtree.specs.Tree.{head_of, root_in, adapter_of};
 ghost use Rattle.ic_augmented.specs.Augmented.{links_of, summaries_of};
 ghost use Rattle.ic_augmented.specs.Consistent.{RepresentsConsistent};

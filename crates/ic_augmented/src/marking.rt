@@ -9,10 +9,8 @@
 ghost use Rattle.std.specs.Prelude.{◌≡◌, ◌⊎◌, Bool, true, Some, None, List, [], ◌∷◌, ◌++◌};
 ghost use Rattle.ic_link_ops.specs.Prelude.{Place, Cut, join, insert, IsDistinct};
 ghost use Rattle.ic_link_ops.specs.RedBlackTree.{Represents};
-ghost use Rattle.ic_rbtree.specs.Closed.{AreIn, IsClosed, IsClosedBut};
-ghost use Rattle.ic_rbtree.specs.Insertion.{Attaches};
+ghost use Rattle.ic_rbtree.specs.Prelude.{AreIn, IsClosed, IsClosedBut, Attaches, TakesAway};
 ghost use Rattle.ic_rbtree.specs.Kept.{TellsEnds, IsBelow};
-ghost use Rattle.ic_rbtree.specs.Transplants.{TakesAway};
 ghost use Rattle.ic_rbtree.specs.Tree.{head_of, root_in, adapter_of};
 ghost use Rattle.ic_augmented.specs.Beside.{StaysInside};
 ghost use Rattle.ic_augmented.specs.Consistent.{KeepsEdge};

@@ -7,13 +7,10 @@
 
 ghost use Rattle.std.specs.Prelude.{◌≡◌, ◌≤◌, Option, None, Some, List, ◌∷◌, ◌++◌, filter, length, map};
 ghost use Rattle.std.specs.Ordering.{nat_cmp};
-ghost use Rattle.ic_link_ops.specs.Prelude.{Place, first, Table, ArePlaced};
+ghost use Rattle.ic_link_ops.specs.Prelude.{Place, first, Table, ArePlaced, Tree, top, in_order};
 ghost use Rattle.ic_link_ops.specs.Frames.{Frame, plug, after};
 ghost use Rattle.ic_link_ops.specs.RedBlackTree.{IsTree, Represents};
-ghost use Rattle.ic_link_ops.specs.Trees.{Tree, top, in_order};
-ghost use Rattle.ic_rbtree.specs.Borders.{IsSorted};
-ghost use Rattle.ic_rbtree.specs.Height.{height};
-ghost use Rattle.ic_rbtree.specs.Tree.{root_in};
+ghost use Rattle.ic_rbtree.specs.Prelude.{IsSorted, height, root_in};
 ghost use Rattle.ic_augmented.specs.Consistent.{RepresentsAugmented};
 ghost use Rattle.ic_augmented.specs.Greatest.{greatest, number_at};
 ghost use Rattle.ic_augmented.specs.Intervals.{start_in, overlaps};

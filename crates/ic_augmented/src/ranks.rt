@@ -7,13 +7,10 @@
 
 ghost use Rattle.std.specs.Prelude.{◌≡◌, ◌≤◌, Option, Some, None, List, ◌∷◌, ◌++◌, length};
 ghost use Rattle.std.specs.List.{slice_get};
-ghost use Rattle.ic_link_ops.specs.Prelude.{Place, Table, HasMember};
+ghost use Rattle.ic_link_ops.specs.Prelude.{Place, Table, HasMember, Tree, top, in_order, is_end};
 ghost use Rattle.ic_link_ops.specs.Frames.{Frame, plug, before};
 ghost use Rattle.ic_link_ops.specs.RedBlackTree.{IsTree, Represents};
-ghost use Rattle.ic_link_ops.specs.Trees.{Tree, top, in_order};
-ghost use Rattle.ic_link_ops.specs.Walk.{is_end};
-ghost use Rattle.ic_rbtree.specs.Height.{height};
-ghost use Rattle.ic_rbtree.specs.Tree.{root_in};
+ghost use Rattle.ic_rbtree.specs.Prelude.{height, root_in};
 ghost use Rattle.ic_augmented.specs.Counts.{counts};
 ghost use Rattle.ic_augmented.specs.Summaries.{IsSummed};
 ghost use Rattle.ic_augmented.specs.Subtrees.{IsSubtree};

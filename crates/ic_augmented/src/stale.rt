@@ -7,11 +7,8 @@
 //! ```
 
 ghost use Rattle.std.specs.Prelude.{◌≡◌, ◌<◌, ◌⊎◌, suc, Bool, true, IsTrue, Option, Some, None, List, length};
-ghost use Rattle.ic_link_ops.specs.Prelude.{Place, Table};
+ghost use Rattle.ic_link_ops.specs.Prelude.{Place, Table, IsTree, Tree, top, times};
 ghost use Rattle.ic_link_ops.specs.Frames.{Frame, plug};
-ghost use Rattle.ic_link_ops.specs.RedBlackTree.{IsTree};
-ghost use Rattle.ic_link_ops.specs.Trees.{Tree, top};
-ghost use Rattle.ic_link_ops.specs.Times.{times};
 ghost use Rattle.ic_rbtree.specs.Closed.{IsNode};
 ghost use Rattle.ic_augmented.specs.Beside.{IsWrittenIn, IsSameBeside, StaysInside};
 ghost use Rattle.ic_augmented.specs.Consistent.{IsBelowStale, IsSameAt, IsConsistent, IsConsistentBut, IsConsistentTree, IsConsistentBelow, IsConsistentBeside, KeepsConsistent, KeepsEdge, Refreshes};

@@ -1,12 +1,9 @@
 -- Lemmas about valid positions of cursors. A position is valid if it is null or on a member, and what it stores about the next member is right.
 use Rattle.std.proofs.Common.{◌≡◌, ◌∙◌, sym, ap, refl, subst, Bool, true, Option, Some, None, List, [], ◌∷◌, ◌++◌, append_assoc, drop}
 use Rattle.std.specs.Option.{option_or}
-use Rattle.ic_link_ops.specs.Prelude.{Place, Cut, join, at_front, first, last, IsAfter, IsBefore, Table, site, IsValidCursor}
-use Rattle.ic_link_ops.proofs.Chains.{chain_one}
+use Rattle.ic_link_ops.specs.Prelude.{Place, Cut, join, at_front, first, last, IsAfter, IsBefore, Table, site, IsValidCursor, ListHead, empty_list, RepresentsChain}
+use Rattle.ic_link_ops.proofs.Prelude.{chain_one, same_gap, first_is, last_of_push, none_not, IsKind}
 use Rattle.ic_link_ops.proofs.RepresentedLists.{represents_middle, represents_frame, free_absent}
-use Rattle.ic_link_ops.proofs.SequenceLemmas.{same_gap, first_is, last_of_push, none_not}
-use Rattle.ic_link_ops.specs.Chains.{ListHead, empty_list, RepresentsChain}
-use Rattle.ic_link_ops.proofs.CollectionLaws.{IsKind}
 use Rattle.ic_chain.specs.Walk.{WalkEnds}
 use Rattle.ic_chain.specs.Standing.{IsValidAt}
 

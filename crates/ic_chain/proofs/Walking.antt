@@ -1,15 +1,11 @@
 -- Lemmas about a walk over a list's objects: how it goes from a member to the next one, what one step returns, and where the walk ends.
-use Rattle.std.proofs.Common.{◌≡◌, inl, inr, Bool, Option, Some, None, List, [], ◌∷◌, ◌++◌, true, false, Bor, refl, sym, ◌∙◌, ap, subst}
-use Rattle.std.specs.Option.{option_copied}
+use Rattle.std.proofs.Common.{◌≡◌, inl, inr, Bool, Option, Some, None, List, [], ◌∷◌, ◌++◌, true, false, Bor, refl, sym, ◌∙◌, ap, subst, option_copied}
 use Rattle.std.specs.List.{cons_option}
 use Rattle.std.specs.Iterator.{MakesProgress, item_count}
 use Rattle.std.proofs.lemmas.List.Elements.{filter_map-append}
-use Rattle.ic_link_ops.specs.Prelude.{Place, Objects, object_at, first, last, Table, IsCovered, ArePlaced, values_at}
-use Rattle.ic_link_ops.specs.Chains.{ListHead, IsStretch, RepresentsChain}
+use Rattle.ic_link_ops.specs.Prelude.{Place, Objects, object_at, first, last, Table, IsCovered, ArePlaced, values_at, ListHead, IsStretch, RepresentsChain, walked, is_end, GivesFirst, GivesLast}
 use Rattle.ic_link_ops.specs.Turns.{TurnsAfter, TurnsBefore}
-use Rattle.ic_link_ops.specs.Walk.{walked, is_end, GivesFirst, GivesLast}
-use Rattle.ic_link_ops.proofs.SequenceLemmas.{none_not, some_same, last_some}
-use Rattle.ic_link_ops.proofs.PlacedEnds.{all_but_last}
+use Rattle.ic_link_ops.proofs.Prelude.{none_not, some_same, last_some, all_but_last}
 use Rattle.ic_link_ops.proofs.Walks.{is_end_yes, is_end_no, yields_placed, makes_progress, yields_placed_back, makes_progress_back, stretch_empty, stretch_empty_back, stretch_none, stretch_of, stretch_one, stretch_more, stretch_less, stretch_walked, stretch_through}
 use Rattle.ic_chain.specs.declared.iter.Iter.{Iter}
 use Rattle.ic_chain.specs.Walk.{WalkEnds, KnowsLast}

@@ -1,9 +1,7 @@
 -- What a walk that removes each member from its list has left to return.
 use Rattle.std.specs.Prelude.{Option, None, List}
-use Rattle.ic_link_ops.specs.Prelude.{Place, Table}
+use Rattle.ic_link_ops.specs.Prelude.{Place, Table, walked, ListHead}
 use Rattle.ic_link_ops.specs.Taking.{Taking}
-use Rattle.ic_link_ops.specs.Walk.{walked}
-use Rattle.ic_link_ops.specs.Chains.{ListHead}
 use Rattle.ic_chain.specs.declared.into_iter.IntoIter.{IntoIter}
 
 module _ {K T L W P : Type 0} where

@@ -1,8 +1,6 @@
 -- Which members and objects a walk over a list has not returned yet.
 use Rattle.std.specs.Prelude.{Bool, Option, List}
-use Rattle.ic_link_ops.specs.Prelude.{Place, Objects, last, Table, ArePlaced, values_at}
-use Rattle.ic_link_ops.specs.Chains.{IsStretch}
-use Rattle.ic_link_ops.specs.Walk.{walked}
+use Rattle.ic_link_ops.specs.Prelude.{Place, Objects, last, Table, ArePlaced, values_at, IsStretch, walked}
 use Rattle.ic_chain.specs.Walk.{WalkEnds}
 use Rattle.ic_chain.specs.declared.iter.Iter.{Iter}
 

@@ -1,7 +1,6 @@
 -- What follows if two calls are made on one list, one after the other. These definitions serve every kind of list.
 use Rattle.std.specs.Prelude.{◌≡◌, Bool, Option, Some, IfSome, List, [], ◌∷◌}
-use Rattle.ic_link_ops.specs.Prelude.{Place, Cut, insert, IsAfter, Table, ChangesOnlyIn, KeepsLinked, CursorState, RepresentsAt, IsValidCursor, LinkStep, acquires, releases}
-use Rattle.ic_link_ops.specs.EditsAt.{SplicesBeside, SplitsAfter}
+use Rattle.ic_link_ops.specs.Prelude.{Place, Cut, insert, IsAfter, Table, ChangesOnlyIn, KeepsLinked, CursorState, RepresentsAt, IsValidCursor, LinkStep, acquires, releases, SplicesBeside, SplitsAfter}
 use Rattle.ic_link_ops.specs.TwoLists.{AreApart}
 
 -- `Represents`: which sequence of members a table represents for a head. `table`: the entries of a table. `Trace`: which links the table has acquired

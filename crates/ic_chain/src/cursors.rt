@@ -14,8 +14,7 @@
 //! ```
 
 ghost use Rattle.std.specs.Prelude.{◌≡◌, List, Option, Some, None};
-ghost use Rattle.ic_link_ops.specs.Prelude.{Place, Cut, join, first, last, IsAfter, IsBefore, HasMember};
-ghost use Rattle.ic_link_ops.specs.Chains.{RepresentsChain, RepresentsSomeChain};
+ghost use Rattle.ic_link_ops.specs.Prelude.{Place, Cut, join, first, last, IsAfter, IsBefore, HasMember, RepresentsChain, RepresentsSomeChain};
 ghost use Rattle.ic_chain.specs.Standing.{IsValidAt, HasMemberAfter, HasMemberBefore};
 
 use crate::LinkList;

@@ -5,8 +5,7 @@
 //! next place. The traits in `ic_cursors` document what each call does.
 
 ghost use Rattle.std.specs.Prelude.{◌≡◌, List, ⊤};
-ghost use Rattle.ic_link_ops.specs.Sequences.{Cut, join, IsAfter, IsBefore};
-ghost use Rattle.ic_link_ops.specs.Chains.{RepresentsChain};
+ghost use Rattle.ic_link_ops.specs.Prelude.{Cut, join, IsAfter, IsBefore, RepresentsChain};
 ghost use Rattle.ic_chain.specs.Standing.{IsValidAt};
 
 use crate::LinkList;

@@ -8,9 +8,8 @@
 
 ghost use Rattle.std.specs.Prelude.{◌≡◌, List};
 ghost use Rattle.std.specs.Iterator.{item_count};
-ghost use Rattle.ic_link_ops.specs.Prelude.{Place, ChangesOnlyIn, releases_each};
+ghost use Rattle.ic_link_ops.specs.Prelude.{Place, ChangesOnlyIn, releases_each, RepresentsChain, RepresentsSomeChain};
 ghost use Rattle.ic_link_ops.specs.Taking.{Leaves, CanTake, TakesFirst, TakesLast};
-ghost use Rattle.ic_link_ops.specs.Chains.{RepresentsChain, RepresentsSomeChain};
 
 use crate::LinkList;
 use crate::kind::{BidirectionalLinks, DoubleEnded, ForwardLinks, ListKind};

@@ -8,9 +8,7 @@
 //! ```
 
 ghost use Rattle.std.specs.Prelude.{◌≡◌, List, Option, Some, ⊤};
-ghost use Rattle.ic_link_ops.specs.Prelude.{Place, RepresentsPlaced, values_at};
-ghost use Rattle.ic_link_ops.specs.Walk.{is_end, GivesFirst, GivesLast};
-ghost use Rattle.ic_link_ops.specs.Chains.{RepresentsChain};
+ghost use Rattle.ic_link_ops.specs.Prelude.{Place, RepresentsPlaced, values_at, is_end, GivesFirst, GivesLast, RepresentsChain};
 
 use crate::LinkList;
 use crate::kind::{BidirectionalLinks, DoubleEnded, ForwardLinks, ListKind};

@@ -11,8 +11,7 @@
 //! for a new collection, and at most one sequence for any collection. They also say that an edit leaves all other collections as they were.
 
 ghost use Rattle.std.specs.Prelude.{◌≡◌, List, [], ◌∷◌, None, IsTrue};
-ghost use Rattle.ic_link_ops.specs.Prelude.{Place, insert, remove, at_front, at_back, first, last, but_last, IsCovered, ChangesOnlyIn, acquires};
-ghost use Rattle.ic_link_ops.specs.Chains.{RepresentsChain, RepresentsSomeChain};
+ghost use Rattle.ic_link_ops.specs.Prelude.{Place, insert, remove, at_front, at_back, first, last, but_last, IsCovered, ChangesOnlyIn, acquires, RepresentsChain, RepresentsSomeChain};
 ghost use Rattle.ic_cursors.specs.Cursor as reads;
 ghost use Rattle.ic_chain.specs.Laws.{SplitsApart, SplitThenSplice, PushThenPop};
 

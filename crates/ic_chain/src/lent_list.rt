@@ -9,9 +9,9 @@
 //! run_all(&mut list, &mut links); // the list and the table have what `lent` showed last
 //! ```
 
-ghost use Rattle.std.specs.Prelude.{◌≡◌, ◌++◌, ◌∷◌, List, [], OnOk, OnErr, IfErr, IfSome, IfNone};
-ghost use Rattle.ic_link_ops.specs.Prelude.{Place, first, last, at_front, at_back, insert, remove, but_last, IsCovered, ChangesOnlyIn, HasMember, acquires, releases};
-ghost use Rattle.ic_link_ops.specs.Chains.{RepresentsChain, RepresentsSomeChain};
+ghost use Rattle.std.specs.Prelude.{◌≡◌, ◌++◌, ◌∷◌, List, []};
+ghost use Rattle.ic_link_ops.specs.Prelude.{Place, first, last, at_front, at_back, remove, but_last, IsCovered, ChangesOnlyIn, HasMember, releases, RepresentsChain, RepresentsSomeChain};
+ghost use Rattle.ic_chain.specs.ListEdits.{PushesAtEnd, PopsAtEnd, MovesToEnd};
 
 use crate::LinkList;
 use crate::kind::{BidirectionalLinks, DoubleEnded, ForwardLinks, ListKind, NamesBoth};
@@ -84,12 +84,8 @@ impl<T, L: LinkOps, K: ForwardLinks<L>> LentList<'_, K, T, L> {
     pub fn push_front(&mut self, object: UnsafeRef<T>) -> Result<(), AlreadyLinked<T>>
         requires covered { IsCovered (L.table self.old.links.now) object }
         requires shown { RepresentsSomeChain K.Between K.kept (L.table self.old.links.now) self.old.list }
-        ensures inserted { (s : List Place) → RepresentsChain K.Between K.kept (L.table self.old.links.now) self.old.list s
-            → OnOk result (RepresentsChain K.Between K.kept (L.table self.new.links.now) self.new.list (insert (at_front s) object)) }
-        ensures acquired { OnOk result (L.Trace self.old.links.now self.new.links.now (acquires object ∷ [])) }
-        ensures refused { OnErr result (L.Refused self.old.links.now self.new.links.now object) }
-        ensures unchanged { IfErr result (λ refused. (refused.0 ≡ object) × (self.new.list ≡ self.old.list)) }
-        ensures frame { (s : List Place) → RepresentsChain K.Between K.kept (L.table self.old.links.now) self.old.list s → ChangesOnlyIn (L.table self.old.links.now) (L.table self.new.links.now) (object ∷ s) }
+        ensures pushed { PushesAtEnd (RepresentsChain K.Between K.kept) L.table L.Trace L.Refused at_front
+            self.old.list self.old.links.now object result self.new.list self.new.links.now }
         ensures same { SameLoans self.old self.new }
     {
         self.list.push_front(self.links, object)
@@ -99,11 +95,8 @@ impl<T, L: LinkOps, K: ForwardLinks<L>> LentList<'_, K, T, L> {
     #[inline]
     pub fn pop_front(&mut self) -> Option<UnsafeRef<T>>
         requires shown { RepresentsSomeChain K.Between K.kept (L.table self.old.links.now) self.old.list }
-        ensures answer { (s : List Place) → RepresentsChain K.Between K.kept (L.table self.old.links.now) self.old.list s → result ≡ first s }
-        ensures removed { (s : List Place) → RepresentsChain K.Between K.kept (L.table self.old.links.now) self.old.list s → RepresentsChain K.Between K.kept (L.table self.new.links.now) self.new.list (remove (at_front s)) }
-        ensures released { IfSome result (λ object. L.Trace self.old.links.now self.new.links.now (releases object ∷ [])) }
-        ensures empty { IfNone result ((self.new.list ≡ self.old.list) × (self.new.links.now ≡ self.old.links.now)) }
-        ensures frame { (s : List Place) → RepresentsChain K.Between K.kept (L.table self.old.links.now) self.old.list s → ChangesOnlyIn (L.table self.old.links.now) (L.table self.new.links.now) s }
+        ensures popped { PopsAtEnd (RepresentsChain K.Between K.kept) L.table L.Trace first (λ s. remove (at_front s))
+            self.old.list self.old.links.now result self.new.list self.new.links.now }
         ensures same { SameLoans self.old self.new }
     {
         self.list.pop_front(self.links)
@@ -118,12 +111,8 @@ impl<T, L: LinkOps, K: DoubleEnded + ForwardLinks<L>> LentList<'_, K, T, L> {
     pub fn push_back(&mut self, object: UnsafeRef<T>) -> Result<(), AlreadyLinked<T>>
         requires covered { IsCovered (L.table self.old.links.now) object }
         requires shown { RepresentsSomeChain K.Between K.kept (L.table self.old.links.now) self.old.list }
-        ensures inserted { (s : List Place) → RepresentsChain K.Between K.kept (L.table self.old.links.now) self.old.list s
-            → OnOk result (RepresentsChain K.Between K.kept (L.table self.new.links.now) self.new.list (insert (at_back s) object)) }
-        ensures acquired { OnOk result (L.Trace self.old.links.now self.new.links.now (acquires object ∷ [])) }
-        ensures refused { OnErr result (L.Refused self.old.links.now self.new.links.now object) }
-        ensures unchanged { IfErr result (λ refused. (refused.0 ≡ object) × (self.new.list ≡ self.old.list)) }
-        ensures frame { (s : List Place) → RepresentsChain K.Between K.kept (L.table self.old.links.now) self.old.list s → ChangesOnlyIn (L.table self.old.links.now) (L.table self.new.links.now) (object ∷ s) }
+        ensures pushed { PushesAtEnd (RepresentsChain K.Between K.kept) L.table L.Trace L.Refused at_back
+            self.old.list self.old.links.now object result self.new.list self.new.links.now }
         ensures same { SameLoans self.old self.new }
     {
         self.list.push_back(self.links, object)
@@ -137,11 +126,8 @@ impl<T, L: LinkOps, K: DoubleEnded + BidirectionalLinks<L>> LentList<'_, K, T, L
     #[inline]
     pub fn pop_back(&mut self) -> Option<UnsafeRef<T>>
         requires shown { RepresentsSomeChain K.Between K.kept (L.table self.old.links.now) self.old.list }
-        ensures answer { (s : List Place) → RepresentsChain K.Between K.kept (L.table self.old.links.now) self.old.list s → result ≡ last s }
-        ensures removed { (s : List Place) → RepresentsChain K.Between K.kept (L.table self.old.links.now) self.old.list s → RepresentsChain K.Between K.kept (L.table self.new.links.now) self.new.list (but_last s) }
-        ensures released { IfSome result (λ object. L.Trace self.old.links.now self.new.links.now (releases object ∷ [])) }
-        ensures empty { IfNone result ((self.new.list ≡ self.old.list) × (self.new.links.now ≡ self.old.links.now)) }
-        ensures frame { (s : List Place) → RepresentsChain K.Between K.kept (L.table self.old.links.now) self.old.list s → ChangesOnlyIn (L.table self.old.links.now) (L.table self.new.links.now) s }
+        ensures popped { PopsAtEnd (RepresentsChain K.Between K.kept) L.table L.Trace last but_last
+            self.old.list self.old.links.now result self.new.list self.new.links.now }
         ensures same { SameLoans self.old self.new }
     {
         self.list.pop_back(self.links)
@@ -168,10 +154,8 @@ impl<T, L: LinkOps, K: DoubleEnded + NamesBoth<L>> LentList<'_, K, T, L> {
     #[inline]
     pub fn move_to_back(&mut self, object: &UnsafeRef<T>)
         requires member { HasMember (RepresentsChain K.Between K.kept (L.table self.old.links.now) self.old.list) object.now }
-        ensures moved { (front back : List Place) → RepresentsChain K.Between K.kept (L.table self.old.links.now) self.old.list (front ++ object.now ∷ back)
-            → RepresentsChain K.Between K.kept (L.table self.new.links.now) self.new.list ((front ++ back) ++ object.now ∷ []) }
-        ensures trace_stays { L.Trace self.old.links.now self.new.links.now [] }
-        ensures frame { (s : List Place) → RepresentsChain K.Between K.kept (L.table self.old.links.now) self.old.list s → ChangesOnlyIn (L.table self.old.links.now) (L.table self.new.links.now) s }
+        ensures to_end { MovesToEnd (RepresentsChain K.Between K.kept) L.table L.Trace at_back
+            self.old.list self.old.links.now object.now self.new.list self.new.links.now }
         ensures same { SameLoans self.old self.new }
     {
         self.list.move_to_back(self.links, object);
@@ -181,10 +165,8 @@ impl<T, L: LinkOps, K: DoubleEnded + NamesBoth<L>> LentList<'_, K, T, L> {
     #[inline]
     pub fn move_to_front(&mut self, object: &UnsafeRef<T>)
         requires member { HasMember (RepresentsChain K.Between K.kept (L.table self.old.links.now) self.old.list) object.now }
-        ensures moved { (front back : List Place) → RepresentsChain K.Between K.kept (L.table self.old.links.now) self.old.list (front ++ object.now ∷ back)
-            → RepresentsChain K.Between K.kept (L.table self.new.links.now) self.new.list (object.now ∷ (front ++ back)) }
-        ensures trace_stays { L.Trace self.old.links.now self.new.links.now [] }
-        ensures frame { (s : List Place) → RepresentsChain K.Between K.kept (L.table self.old.links.now) self.old.list s → ChangesOnlyIn (L.table self.old.links.now) (L.table self.new.links.now) s }
+        ensures to_end { MovesToEnd (RepresentsChain K.Between K.kept) L.table L.Trace at_front
+            self.old.list self.old.links.now object.now self.new.list self.new.links.now }
         ensures same { SameLoans self.old self.new }
     {
         self.list.move_to_front(self.links, object);

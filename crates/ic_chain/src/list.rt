@@ -5,11 +5,10 @@
 //! let first = list.pop_front(&mut links);
 //! ```
 
-ghost use Rattle.std.specs.Prelude.{◌≡◌, ◌≢◌, ◌↔◌, ◌++◌, ◌∷◌, List, [], Option, Some, None, IsTrue, OnOk, OnErr, IfErr, IfSome, IfNone};
-ghost use Rattle.ic_link_ops.specs.Prelude.{Place, Cut, join, first, last, IsAbsent, IsDisjoint, IsAfter, IsBefore, at_front, at_back, insert, remove, but_last, IsCovered, IsLinked, IsNameable, ChangesOnlyIn, acquires, releases};
+ghost use Rattle.std.specs.Prelude.{◌≡◌, ◌≢◌, ◌↔◌, ◌++◌, ◌∷◌, List, [], Option, Some, None, IsTrue};
+ghost use Rattle.ic_link_ops.specs.Prelude.{Place, Cut, join, first, last, IsDisjoint, IsAfter, IsBefore, at_front, at_back, remove, but_last, IsCovered, IsLinked, IsNameable, ChangesOnlyIn, acquires, releases, Inserts, Splices, Splits, list_head, empty_list, RepresentsChain, RepresentsSomeChain, TurnsEnds};
 ghost use Rattle.std.specs.Bool.{OnTrue, OnFalse};
-ghost use Rattle.ic_link_ops.specs.Edits.{Inserts, Splices, Splits};
-ghost use Rattle.ic_link_ops.specs.Chains.{list_head, empty_list, RepresentsChain, RepresentsSomeChain, TurnsEnds};
+ghost use Rattle.ic_chain.specs.ListEdits.{PushesAtEnd, PopsAtEnd, ComesBetween};
 ghost use Rattle.ic_chain.specs.SplitEnds.{SplitsEnds};
 ghost use Rattle.ic_chain.specs.Walk.{KnowsLast};
 
@@ -143,14 +142,7 @@ impl<K: ListKind, T> LinkList<K, T> {
         K: ForwardLinks<L>,
         requires covered { IsCovered (L.table links.old) object }
         requires shown { RepresentsSomeChain K.Between K.kept (L.table links.old) self.old }
-
-        ensures inserted { (s : List Place) → RepresentsChain K.Between K.kept (L.table links.old) self.old s
-            → OnOk result (RepresentsChain K.Between K.kept (L.table links.new) self.new (insert (at_front s) object)) }
-        ensures acquired { OnOk result (L.Trace links.old links.new (acquires object ∷ [])) }
-        ensures refused { OnErr result (L.Refused links.old links.new object) }
-        ensures unchanged { IfErr result (λ refused. (refused.0 ≡ object) × (self.new ≡ self.old)) }
-        ensures frame { (s : List Place) → RepresentsChain K.Between K.kept (L.table links.old) self.old s
-            → ChangesOnlyIn (L.table links.old) (L.table links.new) (object ∷ s) }
+        ensures { PushesAtEnd (RepresentsChain K.Between K.kept) L.table L.Trace L.Refused at_front self.old links.old object result self.new links.new }
     {
         let head = self.first();
         if !self.insert_between(links, None, object.place(), head) {
@@ -165,14 +157,7 @@ impl<K: ListKind, T> LinkList<K, T> {
     where
         K: ForwardLinks<L>,
         requires shown { RepresentsSomeChain K.Between K.kept (L.table links.old) self.old }
-
-        ensures answer { (s : List Place) → RepresentsChain K.Between K.kept (L.table links.old) self.old s → result ≡ first s }
-        ensures removed { (s : List Place) → RepresentsChain K.Between K.kept (L.table links.old) self.old s
-            → RepresentsChain K.Between K.kept (L.table links.new) self.new (remove (at_front s)) }
-        ensures released { IfSome result (λ object. L.Trace links.old links.new (releases object ∷ [])) }
-        ensures empty { IfNone result ((self.new ≡ self.old) × (links.new ≡ links.old)) }
-        ensures frame { (s : List Place) → RepresentsChain K.Between K.kept (L.table links.old) self.old s
-            → ChangesOnlyIn (L.table links.old) (L.table links.new) s }
+        ensures { PopsAtEnd (RepresentsChain K.Between K.kept) L.table L.Trace first (λ s. remove (at_front s)) self.old links.old result self.new links.new }
     {
         let front = self.first()?;
         let after = K::next(&*links, front, None);
@@ -325,14 +310,7 @@ impl<K: DoubleEnded, T> LinkList<K, T> {
         K: ForwardLinks<L>,
         requires covered { IsCovered (L.table links.old) object }
         requires shown { RepresentsSomeChain K.Between K.kept (L.table links.old) self.old }
-
-        ensures inserted { (s : List Place) → RepresentsChain K.Between K.kept (L.table links.old) self.old s
-            → OnOk result (RepresentsChain K.Between K.kept (L.table links.new) self.new (insert (at_back s) object)) }
-        ensures acquired { OnOk result (L.Trace links.old links.new (acquires object ∷ [])) }
-        ensures refused { OnErr result (L.Refused links.old links.new object) }
-        ensures unchanged { IfErr result (λ refused. (refused.0 ≡ object) × (self.new ≡ self.old)) }
-        ensures frame { (s : List Place) → RepresentsChain K.Between K.kept (L.table links.old) self.old s
-            → ChangesOnlyIn (L.table links.old) (L.table links.new) (object ∷ s) }
+        ensures { PushesAtEnd (RepresentsChain K.Between K.kept) L.table L.Trace L.Refused at_back self.old links.old object result self.new links.new }
     {
         let tail = self.last();
         if !self.insert_between(links, tail, object.place(), None) {
@@ -347,14 +325,7 @@ impl<K: DoubleEnded, T> LinkList<K, T> {
     where
         K: BidirectionalLinks<L>,
         requires shown { RepresentsSomeChain K.Between K.kept (L.table links.old) self.old }
-
-        ensures answer { (s : List Place) → RepresentsChain K.Between K.kept (L.table links.old) self.old s → result ≡ last s }
-        ensures removed { (s : List Place) → RepresentsChain K.Between K.kept (L.table links.old) self.old s
-            → RepresentsChain K.Between K.kept (L.table links.new) self.new (but_last s) }
-        ensures released { IfSome result (λ object. L.Trace links.old links.new (releases object ∷ [])) }
-        ensures empty { IfNone result ((self.new ≡ self.old) × (links.new ≡ links.old)) }
-        ensures frame { (s : List Place) → RepresentsChain K.Between K.kept (L.table links.old) self.old s
-            → ChangesOnlyIn (L.table links.old) (L.table links.new) s }
+        ensures { PopsAtEnd (RepresentsChain K.Between K.kept) L.table L.Trace last but_last self.old links.old result self.new links.new }
     {
         let back = self.last()?;
         let before = K::prev(&*links, back, None);
@@ -383,14 +354,8 @@ impl<K: ListKind, T> LinkList<K, T> {
         requires before { (q : Place) → before ≡ Some q → IsLinked L.linked (L.table links.old) q }
         requires after { K.NamesPrev → (q : Place) → after ≡ Some q → IsLinked L.linked (L.table links.old) q }
         requires next { IsNameable L.CanName after }
-        ensures shows { (front back : List Place) → RepresentsChain K.Between K.kept (L.table links.old) self.old (front ++ back)
-            → before ≡ last front → after ≡ first back → IsAbsent place (front ++ back)
-            → RepresentsChain K.Between K.kept (L.table links.new) self.new (front ++ place ∷ back) }
-        ensures ends { TurnsEnds K.kept self.old self.new before after (Some place) (Some place) }
-        ensures trace_stays { L.Trace links.old links.new [] }
-        ensures extent { (L.table links.new).extent ≡ (L.table links.old).extent }
-        ensures others { (q : Place) → before ≢ Some q → q ≢ place → (K.NamesPrev → after ≢ Some q)
-            → (L.table links.new).entry q ≡ (L.table links.old).entry q }
+        ensures { ComesBetween (RepresentsChain K.Between K.kept) L.table L.Trace K.kept K.NamesPrev []
+            self.old links.old before place after self.new links.new }
     {
         set_next_or_head::<K, L>(links, &mut self.head, before, after, Some(place));
         set_prev_or_tail::<K, L>(links, &mut self.tail, after, before, Some(place));
@@ -417,14 +382,8 @@ impl<K: ListKind, T> LinkList<K, T> {
         requires after { K.NamesPrev → (q : Place) → after ≡ Some q → IsLinked L.linked (L.table links.old) q }
         requires next { IsNameable L.CanName after }
         requires out { IsNameable L.CanName (Some out) }
-        ensures shows { (front back : List Place) → RepresentsChain K.Between K.kept (L.table links.old) self.old (front ++ out ∷ back)
-            → before ≡ last front → after ≡ first back → IsAbsent place (front ++ out ∷ back)
-            → RepresentsChain K.Between K.kept (L.table links.new) self.new (front ++ place ∷ back) }
-        ensures ends { TurnsEnds K.kept self.old self.new before after (Some place) (Some place) }
-        ensures trace_stays { L.Trace links.old links.new [] }
-        ensures extent { (L.table links.new).extent ≡ (L.table links.old).extent }
-        ensures others { (q : Place) → before ≢ Some q → q ≢ place → (K.NamesPrev → after ≢ Some q)
-            → (L.table links.new).entry q ≡ (L.table links.old).entry q }
+        ensures { ComesBetween (RepresentsChain K.Between K.kept) L.table L.Trace K.kept K.NamesPrev (out ∷ [])
+            self.old links.old before place after self.new links.new }
     {
         set_next_or_head::<K, L>(links, &mut self.head, before, Some(out), Some(place));
         set_prev_or_tail::<K, L>(links, &mut self.tail, after, Some(out), Some(place));

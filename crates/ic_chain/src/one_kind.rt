@@ -1,8 +1,8 @@
 //! Calls that only lists of some kinds have.
 
 ghost use Rattle.std.specs.Prelude.{◌≡◌, ◌++◌, ◌∷◌, List, []};
-ghost use Rattle.ic_link_ops.specs.Prelude.{Place, IsLinked, ChangesOnlyIn, HasMember, releases};
-ghost use Rattle.ic_link_ops.specs.Chains.{list_head, RepresentsChain};
+ghost use Rattle.ic_link_ops.specs.Prelude.{Place, at_front, at_back, IsLinked, ChangesOnlyIn, HasMember, releases, list_head, RepresentsChain};
+ghost use Rattle.ic_chain.specs.ListEdits.{MovesToEnd};
 
 use crate::LinkList;
 use crate::kind::{DoubleEnded, ListKind, NamesBoth, Reversible};
@@ -40,11 +40,7 @@ impl<K: DoubleEnded, T> LinkList<K, T> {
     where
         K: NamesBoth<L>,
         requires member { HasMember (RepresentsChain K.Between K.kept (L.table links.old) self.old) object.now }
-        ensures moved { (front back : List Place) → RepresentsChain K.Between K.kept (L.table links.old) self.old (front ++ object.now ∷ back)
-            → RepresentsChain K.Between K.kept (L.table links.new) self.new ((front ++ back) ++ object.now ∷ []) }
-        ensures trace_stays { L.Trace links.old links.new [] }
-        ensures frame { (s : List Place) → RepresentsChain K.Between K.kept (L.table links.old) self.old s
-            → ChangesOnlyIn (L.table links.old) (L.table links.new) s }
+        ensures { MovesToEnd (RepresentsChain K.Between K.kept) L.table L.Trace at_back self.old links.old object.now self.new links.new }
     {
         let place = object.place();
         self.detach(links, place);
@@ -60,11 +56,7 @@ impl<K: DoubleEnded, T> LinkList<K, T> {
     where
         K: NamesBoth<L>,
         requires member { HasMember (RepresentsChain K.Between K.kept (L.table links.old) self.old) object.now }
-        ensures moved { (front back : List Place) → RepresentsChain K.Between K.kept (L.table links.old) self.old (front ++ object.now ∷ back)
-            → RepresentsChain K.Between K.kept (L.table links.new) self.new (object.now ∷ (front ++ back)) }
-        ensures trace_stays { L.Trace links.old links.new [] }
-        ensures frame { (s : List Place) → RepresentsChain K.Between K.kept (L.table links.old) self.old s
-            → ChangesOnlyIn (L.table links.old) (L.table links.new) s }
+        ensures { MovesToEnd (RepresentsChain K.Between K.kept) L.table L.Trace at_front self.old links.old object.now self.new links.new }
     {
         let place = object.place();
         self.detach(links, place);

@@ -6,8 +6,7 @@
 //! ```
 
 ghost use Rattle.std.specs.Prelude.{◌≡◌, ◌↔◌, List, IsTrue};
-ghost use Rattle.ic_link_ops.specs.Prelude.{Place, IsMember, ChangesOnlyIn, releases_each};
-ghost use Rattle.ic_link_ops.specs.Chains.{RepresentsChain, RepresentsSomeChain, empty_list};
+ghost use Rattle.ic_link_ops.specs.Prelude.{Place, IsMember, ChangesOnlyIn, releases_each, RepresentsChain, RepresentsSomeChain, empty_list};
 
 use crate::LinkList;
 use crate::kind::{ForwardLinks, ListKind};

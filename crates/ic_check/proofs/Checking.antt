@@ -2,11 +2,8 @@
 -- the end of the walk, the passed members are all members.
 use Rattle.std.proofs.Common.{◌≡◌, ℕ, ◌+◌, ◌<◌, ◌⊎◌, inl, inr, Option, Some, None, List, [], ◌∷◌, ◌++◌, drop, length, length-append, refl, sym, ◌∙◌, ap, subst, arith, append_assoc, append-nil}
 use Rattle.ic_link_ops.specs.Prelude.{Place, IsAbsent, IsMember, IsDistinct, first_or, last_or, first, last, Table, IsCovered}
-use Rattle.ic_unsafe_ref.proofs.PlaceLemmas.{same_or_not}
+use Rattle.ic_link_ops.proofs.Prelude.{same_or_not, first_or-append, last_or-append, first_is, nothing_first, some_same, none_not, member_split, chain_cut, chain_glue, stretch_length}
 use Rattle.ic_link_ops.specs.Chains.{IsChain}
-use Rattle.ic_link_ops.proofs.SequenceLemmas.{first_or-append, last_or-append, first_is, nothing_first, some_same, none_not, member_split}
-use Rattle.ic_link_ops.proofs.Chains.{chain_cut, chain_glue}
-use Rattle.ic_link_ops.proofs.Walks.{stretch_length}
 
 -- a place is absent from a list, or it is a member of the list
 pub absent_or : (q : Place) (s : List Place) → IsAbsent q s ⊎ IsMember q s

@@ -4,19 +4,15 @@ use Rattle.std.proofs.Common.{◌≡◌, ℕ, suc, ◌+◌, ◌<◌, ◌≤◌, 
 use Rattle.std.specs.Bool.{Decides}
 use Rattle.std.specs.List.{AllByRecursion}
 use Rattle.std.proofs.Math.Seq.{drop-cons}
-use Rattle.ic_link_ops.specs.Prelude.{Place, index_of, Objects, object_at, is_placed, at_indexes, IsAbsent, IsDistinct, IsDisjoint, first, Table, ArePlaced}
+use Rattle.ic_link_ops.specs.Prelude.{Place, index_of, Objects, object_at, is_placed, at_indexes, IsAbsent, IsDistinct, IsDisjoint, first, Table, ArePlaced, Successor}
 use Rattle.ic_unsafe_ref.proofs.IndexLemmas.{in_range, placed_in_range}
 use Rattle.ic_link_ops.specs.Chains.{IsChain}
-use Rattle.ic_link_ops.specs.SinglyLinkedList.{Successor}
 use Rattle.ic_link_ops.proofs.Clearing.{Releases, releases_none, releases_more}
-use Rattle.ic_link_ops.proofs.Each.{all_back, all_both, all_front}
-use Rattle.ic_link_ops.proofs.SequenceLemmas.{first_is, nothing_first, some_same}
-use Rattle.ic_link_ops.proofs.Walks.{few_places}
+use Rattle.ic_link_ops.proofs.Prelude.{all_back, all_both, all_front, first_is, nothing_first, some_same, few_places}
 use Rattle.ic_hash_table.specs.declared.slots.Slots.{Slots}
 use Rattle.ic_hash_table.specs.declared.table.HashTable.{HashTable}
-use Rattle.ic_hash_table.specs.Chains.{AreChained}
+use Rattle.ic_hash_table.specs.Prelude.{AreChained, slot_of}
 use Rattle.ic_hash_table.specs.HashTable.{BelongsIn, HasChains, Holds, HoldsSome}
-use Rattle.ic_hash_table.specs.Slots.{slot_of}
 use Rattle.ic_hash_table.proofs.Chains.{chain_one}
 use Rattle.ic_check.specs.Checked.{IsRepresented, RepresentsNone}
 use Rattle.ic_check.specs.HashTables.{IsPlacedIn, RepresentsOwn}

@@ -2,9 +2,7 @@
 use Rattle.std.proofs.Common.{◌≡◌, ℕ, ◌+◌, ◌<◌, ◌≤◌, Bool, true, false, Option, Some, None, List, [], ◌∷◌, length, slice_set, refl, sym, ◌∙◌, ap, subst, arith, true≢false}
 use Rattle.ic_link_ops.specs.Prelude.{Place, index_of, IsDistinct, first_or, first, last, Table, IsCovered}
 use Rattle.ic_link_ops.specs.Chains.{IsChain, RepresentsChain}
-use Rattle.ic_link_ops.proofs.SequenceLemmas.{absent_left, distinct_middle}
-use Rattle.ic_link_ops.proofs.Chains.{chain_absent}
-use Rattle.ic_link_ops.proofs.Walks.{few_places, stretch_length}
+use Rattle.ic_link_ops.proofs.Prelude.{absent_left, distinct_middle, chain_absent, few_places, stretch_length}
 use Rattle.ic_check.specs.WholeTables.{AreUnmarked, MarksAlso, MarksLinked, IsGathered, is_marked}
 use Rattle.ic_check.proofs.Checking.{Checks, checks_none, checks_more, checks_stands}
 use Rattle.ic_check.proofs.Marking.{also_none, also_more, only_also, distinct_both, unmarked_apart, unmarked_before, unmarked_both, unmarked_back}

@@ -2,10 +2,9 @@
 use Rattle.std.proofs.Common.{◌≡◌, ℕ, zero, suc, ◌+◌, ◌*◌, ◌<◌, ◌≤◌, Bool, not, MatchOption, IfSome, cond, true, false, Option, Some, None, List, [], ◌∷◌, ◌++◌, drop, length, length-append, slice_set, slice_index_or, refl, sym, ap, ◌∙◌, subst, arith, append_assoc, append-nil, true≢false, inl, inr}
 use Rattle.ic_link_ops.specs.Prelude.{Place, index_of, place_at, IsAbsent, IsMember, IsDistinct, IsDisjoint, first, Table, IsLinked}
 use Rattle.ic_unsafe_ref.proofs.PlaceLemmas.{same_or_not, same_index, place_with, place_at_word}
-use Rattle.ic_link_ops.proofs.EntryLemmas.{others_same, entry_same}
-use Rattle.ic_link_ops.proofs.SequenceLemmas.{absent_left, absent_right, absent_both, first_is, nothing_first, distinct_middle, distinct_disjoint, distinct_splice, disjoint_left, disjoint_sym}
-use Rattle.ic_link_ops.proofs.Walks.{few_places}
+use Rattle.ic_link_ops.proofs.Prelude.{others_same, entry_same, absent_left, absent_right, absent_both, first_is, nothing_first, distinct_middle, distinct_disjoint, distinct_splice, disjoint_left, disjoint_sym, few_places}
 use Rattle.std.proofs.lemmas.Bool.{cases_lt}
+use Rattle.ic_check.specs.Checked.{IsRepresented, RepresentsNone}
 use Rattle.ic_check.specs.WholeTables.{RepresentsEach, RepresentsEachOnce, AreUnmarked, MarksAlso, MarksLinked, IsGathered, IsMarking, LeavesMarked, RepresentsNoneUnmarked, is_marked, many_marked, IsMissed}
 use Rattle.ic_check.proofs.Checking.{absent_or}
 use Rattle.std.proofs.lemmas.List.{length-set, get_or-set_other, get_or_past}
@@ -247,6 +246,12 @@ pub left_gathered : (shows : List Place → Type 0) (old new : List Bool) → ((
     → MatchOption o (RepresentsNoneUnmarked shows old) (IsGathered shows old new) → IfSome o (LeavesMarked shows new)
 left_gathered shows old new none zero_before None h = tt
 left_gathered shows old new none zero_before (Some count) (s, shown, many, free, also) = left_marked none zero_before also shows shown many
+
+-- if no place is marked before the members of one collection are, the result is that of a check of the collection
+pub shown_gathered : (shows : List Place → Type 0) (old new : List Bool) → ((p : Place) → is_marked old p ≡ false) → (o : Option ℕ)
+    → MatchOption o (RepresentsNoneUnmarked shows old) (IsGathered shows old new) → MatchOption o (RepresentsNone shows) (IsRepresented shows)
+shown_gathered shows old new none None h = λ s represented. h s represented (unmarked_all old none s)
+shown_gathered shows old new none (Some count) (s, shown, many, free, also) = (s, shown, many)
 
 -- lemmas on `MarksLinked`: each place that is newly marked is linked in the table t
 module _ {E : Type 0} (linked : E → Bool) (t : Table E) where

@@ -1,10 +1,7 @@
 -- Lemmas on two walks through the values of a tree. The second walk is one value ahead of the first. All values are sorted exactly if the values from the
 -- position of the first walk on are sorted.
-use Rattle.std.proofs.Common.{◌≡◌, true, Option, Some, None, List, [], ◌∷◌, map, sym, ◌∙◌, ap, subst}
+use Rattle.std.proofs.Common.{◌≡◌, true, Option, Some, None, List, [], ◌∷◌, map, sym, ◌∙◌, ap, subst, IfSome, is_some, Ordering, Greater}
 use Rattle.std.specs.Borrow.{Bor}
-use Rattle.std.specs.Option.{IfSome, is_some}
-use Rattle.std.specs.declared.cmp.Ordering.{Ordering}
-use Rattle.std.specs.declared.cmp.Ordering.TheVariants.{Greater}
 use Rattle.ic_link_ops.specs.Walk.{GivesFirst}
 use Rattle.ic_rbtree.specs.Borders.{IsSorted}
 

@@ -2,16 +2,12 @@
 use Rattle.std.proofs.Common.{◌≡◌, ℕ, ◌+◌, ◌≤◌, true, MatchOption, Option, Some, None, List, [], ◌∷◌, ◌++◌, length, length-append, refl, sym, ap, ◌∙◌, subst, arith, append_assoc}
 use Rattle.std.proofs.Math.Nat.{max-le, le-max_left, le-max_right}
 use Rattle.std.specs.List.{AllByRecursion}
-use Rattle.ic_link_ops.specs.Prelude.{Place, IsAbsent, IsDistinct, IsDisjoint, Table}
+use Rattle.ic_link_ops.specs.Prelude.{Place, IsAbsent, IsDistinct, IsDisjoint, Table, Tree, leaf, fork, top, in_order, top_color, weight, blacks}
 use Rattle.ic_link_ops.specs.declared.color.Color.{Color}
 use Rattle.ic_link_ops.specs.declared.color.Color.TheVariants.{Red, Black}
-use Rattle.ic_link_ops.specs.Trees.{Tree, leaf, fork, top, in_order}
-use Rattle.ic_link_ops.specs.Shape.{top_color, weight, blacks}
 use Rattle.ic_link_ops.specs.RedBlackTree.{Node, IsTree, Represents}
-use Rattle.ic_link_ops.proofs.Each.{all_both, all_map}
-use Rattle.ic_link_ops.proofs.SequenceLemmas.{none_not, some_same, absent_both, distinct_left, distinct_right, distinct_insert, distinct_disjoint, distinct_splice}
+use Rattle.ic_link_ops.proofs.Prelude.{all_both, all_map, none_not, some_same, absent_both, distinct_left, distinct_right, distinct_insert, distinct_disjoint, distinct_splice, few_places}
 use Rattle.ic_link_ops.proofs.Trees.{top_not, one_tree}
-use Rattle.ic_link_ops.proofs.Walks.{few_places}
 use Rattle.ic_rbtree.specs.Height.{height}
 use Rattle.ic_rbtree.proofs.Heights.{height_few, exponent_small}
 use Rattle.ic_check.specs.declared.tree.Subtree.{Subtree}

@@ -5,8 +5,7 @@ use Rattle.ic_link_ops.specs.declared.side.Side.TheVariants.{Left, Right}
 use Rattle.ic_link_ops.specs.RedBlackTree.{Node, Represents}
 use Rattle.ic_link_ops.proofs.SequenceLemmas.{absent_left, last_of_push}
 use Rattle.ic_link_ops.proofs.RepresentedTrees.{free_absent}
-use Rattle.ic_rbtree.specs.Closed.{IsNode, IsSafe}
-use Rattle.ic_rbtree.specs.Sides.{IsBeside}
+use Rattle.ic_rbtree.specs.Prelude.{IsNode, IsSafe, IsBeside}
 use Rattle.ic_rbtree.proofs.Removing.{represented_of}
 use Rattle.ic_rbtree.proofs.RepresentedClosed.{among, among_there, represented_closed}
 use Rattle.ic_check.specs.WholeTables.{MarksLinked}

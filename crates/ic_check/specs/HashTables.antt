@@ -1,13 +1,10 @@
 -- What a check of a hash table finds out about one chain.
 use Rattle.std.specs.Prelude.{◌≡◌, ℕ, Option, Some, List}
 use Rattle.std.specs.List.{AllByRecursion}
-use Rattle.ic_link_ops.specs.Prelude.{Place, Objects, object_at, Table}
-use Rattle.ic_link_ops.specs.SinglyLinkedList.{Successor}
+use Rattle.ic_link_ops.specs.Prelude.{Place, Objects, object_at, Table, Successor}
 use Rattle.ic_hash_table.specs.declared.slots.Slots.{Slots}
 use Rattle.ic_hash_table.specs.declared.table.HashTable.{HashTable}
-use Rattle.ic_hash_table.specs.Slots.{slot_of}
-use Rattle.ic_hash_table.specs.Chains.{RepresentsFrom}
-use Rattle.ic_hash_table.specs.HashTable.{front_at}
+use Rattle.ic_hash_table.specs.Prelude.{slot_of, RepresentsFrom, front_at}
 
 -- the place p has an object, and the object's hash leads to chain i
 abbrev pub IsPlacedIn : {V : Type 0} → Slots → (V → ℕ) → Objects V → ℕ → Place → Type 0

@@ -1,11 +1,8 @@
 -- What the check of a tree finds out about a subtree.
 use Rattle.std.specs.Prelude.{◌≡◌, ◌≤◌, ◌+◌, ℕ, Option, Some, None, List, [], ◌∷◌, length}
-use Rattle.ic_link_ops.specs.Prelude.{Place, IsDistinct}
+use Rattle.ic_link_ops.specs.Prelude.{Place, IsDistinct, Tree, top, in_order, top_color, weight, blacks, IsEven, NoRedPair, Node, IsTree}
 use Rattle.ic_link_ops.specs.declared.color.Color.{Color}
 use Rattle.ic_link_ops.specs.declared.color.Color.TheVariants.{Red, Black}
-use Rattle.ic_link_ops.specs.Trees.{Tree, top, in_order}
-use Rattle.ic_link_ops.specs.Shape.{top_color, weight, blacks, IsEven, NoRedPair}
-use Rattle.ic_link_ops.specs.RedBlackTree.{Node, IsTree}
 use Rattle.ic_rbtree.specs.Height.{height}
 use Rattle.ic_check.specs.declared.tree.Subtree.{Subtree}
 

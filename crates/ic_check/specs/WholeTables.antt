@@ -1,9 +1,9 @@
 -- What a check of a whole table returns, and what its marks mean.
-use Rattle.std.specs.Prelude.{◌≡◌, ℕ, ◌+◌, Bool, true, false, List, [], ◌∷◌, ◌++◌, length, count_by}
+use Rattle.std.specs.Prelude.{◌≡◌, ℕ, ◌+◌, Bool, true, false, Option, MatchOption, IfSome, List, [], ◌∷◌, ◌++◌, length, count_by}
 use Rattle.std.specs.Bool.{Decides}
 use Rattle.std.specs.List.{AllByRecursion}
-use Rattle.ic_link_ops.specs.Prelude.{Place, index_of, IsAbsent, IsMember, IsDistinct, Table, IsLinked}
-use Rattle.ic_link_ops.specs.PlainTables.{entry_at}
+use Rattle.ic_link_ops.specs.Prelude.{Place, index_of, IsAbsent, IsMember, IsDistinct, Table, IsLinked, entry_at}
+use Rattle.ic_check.specs.Checked.{IsRepresented, RepresentsNone}
 
 module _ {H : Type 0} (shows : H → List Place → Type 0) where
   -- the table represents a sequence for each of the collections `lists`, and s is these sequences, one after the other
@@ -75,6 +75,16 @@ module _ (shows : List Place → Type 0) where
   -- the table represents a sequence, exactly the members of this sequence are marked, and `count` marks are set
   abbrev pub LeavesMarked : List Bool → ℕ → Type 0
   LeavesMarked marks count = (s : List Place) × shows s × IsMarking marks s × (many_marked marks ≡ count)
+
+-- `linked` says whether an entry is that of a linked place
+module _ (shows : List Place → Type 0) {E : Type 0} (linked : E → Bool) (t : Table E) where
+  -- the result of a check is the number of members of the sequence that the table represents, or none if it represents no sequence. If there is a number,
+  -- exactly the members are marked afterwards. Only linked places are marked. `marks` are the marks before the check, and `marks'` those after it
+  pub record ChecksMarking (marks : List Bool) (result : Option ℕ) (marks' : List Bool) : Type 0 where
+    pub shown : MatchOption result (RepresentsNone shows) (IsRepresented shows)
+    pub marked : IfSome result (LeavesMarked shows marks')
+    pub only : (p : Place) → is_marked marks' p ≡ true → IsLinked linked t p
+    pub length : length marks' ≡ length marks
 
 -- the place with the index i is linked, and is not marked
 abbrev pub IsMissed : {E : Type 0} → (E → Bool) → Table E → List Bool → ℕ → Type 0

@@ -7,11 +7,9 @@
 ghost use Rattle.std.specs.Prelude.{◌≡◌, ◌≤◌, MatchOption, List, length};
 ghost use Rattle.std.specs.Bool.{OnTrue, OnFalse};
 ghost use Rattle.std.proofs.Common.{sym, ◌∙◌};
-ghost use Rattle.ic_link_ops.specs.Prelude.{Place, IsDistinct, Table};
-ghost use Rattle.ic_link_ops.specs.Chains.{RepresentsChain};
+ghost use Rattle.ic_link_ops.specs.Prelude.{Place, IsDistinct, Table, RepresentsChain};
 ghost use Rattle.ic_link_ops.specs.RedBlackTree.{Represents};
-ghost use Rattle.ic_link_ops.proofs.RepresentedLists.{represents_one};
-ghost use Rattle.ic_link_ops.proofs.RepresentedTrees.{one_sequence};
+ghost use Rattle.ic_link_ops.proofs.Prelude.{represents_one, one_sequence};
 ghost use Rattle.ic_rbtree.specs.Tree.{root_of};
 ghost use Rattle.ic_check.specs.Checked.{IsRepresented};
 ghost use Rattle.ic_check.specs.WholeTables.{AreUnmarked, MarksAlso, MarksLinked, IsGathered, RepresentsNoneUnmarked};

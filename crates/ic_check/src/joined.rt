@@ -6,17 +6,14 @@
 //! ```
 
 ghost use Rattle.std.specs.Prelude.{◌≡◌, true, Option};
-ghost use Rattle.ic_unsafe_ref.specs.declared.place.Place.{Place};
+ghost use Rattle.ic_link_ops.specs.Prelude.{Place, words_of};
 ghost use Rattle.ic_unsafe_ref.specs.PlaceWords.{IsWord};
-ghost use Rattle.ic_check.specs.Joined.{one_word, two_words, one_narrow_word, two_narrow_words, joins_told};
-ghost use Rattle.ic_link_ops.specs.Links.{words_of};
+ghost use Rattle.ic_check.specs.Joined.{one_word, two_words, joins_told};
 
 use ic_atomic::{AtomicLinkOps, PlainLinkOps};
 use ic_link_ops::linked_list::TwoWords;
 use ic_link_ops::xor_linked_list::XorLinkedListOps;
-use ic_link_ops::{
-    LentTable, LinkValue, NextWord, OneNarrowWord, OneWord, PlainTable, TwoNarrowWords,
-};
+use ic_link_ops::{Bits, LentTable, LinkValue, NextWord, OneWord, PlainTable};
 use std::alloc::Allocator;
 
 /// Link words of a place. If the place is linked, its next word is the word of a place, the word of none, or the exclusive or of two such words.
@@ -25,20 +22,12 @@ pub trait KeepsWord: NextWord {
     ghost keeps_word: { (w : Self) → Self.is_linked w ≡ true → IsWord (Self.next_word w) };
 }
 
-impl<K> KeepsWord for OneWord<K> {
+impl<K, B: Bits> KeepsWord for OneWord<K, B> {
     ghost keeps_word = { λ w is. one_word w is };
 }
 
-impl KeepsWord for TwoWords {
+impl<B: Bits> KeepsWord for TwoWords<B> {
     ghost keeps_word = { λ w is. two_words w is };
-}
-
-impl<K> KeepsWord for OneNarrowWord<K> {
-    ghost keeps_word = { λ w is. one_narrow_word w is };
-}
-
-impl KeepsWord for TwoNarrowWords {
-    ghost keeps_word = { λ w is. two_narrow_words w is };
 }
 
 /// A table of XOR links. Given any place, or none, as one neighbor, the entry of a linked place returns another neighbor, and the entry joins these two

@@ -60,17 +60,12 @@ impl<L: LinkedListOps> NamesItsNext<L> for DoublyLinked {
 
 impl<L: SinglyLinkedListOps> TellsNeighbors<L> for SinglyLinked {
     #[inline]
-    fn names_prev(links: &L, place: Place, prev: Option<Place>) -> bool {
-        let _ = links;
-        let _ = place;
-        let _ = prev;
+    fn names_prev(_: &L, _: Place, _: Option<Place>) -> bool {
         true
     }
 
     #[inline]
-    fn ends_with<T>(list: &LinkList<SinglyLinked, T>, last: Option<Place>) -> bool {
-        let _ = list;
-        let _ = last;
+    fn ends_with<T>(_: &LinkList<SinglyLinked, T>, _: Option<Place>) -> bool {
         true
     }
 }
@@ -81,10 +76,7 @@ impl<L: SinglyLinkedListOps> NamesItsNext<L> for SinglyLinked {
 
 impl<L: JoinsAny> TellsNeighbors<L> for XorLinked {
     #[inline]
-    fn names_prev(links: &L, place: Place, prev: Option<Place>) -> bool {
-        let _ = links;
-        let _ = place;
-        let _ = prev;
+    fn names_prev(_: &L, _: Place, _: Option<Place>) -> bool {
         true
     }
 

@@ -6,12 +6,10 @@
 //! check_both(&lists, &trees, &links, &mut marks)   // the same of a table with lists and trees
 //! ```
 
-ghost use Rattle.std.specs.Prelude.{◌≡◌, ◌<◌, ◌≤◌, MatchOption, IfSome, length, true, false};
+ghost use Rattle.std.specs.Prelude.{◌≡◌, ◌<◌, ◌≤◌, MatchOption, length, true, false};
 ghost use Rattle.std.specs.Bool.{Decides};
-ghost use Rattle.ic_link_ops.specs.Prelude.{Place, index_of, IsLinked};
-ghost use Rattle.ic_link_ops.specs.Chains.{RepresentsChain};
-ghost use Rattle.ic_check.specs.Checked.{IsRepresented, RepresentsNone};
-ghost use Rattle.ic_check.specs.WholeTables.{RepresentsAll, RepresentsBoth, RepresentsEachOnce, IsGathered, RepresentsNoneUnmarked, IsMissed, LeavesMarked, MarksLinked, is_marked, many_marked};
+ghost use Rattle.ic_link_ops.specs.Prelude.{Place, index_of, IsLinked, RepresentsChain};
+ghost use Rattle.ic_check.specs.WholeTables.{RepresentsAll, RepresentsBoth, RepresentsEachOnce, IsGathered, RepresentsNoneUnmarked, IsMissed, ChecksMarking, MarksLinked, is_marked, many_marked};
 
 use crate::gather::Gather;
 use crate::kinds::TellsNeighbors;
@@ -34,11 +32,7 @@ pub fn check_marking<K: TellsNeighbors<L>, T, L: TellsLinks>(
     marks: &mut [bool],
 ) -> Option<usize>
     requires room { (L.table links.now).extent.places ≤ length marks.old }
-    ensures shown { MatchOption result (RepresentsNone (RepresentsChain K.Between K.kept (L.table links.now) list.now))
-        (IsRepresented (RepresentsChain K.Between K.kept (L.table links.now) list.now)) }
-    ensures marked { IfSome result (LeavesMarked (RepresentsChain K.Between K.kept (L.table links.now) list.now) marks.new) }
-    ensures only { (p : Place) → is_marked marks.new p ≡ true → IsLinked L.linked (L.table links.now) p }
-    ensures length { length marks.new ≡ length marks.old }
+    ensures { ChecksMarking (RepresentsChain K.Between K.kept (L.table links.now) list.now) L.linked (L.table links.now) marks.old result marks.new }
 {
     clear(marks);
     list.gather(links, marks)
@@ -55,13 +49,8 @@ pub fn check_all<C: Gather<L>, L: TellsLinks>(
     marks: &mut [bool],
 ) -> Option<usize>
     requires room { (L.table links.now).extent.places ≤ length marks.old }
-    ensures shown { MatchOption result
-        (RepresentsNone (RepresentsAll (λ c. C.Represents c (L.table links.now)) L.linked (L.table links.now) collections.now))
-        (IsRepresented (RepresentsAll (λ c. C.Represents c (L.table links.now)) L.linked (L.table links.now) collections.now)) }
-    ensures marked { IfSome result
-        (LeavesMarked (RepresentsAll (λ c. C.Represents c (L.table links.now)) L.linked (L.table links.now) collections.now) marks.new) }
-    ensures only { (p : Place) → is_marked marks.new p ≡ true → IsLinked L.linked (L.table links.now) p }
-    ensures length { length marks.new ≡ length marks.old }
+    ensures { ChecksMarking (RepresentsAll (λ c. C.Represents c (L.table links.now)) L.linked (L.table links.now) collections.now)
+        L.linked (L.table links.now) marks.old result marks.new }
 {
     clear(marks);
     let Some(count) = gather_each(collections, links, marks) else {
@@ -83,16 +72,10 @@ pub fn check_both<C: Gather<L>, D: Gather<L>, L: TellsLinks>(
     marks: &mut [bool],
 ) -> Option<usize>
     requires room { (L.table links.now).extent.places ≤ length marks.old }
-    ensures shown { MatchOption result
-        (RepresentsNone (RepresentsBoth (λ c. C.Represents c (L.table links.now)) (λ c. D.Represents c (L.table links.now)) L.linked (L.table links.now)
-        first.now second.now))
-        (IsRepresented (RepresentsBoth (λ c. C.Represents c (L.table links.now)) (λ c. D.Represents c (L.table links.now)) L.linked (L.table links.now)
-        first.now second.now)) }
-    ensures marked { IfSome result
-        (LeavesMarked (RepresentsBoth (λ c. C.Represents c (L.table links.now)) (λ c. D.Represents c (L.table links.now)) L.linked (L.table links.now)
-        first.now second.now) marks.new) }
-    ensures only { (p : Place) → is_marked marks.new p ≡ true → IsLinked L.linked (L.table links.now) p }
-    ensures length { length marks.new ≡ length marks.old }
+    ensures { ChecksMarking
+        (RepresentsBoth (λ c. C.Represents c (L.table links.now)) (λ c. D.Represents c (L.table links.now)) L.linked (L.table links.now)
+        first.now second.now)
+        L.linked (L.table links.now) marks.old result marks.new }
 {
     clear(marks);
     let Some(count) = gather_each(first, links, marks) else {

@@ -4,8 +4,7 @@ use Rattle.std.specs.Cmp.{nat_cmp_total}
 use Rattle.std.specs.FinMap as map
 use Rattle.std.specs.FinMap.{len-insert, len-remove}
 use Rattle.ic_link_ops.specs.Prelude.{Place, index_of, Objects, Places, Frees, object_at, is_placed, ArePlaced}
-use Rattle.ic_unsafe_ref.proofs.Placing.{Puts}
-use Rattle.ic_link_ops.proofs.Each.{all_back}
+use Rattle.ic_link_ops.proofs.Prelude.{Puts, all_back}
 use Rattle.ic_container.specs.NumberedLists.{NumberedLists, Moves}
 use Rattle.ic_container.specs.Values.{Without}
 

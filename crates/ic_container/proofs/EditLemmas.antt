@@ -1,10 +1,8 @@
 -- A caller proves with these lemmas which edit a call has made, from the clauses of the call's contract.
-use Rattle.std.proofs.Common.{◌≡◌, true, Bool, Result, Ok, Err, OnOk, OnErr, Some, List, [], ◌∷◌, ◌++◌, drop, sym, subst, append-nil}
-use Rattle.std.specs.declared.cmp.Ordering.{Ordering}
-use Rattle.ic_link_ops.specs.Prelude.{Place, Cut, first, Table, IsUnlinked, ChangesOnlyIn, KeepsLinked, LinksAlso, Unlinks, HasMember}
+use Rattle.std.proofs.Common.{◌≡◌, true, Bool, Result, Ok, Err, OnOk, OnErr, Some, List, [], ◌∷◌, ◌++◌, drop, subst}
+use Rattle.ic_link_ops.specs.Prelude.{Place, first, Table, IsUnlinked, ChangesOnlyIn, KeepsLinked, LinksAlso, Unlinks, HasMember}
 use Rattle.ic_link_ops.proofs.Calling.{accepted}
 use Rattle.ic_link_ops.proofs.SequenceLemmas.{first_is}
-use Rattle.ic_cursors.specs.Ordered.{InsertsInOrder}
 use Rattle.ic_container.specs.Edited.{HasJoined, HasLeft, HasMoved}
 
 -- if P implies Q, and P holds if the call's result r is `Ok`, then Q holds if r is `Ok`. `refused_linked` is about a result that is an error
@@ -23,22 +21,6 @@ module _ {E H : Type 0} {Represents : Table E → H → List Place → Type 0} {
     pub joined_front : ((s : List Place) → Represents old head s → OnOk r (Represents new after (p ∷ s))) → OnOk r (LinksAlso linked old new p)
         → ((s : List Place) → Represents old head s → ChangesOnlyIn old new (p ∷ s)) → HasJoined Represents linked old new head after [] p s
     joined_front inserted acquired frame = record { was = shown; is = accepted Same r off refused (inserted s shown); also = accepted Same r off refused acquired; frame = frame s shown }
-
-    pub joined_back : ((s : List Place) → Represents old head s → OnOk r (Represents new after (s ++ p ∷ []))) → OnOk r (LinksAlso linked old new p)
-        → ((s : List Place) → Represents old head s → ChangesOnlyIn old new (p ∷ s)) → HasJoined Represents linked old new head after s p []
-    joined_back inserted acquired frame = record {
-      was = subst (Represents old head) (sym (append-nil s)) shown;
-      is = accepted Same r off refused (inserted s shown);
-      also = accepted Same r off refused acquired;
-      frame = subst (λ (l : List Place). ChangesOnlyIn old new (p ∷ l)) (sym (append-nil s)) (frame s shown);
-    }
-
-    -- AN INSERT IN ORDER is an edit in which the place joins the collection at some gap
-    pub joined_sorted : (at : Place → Ordering) → ((s : List Place) → Represents old head s → OnOk r (InsertsInOrder Represents at old new after s p)) → OnOk r (LinksAlso linked old new p)
-        → (gap : Cut) × HasJoined Represents linked old new head after gap.front p gap.back
-    joined_sorted at inserted acquired =
-        let i = accepted Same r off refused (inserted s shown) in
-        (i.gap, record { was = subst (Represents old head) (sym i.same) shown; is = i.inserted.shows; also = accepted Same r off refused acquired; frame = i.inserted.frame })
 
   -- A POP is an edit in which the first member leaves the collection. `answer`, `removed`, `released` and `frame` are clauses of the call
   pub left_front : ((s : List Place) → Represents old head s → Some p ≡ first s) → ((s : List Place) → Represents old head s → Represents new after (drop 1 s)) → Unlinks linked old new p

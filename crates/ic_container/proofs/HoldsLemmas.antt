@@ -3,26 +3,17 @@ use Rattle.std.proofs.Common.{◌≡◌, ◌≢◌, ℕ, Bool, true, false, cond
 use Rattle.std.proofs.Math.ListN.{get_or-map}
 use Rattle.std.proofs.lemmas.Bool.{false_from_ne_true}
 use Rattle.std.specs.List.{AllByRecursion}
-use Rattle.ic_link_ops.specs.Prelude.{Place, index_of, Objects, Places, Frees, object_at, IsAbsent, IsMember, IsDisjoint, Table, IsCovered, IsLinked, IsUnlinked, HasMember}
-use Rattle.ic_unsafe_ref.proofs.Placing.{Puts, put_there, put_others}
-use Rattle.ic_link_ops.specs.Chains.{no_members}
+use Rattle.ic_link_ops.specs.Prelude.{Place, index_of, Objects, Places, Frees, object_at, IsAbsent, IsMember, IsDisjoint, Table, IsCovered, IsLinked, IsUnlinked, HasMember, no_members, Neighbors, link_of, entries, linked_by, Width, wide, nameable, is_end}
+use Rattle.ic_link_ops.proofs.Prelude.{Puts, put_there, put_others, IsKind, kept_represented, others_stay, disjoint_cons, member_split, some_same, is_end_yes, is_end_no}
 use Rattle.ic_link_ops.specs.DoublyEntries as doubly
 use Rattle.ic_link_ops.specs.EntryLaws.{linked_in_range}
 use Rattle.ic_link_ops.specs.LinkedList as lists
-use Rattle.ic_link_ops.specs.LinkedList.{Neighbors}
-use Rattle.ic_link_ops.specs.Links.{link_of}
 use Rattle.ic_link_ops.specs.PlainTables as plain
-use Rattle.ic_link_ops.specs.PlainTables.{entries, linked_by}
 use Rattle.ic_link_ops.specs.Readings.{neighbors_of}
 use Rattle.ic_link_ops.specs.TwoWords.{no_words, has_words, next_word_of, prev_of}
-use Rattle.ic_link_ops.specs.Widths.{Width, wide, nameable}
-use Rattle.ic_link_ops.specs.Walk.{is_end}
 use Rattle.ic_link_ops.proofs.Calling.{has_member}
-use Rattle.ic_link_ops.proofs.CollectionLaws.{IsKind, kept_represented, others_stay}
 use Rattle.ic_link_ops.proofs.DoublyLists.{doubly_lists, members_represented, neighbors_covered}
 use Rattle.ic_link_ops.proofs.LinkedSets.{everywhere}
-use Rattle.ic_link_ops.proofs.SequenceLemmas.{disjoint_cons, member_split, some_same}
-use Rattle.ic_link_ops.proofs.Walks.{is_end_yes, is_end_no}
 use Rattle.ic_pool.specs.Pooled.{Grows}
 use Rattle.ic_container.specs.NumberedLists.{Adds, Leaves, Moves, Stays, owner_or, owner_of, listed}
 use Rattle.ic_container.specs.Edited.{HasJoined, HasLeft, HasMoved}

@@ -1,11 +1,9 @@
 -- Objects are in an array of lists, and these lemmas say what each kind of step keeps and what it does to the lists.
 use Rattle.std.proofs.Common.{◌≡◌, ◌≢◌, ℕ, ◌<◌, Bool, Option, Some, None, IfSome, IfNone, List, [], refl, sym, ap, ◌∙◌, subst, drop}
-use Rattle.ic_link_ops.specs.Prelude.{Place, Objects, Places, Frees, object_at, with_object, first, Table, IsUnlinked, HasMember}
-use Rattle.ic_unsafe_ref.proofs.Placing.{puts_other, put_there, put_others}
-use Rattle.ic_link_ops.specs.Chains.{Ends, no_members}
+use Rattle.ic_link_ops.specs.Prelude.{Place, Objects, Places, Frees, object_at, with_object, first, Table, IsUnlinked, HasMember, Ends, no_members}
+use Rattle.ic_link_ops.proofs.Prelude.{puts_other, put_there, put_others, first_is, nothing_first, some_same}
 use Rattle.ic_link_ops.specs.DoublyEntries.{DoublyLinkOps, is_linked, neighbors_of, plain_table}
 use Rattle.ic_link_ops.specs.LinkedList.{Neighbors, Represents}
-use Rattle.ic_link_ops.proofs.SequenceLemmas.{first_is, nothing_first, some_same}
 use Rattle.ic_pool.specs.Pooled.{Grows}
 use Rattle.ic_container.specs.Holds.{lists_in, members_in}
 use Rattle.ic_container.specs.ListReadings.{ReadsLists}

@@ -4,12 +4,9 @@ use Rattle.std.proofs.Common.{◌≡◌, Bool, true, Option, None, Some, IfSome,
 use Rattle.std.proofs.lemmas.List.Elements.{filter_map-append}
 use Rattle.std.specs.FinMap as map
 use Rattle.std.specs.List.{cons_option}
-use Rattle.ic_link_ops.specs.Prelude.{Place, Objects, Places, Frees, is_placed, object_at, first, last, IsAbsent, IsDistinct, Table, object_there, ArePlaced, RepresentsPlaced, values_at}
-use Rattle.ic_unsafe_ref.proofs.Placing.{others_left, others_placed, placed_there}
-use Rattle.ic_link_ops.specs.Chains.{Ends, no_members}
+use Rattle.ic_link_ops.specs.Prelude.{Place, Objects, Places, Frees, is_placed, object_at, first, last, IsAbsent, IsDistinct, Table, object_there, ArePlaced, RepresentsPlaced, values_at, Ends, no_members}
+use Rattle.ic_link_ops.proofs.Prelude.{others_left, others_placed, placed_there, values_beside, distinct_middle, none_not}
 use Rattle.ic_link_ops.specs.LinkedList.{Neighbors, Represents}
-use Rattle.ic_link_ops.proofs.PlacedValues.{values_beside}
-use Rattle.ic_link_ops.proofs.SequenceLemmas.{distinct_middle, none_not}
 use Rattle.ic_pool.specs.Pooled.{Grows}
 use Rattle.ic_container.specs.Holds.{members_in, ListAdds, ListMoves}
 use Rattle.ic_container.specs.ListReadings.{ReadsLists}

@@ -1,14 +1,11 @@
 -- All objects of a container are in one list, and these lemmas say what each kind of step keeps and what it does to the order and the values.
-use Rattle.std.proofs.Common.{◌≡◌, ◌≢◌, ◌+◌, ◌-◌, Bool, true, Option, None, Some, IfSome, is_some, List, [], ◌∷◌, ◌++◌, ◌∙◌, ap, sym, refl, subst, length, length-append, arith}
+use Rattle.std.proofs.Common.{◌≡◌, ◌≢◌, ◌+◌, ◌-◌, Bool, true, Option, None, Some, IfSome, is_some, List, [], ◌∷◌, ◌++◌, ◌∙◌, ap, sym, refl, subst, length, length-append, arith, nat_cmp}
 use Rattle.std.specs.FinMap as map
 use Rattle.std.specs.FinMap.{len-empty}
-use Rattle.std.specs.Ordering.{nat_cmp}
-use Rattle.ic_link_ops.specs.Prelude.{Place, Objects, Places, Frees, object_at, is_placed, first, last, IsDistinct, Table, IsUnlinked, HasMember, object_there, ArePlaced, values_at}
-use Rattle.ic_unsafe_ref.proofs.Placing.{Puts, others_left, others_placed, placed_there}
+use Rattle.ic_link_ops.specs.Prelude.{Place, Objects, Places, Frees, object_at, is_placed, first, last, IsDistinct, Table, IsUnlinked, HasMember, object_there, ArePlaced, values_at, Ends, no_members}
+use Rattle.ic_link_ops.proofs.Prelude.{Puts, others_left, others_placed, placed_there, first_is, member_split}
 use Rattle.ic_container.proofs.CountLemmas.{count_freed, count_placed, count_put, length_moved}
-use Rattle.ic_link_ops.specs.Chains.{Ends, no_members}
 use Rattle.ic_link_ops.specs.LinkedList.{Neighbors, Represents}
-use Rattle.ic_link_ops.proofs.SequenceLemmas.{first_is, member_split}
 use Rattle.ic_pool.specs.Pooled.{Grows}
 use Rattle.ic_container.specs.Holds.{members_in, ListAdds, ListLeaves, ListMoves}
 use Rattle.ic_container.specs.ListReadings.{ReadsLists}

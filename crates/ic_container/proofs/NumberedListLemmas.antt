@@ -3,10 +3,8 @@ use Rattle.std.proofs.Common.{◌≡◌, ◌≢◌, ℕ, zero, suc, Option, Some
 use Rattle.std.proofs.lemmas.Bool.Decides.{eqb_tells}
 use Rattle.std.specs.List.{AllByRecursion}
 use Rattle.ic_link_ops.specs.Prelude.{Place, Objects, Places, Frees, object_at, is_placed, first, last, IsAbsent, IsMember, IsDisjoint, IsDistinct, ArePlaced}
-use Rattle.ic_unsafe_ref.proofs.Placing.{placed_there, others_placed, gone_there, others_left}
-use Rattle.ic_link_ops.proofs.Each.{all_map, all_with, all_without}
+use Rattle.ic_link_ops.proofs.Prelude.{placed_there, others_placed, gone_there, others_left, all_map, all_with, all_without, absent_with, absent_without, distinct_middle, distinct_right, last_not, last_or-append, none_not, some_same, split_member}
 use Rattle.ic_link_ops.proofs.LinkedSets.{everywhere}
-use Rattle.ic_link_ops.proofs.SequenceLemmas.{absent_with, absent_without, distinct_middle, distinct_right, last_not, last_or-append, none_not, some_same, split_member}
 use Rattle.ic_container.specs.NumberedLists.{NumberedLists, Adds, Leaves, PutsFront, PutsBack, Moves, Stays, EachInItsList, owner_or, owner_of, to_one, alone}
 
 -- if a property holds for the number k and for every other number, it holds for each number

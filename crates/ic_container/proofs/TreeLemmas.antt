@@ -1,36 +1,22 @@
 -- A tree has each object of a container, and these lemmas say what each kind of step keeps and what a search finds.
-use Rattle.std.proofs.Common.{◌≡◌, ◌≢◌, ℕ, Bool, true, false, cond, Option, None, Some, is_some, IsSome, List, [], ◌∷◌, ◌++◌, map, filter, drop, length, ◌<◌, ◌≤◌, inl, inr, refl, sym, ap, ◌∙◌, subst, arith, true≢false}
+use Rattle.std.proofs.Common.{◌≡◌, ◌≢◌, ℕ, Bool, true, false, cond, Option, None, Some, is_some, IsSome, List, [], ◌∷◌, ◌++◌, map, filter, drop, length, ◌<◌, ◌≤◌, inl, inr, refl, sym, ap, ◌∙◌, subst, arith, true≢false, option_copied, nat_cmp, is_eq, is_lt, Ordering, Less, Equal, Greater}
 use Rattle.std.proofs.lemmas.Bool.Decides.{nat_tests}
 use Rattle.std.proofs.lemmas.Bool.{false_from_ne_true}
 use Rattle.std.proofs.lemmas.Cmp.{nat_cmp_total, ranked, tied_itself}
 use Rattle.std.specs.Borrow.{Bor}
 use Rattle.std.specs.List.{AllByRecursion, cons_option}
-use Rattle.std.specs.Option.{option_copied}
-use Rattle.std.specs.Ordering.{nat_cmp, is_eq, is_lt}
-use Rattle.std.specs.declared.cmp.Ordering.{Ordering}
-use Rattle.std.specs.declared.cmp.Ordering.TheVariants.{Less, Equal, Greater}
 use Rattle.ic_link_ops.specs.Prelude.{Place, Objects, Places, Frees, object_at, is_placed, IsDistinct, IsMember, first, Table, IsCovered, IsUnlinked, ChangesOnlyIn, LinksAlso, Unlinks, HasMember, ArePlaced, RepresentsPlaced, StandAt, values_at}
-use Rattle.ic_unsafe_ref.proofs.PlaceLemmas.{same_or_not}
+use Rattle.ic_link_ops.proofs.Prelude.{same_or_not, IsKind, kept_represented, all_back, stand_beside, vacant_absent, none_not, some_same, red_black_trees}
 use Rattle.ic_unsafe_ref.proofs.Placing.{gone_there, leaves, others_left, others_placed, placed_there, without}
 use Rattle.ic_link_ops.specs.RedBlackTree.{Node, Represents}
 use Rattle.ic_link_ops.proofs.Calling.{has_member}
-use Rattle.ic_link_ops.proofs.CollectionLaws.{IsKind, kept_represented}
 use Rattle.ic_link_ops.proofs.Covering.{still_covered}
-use Rattle.ic_link_ops.proofs.Each.{all_back}
-use Rattle.ic_link_ops.proofs.PlacedValues.{stand_beside, vacant_absent}
-use Rattle.ic_link_ops.proofs.SequenceLemmas.{none_not, some_same}
-use Rattle.ic_link_ops.proofs.RepresentedTrees.{red_black_trees}
 use Rattle.ic_pool.specs.Pooled.{Grows}
-use Rattle.ic_rbtree.specs.Borders.{Finds, IsBorder, IsSorted, equal_at, less_at}
-use Rattle.ic_rbtree.specs.Comparing.{answer_at, compared, order_of, own_order}
-use Rattle.ic_rbtree.specs.Ordered.{InsertsInOrder}
+use Rattle.ic_rbtree.specs.Prelude.{Finds, IsBorder, IsSorted, equal_at, less_at, answer_at, compared, order_of, own_order, InsertsInOrder, members, TreeLinkOps, is_linked, plain_table, RepresentsSorted, key_at, key_or}
 use Rattle.ic_container.specs.EachObject.{ReadsTrees}
-use Rattle.ic_rbtree.specs.Members.{members}
-use Rattle.ic_rbtree.specs.PlainTrees.{TreeLinkOps, is_linked, plain_table}
 use Rattle.ic_container.specs.EachLaws.{each_first, each_linked, each_ready, each_new, each_taken, vacant_free, wide_reads}
 use Rattle.ic_rbtree.proofs.Passing.{passed}
 use Rattle.ic_rbtree.proofs.Members.{members_represented}
-use Rattle.ic_rbtree.specs.SortedObjects.{RepresentsSorted, key_at, key_or}
 use Rattle.ic_rbtree.proofs.SortedAnswers.{found_first}
 use Rattle.ic_rbtree.proofs.SortedKeys.{keys_are}
 use Rattle.ic_rbtree.proofs.SortedValues.{greater_after, own_order_is}

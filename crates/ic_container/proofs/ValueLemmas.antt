@@ -3,9 +3,7 @@ use Rattle.std.proofs.Common.{◌≡◌, ◌≢◌, ℕ, Option, Some, List, [],
 use Rattle.std.proofs.lemmas.List.Elements.{filter_map-append}
 use Rattle.std.specs.List.{cons_option}
 use Rattle.ic_link_ops.specs.Prelude.{Place, Objects, object_at, is_placed, last, IsAbsent, IsMember, IsDistinct, object_there, ArePlaced, values_at}
-use Rattle.ic_unsafe_ref.proofs.PlaceLemmas.{same_or_not}
-use Rattle.ic_link_ops.proofs.PlacedValues.{values_beside}
-use Rattle.ic_link_ops.proofs.SequenceLemmas.{absent_with, distinct_middle, member_split, none_not, some_same}
+use Rattle.ic_link_ops.proofs.Prelude.{same_or_not, values_beside, absent_with, distinct_middle, member_split, none_not, some_same}
 use Rattle.ic_container.specs.NumberedLists.{NumberedLists, Adds, Leaves, Moves}
 use Rattle.ic_container.specs.Values.{last_value, Without}
 

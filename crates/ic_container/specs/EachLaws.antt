@@ -4,25 +4,14 @@ use Rattle.std.proofs.lemmas.Cmp.{nat_cmp_total}
 use Rattle.std.proofs.lemmas.List.Elements.{filter_map-append}
 use Rattle.std.specs.List.{AllByRecursion, cons_option}
 use Rattle.std.specs.Ordering.{nat_cmp}
-use Rattle.ic_link_ops.specs.Prelude.{Place, index_of, Objects, Places, Frees, object_at, is_placed, IsAbsent, Table, IsLinked, IsUnlinked, LinksAlso, Unlinks, ArePlaced, RepresentsPlaced, StandAt, values_at}
-use Rattle.ic_unsafe_ref.proofs.Placing.{placed_there, others_placed, gone_there, others_left}
+use Rattle.ic_link_ops.specs.Prelude.{Place, index_of, Objects, Places, Frees, object_at, is_placed, IsAbsent, Table, IsLinked, IsUnlinked, LinksAlso, Unlinks, ArePlaced, RepresentsPlaced, StandAt, values_at, link_of, words_of, entries, linked_by, Width, nameable, wide}
+use Rattle.ic_link_ops.proofs.Prelude.{placed_there, others_placed, gone_there, others_left, IsKind, all_back, all_without, all_beside, values_beside, stand_put, red_black_trees, absent_left, absent_right, absent_with, distinct_middle, member_split}
 use Rattle.ic_link_ops.specs.EntryLaws.{linked_in_range}
-use Rattle.ic_link_ops.specs.Links.{link_of, words_of}
 use Rattle.ic_link_ops.specs.PlainTables as plain
-use Rattle.ic_link_ops.specs.PlainTables.{entries, linked_by}
 use Rattle.ic_link_ops.specs.RedBlackTree.{Node, Represents}
 use Rattle.ic_link_ops.specs.ThreeWords.{has_link, no_words, node_in, node_of}
-use Rattle.ic_link_ops.specs.Widths.{Width, nameable, wide}
-use Rattle.ic_link_ops.proofs.CollectionLaws.{IsKind}
-use Rattle.ic_link_ops.proofs.Each.{all_back, all_without}
 use Rattle.ic_link_ops.proofs.LinkedSets.{everywhere}
-use Rattle.ic_link_ops.proofs.PlacedValues.{all_beside, values_beside, stand_put}
-use Rattle.ic_link_ops.proofs.RepresentedTrees.{red_black_trees}
-use Rattle.ic_link_ops.proofs.SequenceLemmas.{absent_left, absent_right, absent_with, distinct_middle, member_split}
-use Rattle.ic_rbtree.specs.Borders.{IsSorted}
-use Rattle.ic_rbtree.specs.Comparing.{compared, own_order}
-use Rattle.ic_rbtree.specs.Ordered.{InsertsInOrder}
-use Rattle.ic_rbtree.specs.PlainTrees.{is_linked, node_by, plain_table}
+use Rattle.ic_rbtree.specs.Prelude.{IsSorted, compared, own_order, InsertsInOrder, is_linked, node_by, plain_table}
 use Rattle.ic_rbtree.specs.SortedValues.{HasSorted, InsertsValue}
 use Rattle.ic_rbtree.proofs.SortedValues.{has_none, has_covered, has_beside, has_inserted}
 use Rattle.ic_container.specs.EachObject.{HasEachIn, ReadsTrees}

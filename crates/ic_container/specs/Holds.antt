@@ -1,9 +1,7 @@
 -- The invariant of a container: each place that belongs to a collection is a member of this collection, and no other place is linked.
 use Rattle.std.specs.Prelude.{◌≡◌, ℕ, Bool, Option, None, List}
-use Rattle.ic_link_ops.specs.Prelude.{Place, Table, IsUnlinked}
-use Rattle.ic_link_ops.specs.Chains.{Ends}
+use Rattle.ic_link_ops.specs.Prelude.{Place, Table, IsUnlinked, Ends, Neighbors}
 use Rattle.ic_link_ops.specs.LinkedList as lists
-use Rattle.ic_link_ops.specs.LinkedList.{Neighbors}
 use Rattle.ic_container.specs.Edited.{HasJoined, HasLeft, HasMoved}
 use Rattle.ic_container.specs.NumberedLists.{NumberedLists, EachInItsList}
 

@@ -1,11 +1,9 @@
 -- Objects are in an array of lists over one table. Each object has the index of the list in which it is.
 use Rattle.std.specs.Prelude.{◌≡◌, ◌≢◌, ℕ, ◌<◌, Bool, Option, Some, None, List, [], map, refl}
 use Rattle.std.specs.Coded.{Coded, code_by, coded×, coded_list}
-use Rattle.ic_link_ops.specs.Prelude.{Place, place_code, Objects, Places, Frees, object_at, objects_code, with_object, Table}
-use Rattle.ic_link_ops.specs.Chains.{Ends, no_members}
+use Rattle.ic_link_ops.specs.Prelude.{Place, place_code, Objects, Places, Frees, object_at, objects_code, with_object, Table, Ends, no_members, Neighbors}
 use Rattle.ic_link_ops.specs.DoublyEntries as wide
 use Rattle.ic_link_ops.specs.DoublyEntries.{DoublyLinkOps}
-use Rattle.ic_link_ops.specs.LinkedList.{Neighbors}
 use Rattle.ic_container.specs.Holds.{HoldsLists, ListAdds, ListLeaves, members_in}
 use Rattle.ic_container.specs.ListReadings.{ReadsLists}
 use Rattle.ic_container.specs.NumberedLists.{NumberedLists, Stays, PutsBack, Leaves, owner_of, listed}

@@ -1,7 +1,6 @@
 -- A container reads an entry of its lists by two functions, for words of any width.
 use Rattle.std.specs.Prelude.{◌≡◌, Bool}
-use Rattle.ic_link_ops.specs.Prelude.{Place, Table, IsCovered, IsLinked}
-use Rattle.ic_link_ops.specs.LinkedList.{Neighbors}
+use Rattle.ic_link_ops.specs.Prelude.{Place, Table, IsCovered, IsLinked, Neighbors}
 
 -- THE LAWS OF A TABLE OF LISTS: `neighbors` and `linked` read from each entry whether its place is linked, and agree on it. The table covers every linked
 -- place

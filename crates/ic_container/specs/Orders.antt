@@ -2,9 +2,7 @@
 use Rattle.std.specs.Prelude.{◌≡◌, Bool, true, List, length, refl}
 use Rattle.std.specs.FinMap as map
 use Rattle.std.specs.Coded.{Coded, code_by, coded×, coded_list}
-use Rattle.ic_link_ops.specs.Prelude.{Place, place_code, Objects, is_placed, objects_code, IsDistinct, IsMember, Table, ArePlaced, values_at}
-use Rattle.ic_link_ops.specs.Chains.{Ends, no_members}
-use Rattle.ic_link_ops.specs.LinkedList.{Neighbors}
+use Rattle.ic_link_ops.specs.Prelude.{Place, place_code, Objects, is_placed, objects_code, IsDistinct, IsMember, Table, ArePlaced, values_at, Ends, no_members, Neighbors}
 use Rattle.ic_container.specs.Holds.{HoldsLists, members_in}
 use Rattle.ic_container.specs.ListReadings.{ReadsLists}
 use Rattle.ic_container.specs.NumberedLists.{alone, owner_of, to_one}

@@ -1,9 +1,8 @@
 -- These lemmas are about a tree that has each object of a container.
 use Rattle.std.proofs.Common.{◌≡◌, ℕ, Bool, Option, Some, List, [], ◌∷◌, ◌++◌, map, sym, ap, subst}
 use Rattle.std.specs.Ordering.{nat_cmp}
-use Rattle.ic_link_ops.specs.Prelude.{Place, Objects, object_at, Table}
+use Rattle.ic_link_ops.specs.Prelude.{Place, Objects, object_at, Table, Node}
 use Rattle.ic_unsafe_ref.proofs.Placing.{Puts, put_there, put_others}
-use Rattle.ic_link_ops.specs.RedBlackTree.{Node}
 use Rattle.ic_pool.specs.Pooled.{Grows}
 use Rattle.ic_rbtree.specs.Borders.{IsSorted}
 use Rattle.ic_container.specs.EachLaws.{each_covered, each_changed}

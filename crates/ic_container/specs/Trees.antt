@@ -1,12 +1,9 @@
 -- A container maintains that its index or its tree has each of its objects.
 use Rattle.std.specs.Prelude.{◌≡◌, ◌≢◌, ℕ, ◌<◌, Bool, Option, Some, None, List, ◌∷◌, ◌++◌}
 use Rattle.std.specs.List.{AllByRecursion}
-use Rattle.ic_link_ops.specs.Prelude.{Place, Objects, Places, object_at, Table}
-use Rattle.ic_link_ops.specs.RedBlackTree.{Node}
-use Rattle.ic_link_ops.specs.ThreeWords.{node_of}
+use Rattle.ic_link_ops.specs.Prelude.{Place, Objects, Places, object_at, Table, Node, node_of}
 use Rattle.ic_container.specs.EachObject.{HasEachIn}
-use Rattle.ic_rbtree.specs.PlainTrees.{TreeLinkOps, is_linked, plain_table}
-use Rattle.ic_rbtree.specs.SortedObjects.{key_at}
+use Rattle.ic_rbtree.specs.Prelude.{TreeLinkOps, is_linked, plain_table, key_at}
 
 -- THE INDEX HAS ALL OBJECTS EXCEPT ONE, the new object at p
 pub record LacksOne {T : Type 0} (Has : Objects T → Type 0) (objects : Objects T) (p : Place) : Type 0 where

@@ -1,10 +1,8 @@
 -- Lemmas that prove the contract of an edit at a position in both cases: the object's link was acquired, or it was refused.
 use Rattle.std.proofs.Common.{◌≡◌, List, [], ◌∷◌, Bool, true, false, Result, Ok, Err, OnOk, OnErr, IfErr, Option, Some, refl, sym, subst}
 use Rattle.std.specs.Bool.{OnTrue, OnFalse}
-use Rattle.ic_link_ops.specs.Prelude.{Place, Cut, join, IsAfter, IsBefore, Table, CursorState, RepresentsAt, IsValidCursor, LinkStep, acquires}
+use Rattle.ic_link_ops.specs.Prelude.{Place, Cut, join, IsAfter, IsBefore, Table, CursorState, RepresentsAt, IsValidCursor, LinkStep, acquires, Inserts, InsertsBeside, ReplacesThere}
 use Rattle.ic_link_ops.specs.declared.errors.AlreadyLinked.{AlreadyLinked}
-use Rattle.ic_link_ops.specs.Edits.{Inserts}
-use Rattle.ic_link_ops.specs.EditsAt.{InsertsBeside, ReplacesThere}
 use Rattle.ic_link_ops.proofs.Positions.{inserts_after, inserts_before}
 use Rattle.ic_cursors.specs.Answers.{inserted, replaced}
 

@@ -2,9 +2,8 @@
 use Rattle.std.specs.Prelude.{◌≡◌, Bool, true, false, Some, Result, OnOk, OnErr, IfErr, List, [], ◌∷◌}
 use Rattle.std.specs.declared.cmp.Ordering.{Ordering}
 use Rattle.std.specs.Ordering.{is_lt}
-use Rattle.ic_link_ops.specs.Prelude.{Place, Cut, join, first, last, Table, CursorState, RepresentsAt, IsValidCursor, LinkStep, acquires}
+use Rattle.ic_link_ops.specs.Prelude.{Place, Cut, join, first, last, Table, CursorState, RepresentsAt, IsValidCursor, LinkStep, acquires, Inserts}
 use Rattle.ic_link_ops.specs.declared.errors.AlreadyLinked.{AlreadyLinked}
-use Rattle.ic_link_ops.specs.Edits.{Inserts}
 
 -- A BORDER of a test is a gap. The member before the gap, if there is one, fails the test, and the member after the gap, if there is one, passes the
 -- test

@@ -7,8 +7,19 @@
 ghost use Rattle.std.specs.Prelude.{◌≡◌};
 ghost use Rattle.ic_cursors.specs.Answers as answer;
 
-use ic_link_ops::ReplaceError;
+use ic_link_ops::{AlreadyLinked, ReplaceError};
 use ic_unsafe_ref::{Place, UnsafeRef};
+
+/// The result of an insert of the object. It is an error if the object's link was refused (`is_acquired` is false).
+#[inline]
+pub(crate) fn inserted<T>(is_acquired: bool, object: UnsafeRef<T>) -> Result<(), AlreadyLinked<T>>
+    ensures { result ≡ answer.inserted object is_acquired }
+{
+    if !is_acquired {
+        return Err(AlreadyLinked(object));
+    }
+    Ok(())
+}
 
 /// The result of a call that replaces the member `out` by the object. It is an error if `out` is `None`, because then there was no member to replace. It is
 /// also an error if the object's link was refused (`is_acquired` is false).

@@ -85,7 +85,7 @@ impl<'a, C: Collection, L> Cursor<'a, C, L> {
 }
 
 impl<'a, L: LinkOps, C: CursorOps<L>> Cursor<'a, C, L> {
-    ghost use Rattle.ic_cursors.specs.Cursor.{list_of, links_of, position, site_of, IsValid};
+    ghost use Rattle.ic_cursors.specs.Cursor.{list_of, links_of, place_of, IsValid, ReadsMoved};
 
     /// Moves the cursor to the next member, or from the last member to null (no member), or from null to the first member.
     ///
@@ -94,23 +94,18 @@ impl<'a, L: LinkOps, C: CursorOps<L>> Cursor<'a, C, L> {
     #[inline]
     pub fn move_next(&mut self)
         requires stands { IsValid C.IsValidAt self.old }
-        ensures moved { MovesOn C.Represents L.table (site_of C.head_of C.Position.member self.old) (position C.Position.member self.new) }
-        ensures kept { IsValid C.IsValidAt self.new }
-        ensures list { list_of self.new ≡ list_of self.old }
-        ensures links { links_of self.new ≡ links_of self.old }
+        ensures { ReadsMoved C.head_of C.Position.member C.IsValidAt (MovesOn C.Represents L.table)
+            (list_of self.old) (links_of self.old) (place_of self.old) self.new }
     {
         self.current = self.list.next_of(self.links, &self.current);
     }
 
-    /// A cursor at the position to which [`Cursor::move_next`] would move.
-    /// The call takes O(1) in a list and O(log n) in a tree. A walk over all members of a tree takes O(n).
+    /// A cursor at the position to which [`Cursor::move_next`] would move. The call takes as long as the move.
     #[inline]
     pub fn peek_next(&self) -> Cursor<'a, C, L>
         requires stands { IsValid C.IsValidAt self.now }
-        ensures moved { MovesOn C.Represents L.table (site_of C.head_of C.Position.member self.now) (position C.Position.member result) }
-        ensures kept { IsValid C.IsValidAt result }
-        ensures list { list_of result ≡ list_of self.now }
-        ensures links { links_of result ≡ links_of self.now }
+        ensures { ReadsMoved C.head_of C.Position.member C.IsValidAt (MovesOn C.Represents L.table)
+            (list_of self.now) (links_of self.now) (place_of self.now) result }
     {
         Cursor {
             list: self.list,
@@ -121,7 +116,7 @@ impl<'a, L: LinkOps, C: CursorOps<L>> Cursor<'a, C, L> {
 }
 
 impl<'a, L: LinkOps, C: Bidirectional<L>> Cursor<'a, C, L> {
-    ghost use Rattle.ic_cursors.specs.Cursor.{list_of, links_of, position, site_of, IsValid};
+    ghost use Rattle.ic_cursors.specs.Cursor.{list_of, links_of, place_of, IsValid, ReadsMoved};
 
     /// Moves the cursor to the previous member, or from the first member to null (no member), or from null to the last member.
     ///
@@ -130,23 +125,18 @@ impl<'a, L: LinkOps, C: Bidirectional<L>> Cursor<'a, C, L> {
     #[inline]
     pub fn move_prev(&mut self)
         requires stands { IsValid C.IsValidAt self.old }
-        ensures moved { MovesBack C.Represents L.table (site_of C.head_of C.Position.member self.old) (position C.Position.member self.new) }
-        ensures kept { IsValid C.IsValidAt self.new }
-        ensures list { list_of self.new ≡ list_of self.old }
-        ensures links { links_of self.new ≡ links_of self.old }
+        ensures { ReadsMoved C.head_of C.Position.member C.IsValidAt (MovesBack C.Represents L.table)
+            (list_of self.old) (links_of self.old) (place_of self.old) self.new }
     {
         self.current = self.list.prev_of(self.links, &self.current);
     }
 
-    /// A cursor at the position to which [`Cursor::move_prev`] would move.
-    /// The call takes O(1) in a list and O(log n) in a tree. A walk over all members of a tree takes O(n).
+    /// A cursor at the position to which [`Cursor::move_prev`] would move. The call takes as long as the move.
     #[inline]
     pub fn peek_prev(&self) -> Cursor<'a, C, L>
         requires stands { IsValid C.IsValidAt self.now }
-        ensures moved { MovesBack C.Represents L.table (site_of C.head_of C.Position.member self.now) (position C.Position.member result) }
-        ensures kept { IsValid C.IsValidAt result }
-        ensures list { list_of result ≡ list_of self.now }
-        ensures links { links_of result ≡ links_of self.now }
+        ensures { ReadsMoved C.head_of C.Position.member C.IsValidAt (MovesBack C.Represents L.table)
+            (list_of self.now) (links_of self.now) (place_of self.now) result }
     {
         Cursor {
             list: self.list,

@@ -8,11 +8,10 @@
 
 ghost use Rattle.std.specs.Prelude.{◌≡◌, ◌↔◌, true, List, None, IsTrue};
 ghost use Rattle.std.specs.Option.{option_copied};
-ghost use Rattle.ic_link_ops.specs.Prelude.{Place, is_placed, IsAfter, IsBefore, IsCovered, MovesOn, MovesBack, object_there, RepresentsPlaced};
-ghost use Rattle.ic_link_ops.specs.EditsAt.{InsertsBeside, RemovesThere, ReplacesThere, RemovesNext, ReplacesNext, SplicesBeside, SplitsAfter, SplitsBefore, WhereApart};
+ghost use Rattle.ic_link_ops.specs.Prelude.{Place, is_placed, IsAfter, IsBefore, IsCovered, MovesOn, MovesBack, object_there, RepresentsPlaced, InsertsBeside, RemovesThere, ReplacesThere, RemovesNext, ReplacesNext, SplicesBeside, SplitsAfter, SplitsBefore, WhereApart};
 ghost use Rattle.ic_cursors.specs.Ordered.{InsertsAmong};
 
-use crate::answers::replaced;
+use crate::answers::{inserted, replaced};
 use crate::{
     Bidirectional, BidirectionalSplice, Collection, Cursor, CursorOps, ForwardOnly, Ordered,
     Position, Splice,
@@ -64,7 +63,7 @@ impl<'a, C: Collection, L> CursorMut<'a, C, L> {
     pub fn is_null(&self) -> bool
         ensures { IsTrue result ↔ (position C.Position.member self.now ≡ None) }
     {
-        self.current.get().is_none()
+        self.as_cursor().is_null()
     }
 
     /// The place of the member that the cursor is on, or `None` if the cursor is on no member. O(1).
@@ -72,7 +71,7 @@ impl<'a, C: Collection, L> CursorMut<'a, C, L> {
     pub fn get_ptr(&self) -> Option<Place>
         ensures { result ≡ position C.Position.member self.now }
     {
-        self.current.get()
+        self.as_cursor().get_ptr()
     }
 
     /// The object that the cursor is on, or `None` if the cursor is on no member. The call makes one look-up, O(1).
@@ -80,7 +79,7 @@ impl<'a, C: Collection, L> CursorMut<'a, C, L> {
     pub fn get<'b, A: Allocator>(&self, objects: &'b Objects<C::Object, A>) -> Option<&'b C::Object>
         ensures { option_copied result ≡ object_there objects.now (position C.Position.member self.now) }
     {
-        objects.get(self.current.get()?)
+        self.as_cursor().get(objects)
     }
 
     /// Ends the cursor and returns the object that the cursor is on, or `None` if it is on no member. The collection and the table stay as they are.
@@ -109,32 +108,24 @@ impl<'a, C: Collection, L> CursorMut<'a, C, L> {
 }
 
 impl<'a, L: LinkOps, C: CursorOps<L>> CursorMut<'a, C, L> {
-    ghost use Rattle.ic_cursors.specs.CursorMut.{list_of, links_of, position, site_of, IsValid, Stays, Edited};
-    ghost use Rattle.ic_cursors.specs.Cursor as reading;
+    ghost use Rattle.ic_cursors.specs.CursorMut.{list_of, links_of, place_of, site_of, IsValid, Moves, Edited};
+    ghost use Rattle.ic_cursors.specs.Cursor.{ReadsMoved};
 
-    /// Moves the cursor to the next member, or from the last member to null (no member), or from null to the first member.
-    ///
-    /// After the move, the gap that was right after the cursor is right before the cursor. The call takes O(1) in a list and O(log n) in a tree. A walk over
-    /// all members of a tree takes O(n).
+    /// Moves the cursor to the next member or to null, as [`Cursor::move_next`] does.
     #[inline]
     pub fn move_next(&mut self)
         requires stands { IsValid C.IsValidAt self.old }
-        ensures moved { MovesOn C.Represents L.table (site_of C.head_of C.Position.member self.old) (position C.Position.member self.new) }
-        ensures kept { IsValid C.IsValidAt self.new }
-        ensures stays { Stays self.old self.new }
+        ensures { Moves C.head_of C.Position.member C.IsValidAt (MovesOn C.Represents L.table) self.old self.new }
     {
         self.current = self.list.next_of(&*self.links, &self.current);
     }
 
-    /// A reading cursor at the position to which [`CursorMut::move_next`] would move. The call takes O(1) in a list and O(log n) in a tree. A walk
-    /// over all members of a tree takes O(n).
+    /// A reading cursor at the position to which [`CursorMut::move_next`] would move. The call takes as long as the move.
     #[inline]
     pub fn peek_next(&self) -> Cursor<'_, C, L>
         requires stands { IsValid C.IsValidAt self.now }
-        ensures moved { MovesOn C.Represents L.table (site_of C.head_of C.Position.member self.now) (reading.position C.Position.member result) }
-        ensures kept { reading.IsValid C.IsValidAt result }
-        ensures list { reading.list_of result ≡ list_of self.now }
-        ensures links { reading.links_of result ≡ links_of self.now }
+        ensures { ReadsMoved C.head_of C.Position.member C.IsValidAt (MovesOn C.Represents L.table)
+            (list_of self.now) (links_of self.now) (place_of self.now) result }
     {
         let cursor = self.as_cursor();
         cursor.peek_next()
@@ -155,43 +146,33 @@ impl<'a, L: LinkOps, C: CursorOps<L>> CursorMut<'a, C, L> {
             (site_of C.head_of C.Position.member self.old) object result (site_of C.head_of C.Position.member self.new) }
         ensures kept { Edited C.IsValidAt C.Keeps self.old self.new }
     {
-        if !self
-            .list
-            .insert_after_at(self.links, &mut self.current, object.place())
-        {
-            return Err(AlreadyLinked(object));
-        }
-        Ok(())
+        inserted(
+            self.list
+                .insert_after_at(self.links, &mut self.current, object.place()),
+            object,
+        )
     }
 }
 
 impl<'a, L: LinkOps, C: Bidirectional<L>> CursorMut<'a, C, L> {
-    ghost use Rattle.ic_cursors.specs.CursorMut.{list_of, links_of, position, site_of, IsValid, Stays, Edited};
-    ghost use Rattle.ic_cursors.specs.Cursor as reading;
+    ghost use Rattle.ic_cursors.specs.CursorMut.{list_of, links_of, place_of, site_of, IsValid, Moves, Edited};
+    ghost use Rattle.ic_cursors.specs.Cursor.{ReadsMoved};
 
-    /// Moves the cursor to the previous member, or from the first member to null (no member), or from null to the last member.
-    ///
-    /// After the move, the gap that was right before the cursor is right after the cursor. The call takes O(1) in a list and O(log n) in a tree. A walk over
-    /// all members of a tree takes O(n).
+    /// Moves the cursor to the previous member or to null, as [`Cursor::move_prev`] does.
     #[inline]
     pub fn move_prev(&mut self)
         requires stands { IsValid C.IsValidAt self.old }
-        ensures moved { MovesBack C.Represents L.table (site_of C.head_of C.Position.member self.old) (position C.Position.member self.new) }
-        ensures kept { IsValid C.IsValidAt self.new }
-        ensures stays { Stays self.old self.new }
+        ensures { Moves C.head_of C.Position.member C.IsValidAt (MovesBack C.Represents L.table) self.old self.new }
     {
         self.current = self.list.prev_of(&*self.links, &self.current);
     }
 
-    /// A reading cursor at the position to which [`CursorMut::move_prev`] would move. The call takes O(1) in a list and O(log n) in a tree. A walk
-    /// over all members of a tree takes O(n).
+    /// A reading cursor at the position to which [`CursorMut::move_prev`] would move. The call takes as long as the move.
     #[inline]
     pub fn peek_prev(&self) -> Cursor<'_, C, L>
         requires stands { IsValid C.IsValidAt self.now }
-        ensures moved { MovesBack C.Represents L.table (site_of C.head_of C.Position.member self.now) (reading.position C.Position.member result) }
-        ensures kept { reading.IsValid C.IsValidAt result }
-        ensures list { reading.list_of result ≡ list_of self.now }
-        ensures links { reading.links_of result ≡ links_of self.now }
+        ensures { ReadsMoved C.head_of C.Position.member C.IsValidAt (MovesBack C.Represents L.table)
+            (list_of self.now) (links_of self.now) (place_of self.now) result }
     {
         let cursor = self.as_cursor();
         cursor.peek_prev()
@@ -199,8 +180,7 @@ impl<'a, L: LinkOps, C: Bidirectional<L>> CursorMut<'a, C, L> {
 
     /// Inserts the object before the cursor, or after the last member if the cursor is on no member, unless the object's link is refused.
     ///
-    /// The call requires that the table covers the object's place. The cursor stays where it is. An insert takes O(1) in a list and O(log n) in a
-    /// tree.
+    /// The call requires what [`CursorMut::insert_after`] requires, and takes as long. The cursor stays where it is.
     #[inline]
     pub fn insert_before(
         &mut self,
@@ -212,13 +192,11 @@ impl<'a, L: LinkOps, C: Bidirectional<L>> CursorMut<'a, C, L> {
             (site_of C.head_of C.Position.member self.old) object result (site_of C.head_of C.Position.member self.new) }
         ensures kept { Edited C.IsValidAt C.Keeps self.old self.new }
     {
-        if !self
-            .list
-            .insert_before_at(self.links, &mut self.current, object.place())
-        {
-            return Err(AlreadyLinked(object));
-        }
-        Ok(())
+        inserted(
+            self.list
+                .insert_before_at(self.links, &mut self.current, object.place()),
+            object,
+        )
     }
 
     /// Removes the member that the cursor is on and returns this member, or `None` if the cursor is on no member.
@@ -276,13 +254,11 @@ impl<'a, L: LinkOps, C: Ordered<L>> CursorMut<'a, C, L> {
             (site_of C.head_of C.Position.member self.old) object result (site_of C.head_of C.Position.member self.new) }
         ensures kept { Edited C.IsValidAt C.Keeps self.old self.new }
     {
-        if !self
-            .list
-            .insert_in_order(self.links, objects, &mut self.current, object.place())
-        {
-            return Err(AlreadyLinked(object));
-        }
-        Ok(())
+        inserted(
+            self.list
+                .insert_in_order(self.links, objects, &mut self.current, object.place()),
+            object,
+        )
     }
 }
 
@@ -365,8 +341,7 @@ impl<'a, L: LinkOps, C: BidirectionalSplice<L>> CursorMut<'a, C, L> {
 
     /// Inserts all members of the given collection before the cursor, or after the last member if the cursor is on no member.
     ///
-    /// The call requires that the table also represents the given collection, and that the two collections share no member. The cursor stays where it
-    /// is. O(1).
+    /// The call requires what [`CursorMut::splice_after`] requires. The cursor stays where it is. O(1).
     #[inline]
     pub fn splice_before(&mut self, given: C)
         requires stands { IsValid C.IsValidAt self.old }

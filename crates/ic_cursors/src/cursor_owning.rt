@@ -8,11 +8,10 @@
 //! ```
 
 ghost use Rattle.std.specs.Prelude.{◌≡◌, true, List, None};
-ghost use Rattle.ic_link_ops.specs.Prelude.{Place, is_placed, IsAfter, IsBefore, IsCovered, MovesOn, MovesBack, RepresentsPlaced};
-ghost use Rattle.ic_link_ops.specs.EditsAt.{InsertsBeside, RemovesThere, ReplacesThere, RemovesNext, ReplacesNext, SplicesBeside, SplitsAfter, SplitsBefore, WhereApart};
+ghost use Rattle.ic_link_ops.specs.Prelude.{Place, is_placed, IsAfter, IsBefore, IsCovered, MovesOn, MovesBack, RepresentsPlaced, InsertsBeside, RemovesThere, ReplacesThere, RemovesNext, ReplacesNext, SplicesBeside, SplitsAfter, SplitsBefore, WhereApart};
 ghost use Rattle.ic_cursors.specs.Ordered.{InsertsAmong};
 
-use crate::answers::replaced;
+use crate::answers::{inserted, replaced};
 use crate::{
     Bidirectional, BidirectionalSplice, Collection, Cursor, CursorOps, ForwardOnly, Ordered,
     Position, Splice,
@@ -96,28 +95,20 @@ impl<C: Collection> CursorOwning<C> {
 }
 
 impl<C: Collection> CursorOwning<C> {
-    ghost use Rattle.ic_cursors.specs.CursorOwning.{list_of, position, site_of, IsValid, Edited};
+    ghost use Rattle.ic_cursors.specs.CursorOwning.{list_of, site_of, IsValid, Moves, Edited};
 
-    /// Moves the cursor to the next member, or from the last member to null (no member), or from null to the first member.
-    ///
-    /// After the move, the gap that was right after the cursor is right before the cursor. The call takes O(1) in a list and O(log n) in a tree. A walk over
-    /// all members of a tree takes O(n).
+    /// Moves the cursor to the next member or to null, as [`Cursor::move_next`] does.
     #[inline]
     pub fn move_next<L: LinkOps>(&mut self, links: &L)
     where
         C: CursorOps<L>,
         requires stands { IsValid C.IsValidAt links.now self.old }
-        ensures moved { MovesOn C.Represents L.table (site_of C.head_of C.Position.member links.now self.old) (position C.Position.member self.new) }
-        ensures kept { IsValid C.IsValidAt links.now self.new }
-        ensures list { list_of self.new ≡ list_of self.old }
+        ensures { Moves C.head_of C.Position.member C.IsValidAt (MovesOn C.Represents L.table) links.now self.old self.new }
     {
         self.current = self.list.next_of(links, &self.current);
     }
 
-    /// Inserts the object after the cursor, or before the first member if the cursor is on no member, unless the object's link is refused.
-    ///
-    /// The call requires that the table covers the object's place. The cursor stays where it is. An insert takes O(1) in a list and O(log n) in a
-    /// tree.
+    /// Inserts the object after the cursor, unless its link is refused, as [`CursorMut::insert_after`](crate::CursorMut::insert_after) does.
     #[inline]
     pub fn insert_after<L: LinkOps>(
         &mut self,
@@ -132,35 +123,25 @@ impl<C: Collection> CursorOwning<C> {
             (site_of C.head_of C.Position.member links.old self.old) object result (site_of C.head_of C.Position.member links.new self.new) }
         ensures kept { Edited C.IsValidAt C.Keeps self.old links.new self.new }
     {
-        if !self
-            .list
-            .insert_after_at(links, &mut self.current, object.place())
-        {
-            return Err(AlreadyLinked(object));
-        }
-        Ok(())
+        inserted(
+            self.list
+                .insert_after_at(links, &mut self.current, object.place()),
+            object,
+        )
     }
 
-    /// Moves the cursor to the previous member, or from the first member to null (no member), or from null to the last member.
-    ///
-    /// After the move, the gap that was right before the cursor is right after the cursor. The call takes O(1) in a list and O(log n) in a tree. A walk over
-    /// all members of a tree takes O(n).
+    /// Moves the cursor to the previous member or to null, as [`Cursor::move_prev`] does.
     #[inline]
     pub fn move_prev<L: LinkOps>(&mut self, links: &L)
     where
         C: Bidirectional<L>,
         requires stands { IsValid C.IsValidAt links.now self.old }
-        ensures moved { MovesBack C.Represents L.table (site_of C.head_of C.Position.member links.now self.old) (position C.Position.member self.new) }
-        ensures kept { IsValid C.IsValidAt links.now self.new }
-        ensures list { list_of self.new ≡ list_of self.old }
+        ensures { Moves C.head_of C.Position.member C.IsValidAt (MovesBack C.Represents L.table) links.now self.old self.new }
     {
         self.current = self.list.prev_of(links, &self.current);
     }
 
-    /// Inserts the object before the cursor, or after the last member if the cursor is on no member, unless the object's link is refused.
-    ///
-    /// The call requires that the table covers the object's place. The cursor stays where it is. An insert takes O(1) in a list and O(log n) in a
-    /// tree.
+    /// Inserts the object before the cursor, unless its link is refused, as [`CursorMut::insert_before`](crate::CursorMut::insert_before) does.
     #[inline]
     pub fn insert_before<L: LinkOps>(
         &mut self,
@@ -175,18 +156,14 @@ impl<C: Collection> CursorOwning<C> {
             (site_of C.head_of C.Position.member links.old self.old) object result (site_of C.head_of C.Position.member links.new self.new) }
         ensures kept { Edited C.IsValidAt C.Keeps self.old links.new self.new }
     {
-        if !self
-            .list
-            .insert_before_at(links, &mut self.current, object.place())
-        {
-            return Err(AlreadyLinked(object));
-        }
-        Ok(())
+        inserted(
+            self.list
+                .insert_before_at(links, &mut self.current, object.place()),
+            object,
+        )
     }
 
-    /// Removes the member that the cursor is on and returns this member, or `None` if the cursor is on no member.
-    ///
-    /// The cursor moves to the next member, or to null if there is no next member. A removal takes O(1) in a list and O(log n) in a tree.
+    /// Removes the member that the cursor is on and returns this member, as [`CursorMut::remove`](crate::CursorMut::remove) does.
     #[inline]
     pub fn remove<L: LinkOps>(&mut self, links: &mut L) -> Option<UnsafeRef<C::Object>>
     where
@@ -199,10 +176,7 @@ impl<C: Collection> CursorOwning<C> {
         Some(UnsafeRef::new(place))
     }
 
-    /// Replaces the member that the cursor is on by the object, and returns the replaced member.
-    ///
-    /// The call requires that the table covers the object's place. Afterwards the cursor is on the object. If the cursor is on no member, the call
-    /// returns [`ReplaceError::Null`], whether or not the object is linked. O(1).
+    /// Replaces the member that the cursor is on by the object, as [`CursorMut::replace_with`](crate::CursorMut::replace_with) does.
     #[inline]
     pub fn replace_with<L: LinkOps>(
         &mut self,
@@ -222,10 +196,7 @@ impl<C: Collection> CursorOwning<C> {
         replaced(out, object, is_acquired)
     }
 
-    /// Inserts the object in the order of the keys, after the members whose keys are not greater, unless the object's link is refused.
-    ///
-    /// The call requires that an object is at the object's place and at each member, and that the table covers the object's place. The cursor stays
-    /// where it is. If the link is refused, the object is returned and nothing else has changed. O(log n).
+    /// Inserts the object in the order of the keys, unless its link is refused, as [`CursorMut::insert`](crate::CursorMut::insert) does.
     #[inline]
     pub fn insert<L: LinkOps, O: Values<C::Object>>(
         &mut self,
@@ -243,19 +214,14 @@ impl<C: Collection> CursorOwning<C> {
             (site_of C.head_of C.Position.member links.old self.old) object result (site_of C.head_of C.Position.member links.new self.new) }
         ensures kept { Edited C.IsValidAt C.Keeps self.old links.new self.new }
     {
-        if !self
-            .list
-            .insert_in_order(links, objects, &mut self.current, object.place())
-        {
-            return Err(AlreadyLinked(object));
-        }
-        Ok(())
+        inserted(
+            self.list
+                .insert_in_order(links, objects, &mut self.current, object.place()),
+            object,
+        )
     }
 
-    /// Removes the member after the cursor, or the first member if the cursor is on no member, and returns it. If there is no such member, the result
-    /// is `None`.
-    ///
-    /// The cursor stays where it is. O(1).
+    /// Removes the member after the cursor and returns it, as [`CursorMut::remove_next`](crate::CursorMut::remove_next) does.
     #[inline]
     pub fn remove_next<L: LinkOps>(&mut self, links: &mut L) -> Option<UnsafeRef<C::Object>>
     where
@@ -268,10 +234,7 @@ impl<C: Collection> CursorOwning<C> {
         Some(UnsafeRef::new(place))
     }
 
-    /// Replaces the member after the cursor, or the first member if the cursor is on no member, by the object. Returns the replaced member.
-    ///
-    /// The call requires that the table covers the object's place. If there is no member to replace, the call returns [`ReplaceError::Null`], whether
-    /// or not the object is linked. The cursor stays where it is. O(1).
+    /// Replaces the member after the cursor by the object, as [`CursorMut::replace_next_with`](crate::CursorMut::replace_next_with) does.
     #[inline]
     pub fn replace_next_with<L: LinkOps>(
         &mut self,
@@ -291,10 +254,7 @@ impl<C: Collection> CursorOwning<C> {
         replaced(out, object, is_acquired)
     }
 
-    /// Inserts all members of the given collection after the cursor, or before the first member if the cursor is on no member.
-    ///
-    /// The call requires that the table also represents the given collection, and that the two collections share no member. The cursor stays where it
-    /// is. O(1).
+    /// Inserts all members of the given collection after the cursor, as [`CursorMut::splice_after`](crate::CursorMut::splice_after) does.
     #[inline]
     pub fn splice_after<L: LinkOps>(&mut self, links: &mut L, given: C)
     where
@@ -310,9 +270,7 @@ impl<C: Collection> CursorOwning<C> {
         self.list.splice_after_at(links, &mut self.current, given);
     }
 
-    /// Removes the members after the cursor, or all members if the cursor is on no member, and returns them as a collection.
-    ///
-    /// The cursor stays where it is. O(1).
+    /// Removes the members after the cursor and returns them as a collection, as [`CursorMut::split_after`](crate::CursorMut::split_after) does.
     #[inline]
     pub fn split_after<L: LinkOps>(&mut self, links: &mut L) -> C
     where
@@ -324,10 +282,7 @@ impl<C: Collection> CursorOwning<C> {
         self.list.split_after_at(links, &mut self.current)
     }
 
-    /// Inserts all members of the given collection before the cursor, or after the last member if the cursor is on no member.
-    ///
-    /// The call requires that the table also represents the given collection, and that the two collections share no member. The cursor stays where it
-    /// is. O(1).
+    /// Inserts all members of the given collection before the cursor, as [`CursorMut::splice_before`](crate::CursorMut::splice_before) does.
     #[inline]
     pub fn splice_before<L: LinkOps>(&mut self, links: &mut L, given: C)
     where
@@ -343,9 +298,7 @@ impl<C: Collection> CursorOwning<C> {
         self.list.splice_before_at(links, &mut self.current, given);
     }
 
-    /// Removes the members before the cursor, or all members if the cursor is on no member, and returns them as a collection.
-    ///
-    /// The cursor stays where it is. O(1).
+    /// Removes the members before the cursor and returns them as a collection, as [`CursorMut::split_before`](crate::CursorMut::split_before) does.
     #[inline]
     pub fn split_before<L: LinkOps>(&mut self, links: &mut L) -> C
     where

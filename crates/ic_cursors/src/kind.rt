@@ -9,11 +9,10 @@
 
 ghost use Rattle.std.specs.Prelude.{◌≡◌, true, List, Option, None};
 ghost use Rattle.std.specs.declared.cmp.Ordering.{Ordering};
-ghost use Rattle.ic_link_ops.specs.Prelude.{Place, Objects, is_placed, IsAfter, IsBefore, Table, IsCovered, site, MovesOn, MovesBack, RepresentsPlaced};
+ghost use Rattle.ic_link_ops.specs.Prelude.{Place, Objects, is_placed, IsAfter, IsBefore, Table, IsCovered, site, MovesOn, MovesBack, RepresentsPlaced, InsertsBeside, RemovesThere, ReplacesThere, RemovesNext, ReplacesNext, SplicesBeside, SplitsAfter, SplitsBefore, WhereApart};
 ghost use Rattle.ic_cursors.specs.Answers as answer;
 ghost use Rattle.ic_cursors.specs.Edited.{Edited};
 ghost use Rattle.ic_cursors.specs.Ordered.{InsertsAmong};
-ghost use Rattle.ic_link_ops.specs.EditsAt.{InsertsBeside, RemovesThere, ReplacesThere, RemovesNext, ReplacesNext, SplicesBeside, SplitsAfter, SplitsBefore, WhereApart};
 
 use crate::Position;
 use ic_link_ops::LinkOps;

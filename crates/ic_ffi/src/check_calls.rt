@@ -7,9 +7,8 @@
 //! ```
 
 ghost use Rattle.ic_raw.specs.Doubly as doubly;
-ghost use Rattle.ic_raw.specs.LinkWords.{wide_words};
+ghost use Rattle.ic_raw.specs.Prelude.{wide_words, RepresentsTree};
 ghost use Rattle.ic_raw.specs.Singly as singly;
-ghost use Rattle.ic_raw.specs.Tree.{RepresentsTree};
 ghost use Rattle.ic_raw.specs.CheckCalls.{CheckCall, HashCheckCall};
 
 use ic_raw::{RawEnds, RawFront, RawOne, RawRoot, RawThree, RawTwo, check_calls};

@@ -10,8 +10,7 @@
 
 ghost use Rattle.std.specs.Prelude.{None};
 ghost use Rattle.ic_raw.specs.declared.gap.GapSide.TheVariants.{After, Before};
-ghost use Rattle.ic_raw.specs.LinkWords.{wide_words};
-ghost use Rattle.ic_raw.specs.Words.{place_of};
+ghost use Rattle.ic_raw.specs.Prelude.{wide_words, place_of};
 ghost use Rattle.ic_raw.specs.ListCalls.{ClearCall, InsertCall, PopCall, RemoveCall, ReplaceCall, SpliceCall, SplitCall};
 
 use ic_raw::{GapSide, NONE, RawEnds, RawTwo, list_calls};

@@ -14,10 +14,9 @@ ghost use Rattle.std.specs.Prelude.{None};
 ghost use Rattle.ic_raw.specs.CheckCalls.{CheckCall};
 ghost use Rattle.ic_raw.specs.declared.gap.GapSide.TheVariants.{After, Before};
 ghost use Rattle.ic_raw.specs.Doubly.{RepresentsList};
-ghost use Rattle.ic_raw.specs.LinkWords.{narrow_words};
+ghost use Rattle.ic_raw.specs.Prelude.{narrow_words, place_of};
 ghost use Rattle.ic_raw.specs.ListCalls.{ClearCall, InsertCall, MoveCall, MoveToEndCall};
 ghost use Rattle.ic_raw.specs.ListCalls.{PopCall, RemoveCall, ReplaceCall, SpliceCall, SplitCall};
-ghost use Rattle.ic_raw.specs.Words.{place_of};
 ghost use Rattle.ic_raw_lists.specs.TransferCalls.{TransferCall};
 
 use ic_raw::{GapSide, NONE, RawEnds, RawNarrowTwo, check_calls, list_calls, move_calls};

@@ -9,9 +9,8 @@
 //! ```
 
 ghost use Rattle.ic_raw.specs.declared.gap.GapSide.TheVariants.{After, Before};
-ghost use Rattle.ic_raw.specs.LinkWords.{narrow_words};
+ghost use Rattle.ic_raw.specs.Prelude.{narrow_words, place_of};
 ghost use Rattle.ic_raw.specs.RingCalls.{PopCall, ReplaceCall, MoveCall, SpliceCall};
-ghost use Rattle.ic_raw.specs.Words.{place_of};
 ghost use Rattle.ic_raw.specs.RingCalls.{ExchangeCall, InitCall, InsertCall, RemoveCall};
 
 use ic_raw::{GapSide, RawNarrowTwo, ring_calls};

@@ -5,8 +5,7 @@
 //! ```
 
 ghost use Rattle.ic_raw.specs.declared.gap.GapSide.TheVariants.{After, Before};
-ghost use Rattle.ic_raw.specs.LinkWords.{wide_words};
-ghost use Rattle.ic_raw.specs.Words.{place_of};
+ghost use Rattle.ic_raw.specs.Prelude.{wide_words, place_of};
 ghost use Rattle.ic_raw_lists.specs.TransferCalls.{TransferCall};
 
 use ic_raw::{GapSide, RawEnds, RawTwo};

@@ -13,8 +13,7 @@ ghost use Rattle.ic_link_ops.specs.Prelude.{Place, Table};
 ghost use Rattle.ic_raw.specs.declared.gap.GapSide.TheVariants.{After, Before};
 ghost use Rattle.ic_raw.specs.declared.status.TheConstants.{OK};
 ghost use Rattle.ic_raw.specs.declared.words.RawOne.{RawOne};
-ghost use Rattle.ic_raw.specs.Words.{place_of};
-ghost use Rattle.ic_raw.specs.Doubly.{ends_of};
+ghost use Rattle.ic_raw.specs.Prelude.{place_of, ends_of};
 ghost use Rattle.ic_raw.specs.Xor.{Represents};
 ghost use Rattle.ic_raw.specs.XorCalls.{AppendCall, ClearCall, InsertCall, PopCall, PushCall, RemoveCall, ReplaceCall, SpliceCall, SplitCall};
 

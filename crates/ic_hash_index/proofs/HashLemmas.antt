@@ -4,23 +4,15 @@ use Rattle.std.proofs.lemmas.Bool.{false_from_ne_true}
 use Rattle.std.proofs.lemmas.List.Sums.{sum_by-cons}
 use Rattle.std.specs.Bool.{⊤, OnTrue}
 use Rattle.std.specs.List.{AllByRecursion, cons_option}
-use Rattle.ic_link_ops.specs.Prelude.{Place, index_of, Objects, Places, Frees, object_at, is_placed, IsAbsent, IsDistinct, IsMember, Table, IsCovered, IsLinked, IsUnlinked, LinksAlso, Unlinks, values_at}
-use Rattle.ic_unsafe_ref.proofs.Placing.{gone_there, others_left, others_placed, placed_there}
+use Rattle.ic_link_ops.specs.Prelude.{Place, index_of, Objects, Places, Frees, object_at, is_placed, IsAbsent, IsDistinct, IsMember, Table, IsCovered, IsLinked, IsUnlinked, LinksAlso, Unlinks, values_at, link_of, entries, linked_by, table, Successor, Width, nameable}
+use Rattle.ic_link_ops.proofs.Prelude.{gone_there, others_left, others_placed, placed_there, all_beside, vacant_absent, absent_left, absent_right, absent_with, absent_without, distinct_left, distinct_middle, distinct_right, member_split, none_not, split_member}
 use Rattle.ic_link_ops.specs.declared.table.PlainTable.{PlainTable}
 use Rattle.ic_link_ops.specs.EntryLaws.{linked_in_range}
-use Rattle.ic_link_ops.specs.Links.{link_of}
-use Rattle.ic_link_ops.specs.PlainTables.{entries, linked_by, table}
-use Rattle.ic_link_ops.specs.SinglyLinkedList.{Successor}
-use Rattle.ic_link_ops.specs.Widths.{Width, nameable}
 use Rattle.ic_link_ops.proofs.LinkedSets.{everywhere}
-use Rattle.ic_link_ops.proofs.PlacedValues.{all_beside, vacant_absent}
-use Rattle.ic_link_ops.proofs.SequenceLemmas.{absent_left, absent_right, absent_with, absent_without, distinct_left, distinct_middle, distinct_right, member_split, none_not, split_member}
 use Rattle.ic_hash_table.specs.declared.slots.Slots.{Slots}
 use Rattle.ic_hash_table.specs.declared.table.HashTable.{HashTable}
-use Rattle.ic_hash_table.specs.Chains.{AreChained, RepresentsFrom}
+use Rattle.ic_hash_table.specs.Prelude.{AreChained, RepresentsFrom, matches, passes, Finds, StopsAt, slot_of}
 use Rattle.ic_hash_table.specs.HashTable.{front_at, BelongsIn, Holds, HoldsWith, IsNew}
-use Rattle.ic_hash_table.specs.Searches.{matches, passes, Finds, StopsAt}
-use Rattle.ic_hash_table.specs.Slots.{slot_of}
 use Rattle.ic_hash_table.proofs.Callers.{new_held}
 use Rattle.ic_hash_table.proofs.Chains.{chains_free}
 use Rattle.ic_hash_table.proofs.ChainParts.{of_members}

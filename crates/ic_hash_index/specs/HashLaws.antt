@@ -1,14 +1,11 @@
 -- Laws of a hash table whose members are all objects of a container.
 use Rattle.std.proofs.Common.{◌≡◌, ℕ, Bool, true, None, Some, Option, IsSome, is_some, List, [], ◌∷◌, sym, ap, ◌∙◌}
 use Rattle.std.specs.List.{AllByRecursion}
-use Rattle.ic_link_ops.specs.Prelude.{Place, Objects, object_at, is_placed, IsDisjoint, IsMember, Table, IsUnlinked}
-use Rattle.ic_unsafe_ref.proofs.Placing.{Puts, put_others, put_there}
-use Rattle.ic_link_ops.specs.SinglyLinkedList.{Successor}
+use Rattle.ic_link_ops.specs.Prelude.{Place, Objects, object_at, is_placed, IsDisjoint, IsMember, Table, IsUnlinked, Successor}
+use Rattle.ic_link_ops.proofs.Prelude.{Puts, put_others, put_there, none_not, some_same}
 use Rattle.ic_link_ops.proofs.LinkedSets.{everywhere}
-use Rattle.ic_link_ops.proofs.SequenceLemmas.{none_not, some_same}
 use Rattle.ic_hash_table.specs.declared.table.HashTable.{HashTable}
-use Rattle.ic_hash_table.specs.HashTable.{BelongsIn}
-use Rattle.ic_hash_table.specs.Slots.{slot_of}
+use Rattle.ic_hash_table.specs.Prelude.{BelongsIn, slot_of}
 use Rattle.ic_hash_table.proofs.Chains.{chains_frame, chains_weakened}
 use Rattle.ic_hash_index.specs.HashIndex.{HoldsAll}
 

@@ -5,13 +5,12 @@
 //! let mut pages = Indexed::with_index(rt.alloc(), HashIndex::new(buckets));
 //! ```
 
-ghost use Rattle.std.specs.Prelude.{◌≡◌, ◌≤◌, None, length};
+ghost use Rattle.std.specs.Prelude.{◌≡◌, length};
 ghost use Rattle.std.proofs.Common.{ap};
-ghost use Rattle.std.specs.List.{AllByRecursion};
 ghost use Rattle.ic_hash_table.specs.HashTable.{number};
 ghost use Rattle.ic_link_ops.specs.PlainTables.{linked_by, table};
 ghost use Rattle.ic_link_ops.specs.Readings.{successor_of};
-ghost use Rattle.ic_hash_index.specs.HashIndex.{mixed, table_of, chains_of, HoldsAll, WithinChainBound, IsNewIndex};
+ghost use Rattle.ic_hash_index.specs.HashIndex.{AreEmptyBuckets, mixed, table_of, chains_of, HoldsAll, WithinChainBound, IsNewIndex};
 ghost use Rattle.ic_hash_index.specs.HashLaws.{hash_grown, hash_alike};
 
 use crate::ByHash;
@@ -49,9 +48,7 @@ impl<T: HasKey, B: BucketRow> HashIndex<T, B> {
     /// The call requires that the buckets are empty, and that there are at least one and at most 4,294,967,296 of them. If there are as many buckets
     /// as objects, a search compares one or two objects on average. The call costs O(log n) for n buckets, and takes no memory.
     pub fn new(buckets: B) -> HashIndex<T, B>
-        requires some { 1 ≤ length (B.fronts buckets) }
-        requires few { length (B.fronts buckets) ≤ 4294967296 }
-        requires empty { AllByRecursion (λ front. front ≡ None) (B.fronts buckets) }
+        requires { AreEmptyBuckets (B.fronts buckets) }
         ensures new { IsNewIndex B.fronts result }
         ensures parts { chains_of result ≡ length (B.fronts buckets) }
     {
@@ -63,9 +60,7 @@ impl<T: HasKey, B: BucketRow, W: NextWord, O: PrevPlace> HashIndex<T, B, W, O> {
     /// Makes an index over the given buckets, for links with words of the types `W` and `O`, for example by `NarrowHashIndex::with_words(buckets)`.
     /// Everything else is as for `new`. O(log n) for n buckets.
     pub fn with_words(buckets: B) -> HashIndex<T, B, W, O>
-        requires some { 1 ≤ length (B.fronts buckets) }
-        requires few { length (B.fronts buckets) ≤ 4294967296 }
-        requires empty { AllByRecursion (λ front. front ≡ None) (B.fronts buckets) }
+        requires { AreEmptyBuckets (B.fronts buckets) }
         ensures new { IsNewIndex B.fronts result }
         ensures parts { chains_of result ≡ length (B.fronts buckets) }
     {
@@ -100,7 +95,7 @@ impl<
 
     fn find_key(
         &self,
-        links: &PlainTable<W, A>,
+        links: &Self::Links,
         objects: &Objects<T, A>,
         key: u64,
     ) -> (Option<Place>, u64) {
@@ -111,21 +106,11 @@ impl<
         }
     }
 
-    fn insert_place(
-        &mut self,
-        links: &mut PlainTable<W, A>,
-        objects: &Objects<T, A>,
-        place: Place,
-    ) {
+    fn insert_place(&mut self, links: &mut Self::Links, objects: &Objects<T, A>, place: Place) {
         let _ = self.table.insert(links, objects, UnsafeRef::new(place)); // proved: it is not linked
     }
 
-    fn remove_place(
-        &mut self,
-        links: &mut PlainTable<W, A>,
-        objects: &Objects<T, A>,
-        place: Place,
-    ) {
+    fn remove_place(&mut self, links: &mut Self::Links, objects: &Objects<T, A>, place: Place) {
         let _ = self.table.remove(links, objects, &UnsafeRef::new(place)); // proved: it is a member
     }
 

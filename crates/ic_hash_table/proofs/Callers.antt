@@ -1,12 +1,10 @@
 -- A caller of a hash table needs these lemmas to say which members the table holds after a call.
 use Rattle.std.proofs.Common.{◌≡◌, ◌↔◌, ℕ, Bool, true, false, IsTrue, Option, Some, List, [], ◌∷◌, ◌++◌, refl, subst, ◌∙◌}
 use Rattle.std.specs.Bool.{OnFalse, ⊤}
-use Rattle.ic_link_ops.specs.Prelude.{Place, Objects, IsMember, Table}
-use Rattle.ic_link_ops.specs.SinglyLinkedList.{Successor}
+use Rattle.ic_link_ops.specs.Prelude.{Place, Objects, IsMember, Table, Successor}
 use Rattle.ic_link_ops.proofs.SequenceLemmas.{member_split}
 use Rattle.ic_hash_table.specs.declared.table.HashTable.{HashTable}
-use Rattle.ic_hash_table.specs.HashTable.{BelongsIn, Holds, HoldsSome, IsNew, IsRepresented}
-use Rattle.ic_hash_table.specs.Searches.{Finds}
+use Rattle.ic_hash_table.specs.Prelude.{BelongsIn, Holds, HoldsSome, IsNew, IsRepresented, Finds}
 use Rattle.ic_hash_table.proofs.Chains.{chains_nothing, chains_one, chains_weakened}
 
 -- with every table of links, a new hash table holds the empty sequence

@@ -2,17 +2,12 @@
 use Rattle.std.proofs.Common.{◌≡◌, ◌≢◌, inl, inr, Bool, true, false, Option, Some, None, List, [], ◌∷◌, ◌++◌, drop, length, refl, sym, ap, ◌∙◌, subst, arith, append_assoc, append-nil}
 use Rattle.std.specs.List.{AllByRecursion}
 use Rattle.std.specs.Cmp.{IsPartialEquivalence}
-use Rattle.ic_link_ops.specs.Prelude.{Place, IsAbsent, IsMember, IsDistinct, Table}
-use Rattle.ic_unsafe_ref.proofs.PlaceLemmas.{same_or_not}
+use Rattle.ic_link_ops.specs.Prelude.{Place, IsAbsent, IsMember, IsDistinct, Table, Successor, IsFollowed}
+use Rattle.ic_link_ops.proofs.Prelude.{same_or_not, chain_cut, all_back, absent_left, absent_right, absent_with, absent_without, distinct_insert, distinct_right, first_is, member_split}
 use Rattle.ic_link_ops.specs.Chains.{IsChain}
-use Rattle.ic_link_ops.specs.SinglyLinkedList.{Successor, IsFollowed}
-use Rattle.ic_link_ops.proofs.Chains.{chain_cut}
-use Rattle.ic_link_ops.proofs.Each.{all_back}
-use Rattle.ic_link_ops.proofs.SequenceLemmas.{absent_left, absent_right, absent_with, absent_without, distinct_insert, distinct_right, first_is, member_split}
 use Rattle.ic_hash_table.specs.Growth.{AreTurned, IsParted}
-use Rattle.ic_hash_table.specs.SideBySide.{AreSideBySide}
+use Rattle.ic_hash_table.specs.Prelude.{AreSideBySide, RepresentsFrom}
 use Rattle.ic_hash_table.proofs.SideBySideSequences.{spans}
-use Rattle.ic_hash_table.specs.Chains.{RepresentsFrom}
 use Rattle.ic_link_ops.proofs.RepresentedLists.{represents_beside}
 
 -- if a property holds for each member of s, it holds for the member q of s, and for each member of a sequence whose members are all in s

@@ -4,8 +4,7 @@ use Rattle.std.specs.List.{AllByRecursion}
 use Rattle.ic_link_ops.specs.Prelude.{Place, Objects, object_at, IsDistinct, first, last, Table, ArePlaced}
 use Rattle.ic_link_ops.specs.Chains.{IsChain}
 use Rattle.ic_link_ops.proofs.Clearing.{Releases, releases_none, releases_more}
-use Rattle.ic_link_ops.proofs.Each.{all_back, all_both}
-use Rattle.ic_link_ops.proofs.SequenceLemmas.{last_of_push, first_is, nothing_first}
+use Rattle.ic_link_ops.proofs.Prelude.{all_back, all_both, last_of_push, first_is, nothing_first}
 use Rattle.ic_hash_table.specs.Searches.{StopsAt}
 
 module _ {E : Type 0} (between : E → Option Place → Option Place → Type 0) (is : Place → Bool) where

@@ -3,8 +3,7 @@ use Rattle.std.proofs.Common.{◌≡◌, ◌≢◌, ℕ, zero, suc, ◌+◌, ◌
 use Rattle.std.specs.List.{AllByRecursion}
 use Rattle.ic_link_ops.specs.Prelude.{Place, IsAbsent, IsDisjoint, Table}
 use Rattle.ic_link_ops.specs.SinglyLinkedList.{Front, Represents, Successor}
-use Rattle.ic_link_ops.proofs.Each.{all_both, all_map}
-use Rattle.ic_link_ops.proofs.SequenceLemmas.{absent_both, nothing_first}
+use Rattle.ic_link_ops.proofs.Prelude.{all_both, all_map, absent_both, nothing_first}
 use Rattle.ic_link_ops.proofs.RepresentedLists.{free_absent, represents_frame, represents_one}
 use Rattle.ic_link_ops.proofs.SinglyLists.{followed_linked, followed_one}
 use Rattle.ic_hash_table.specs.Chains.{AreChained, RepresentsFrom}

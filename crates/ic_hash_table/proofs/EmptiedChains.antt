@@ -1,13 +1,9 @@
 -- These lemmas are about a hash table whose chains are emptied one after the other.
-use Rattle.std.proofs.Common.{◌≡◌, ℕ, ◌+◌, ◌<◌, Option, None, List, [], ◌∷◌, ◌++◌, length, slice_index_or, slice_set, refl, sym, ap, ◌∙◌, subst, arith, append_assoc, append-nil, inl, inr, suc}
+use Rattle.std.proofs.Common.{◌≡◌, ℕ, ◌+◌, ◌<◌, Option, None, List, [], ◌∷◌, ◌++◌, length, slice_index_or, slice_set, refl, sym, ap, ◌∙◌, subst, arith, append_assoc, append-nil, inl, inr, suc, eq-or-lt_of_le, get_or-set_same, get_or-set_other}
 use Rattle.std.specs.Bool.{⊤}
 use Rattle.std.specs.List.{AllByRecursion}
-use Rattle.std.proofs.Math.Nat.{eq-or-lt_of_le}
-use Rattle.std.proofs.lemmas.List.{get_or-set_same, get_or-set_other}
-use Rattle.ic_link_ops.specs.Prelude.{Place, IsAbsent, IsDistinct, IsDisjoint, Table, ChangesOnlyIn, LinkStep, releases_each}
-use Rattle.ic_link_ops.specs.SinglyLinkedList.{Successor}
-use Rattle.ic_link_ops.proofs.SequenceLemmas.{absent_left, absent_right, disjoint_sym, distinct_disjoint, distinct_right}
-use Rattle.ic_link_ops.proofs.StepLemmas.{releases_append}
+use Rattle.ic_link_ops.specs.Prelude.{Place, IsAbsent, IsDistinct, IsDisjoint, Table, ChangesOnlyIn, LinkStep, releases_each, Successor}
+use Rattle.ic_link_ops.proofs.Prelude.{absent_left, absent_right, disjoint_sym, distinct_disjoint, distinct_right, releases_append}
 use Rattle.ic_hash_table.specs.Chains.{AreChained}
 use Rattle.ic_hash_table.proofs.Chains.{Between, chain_at, chains_one, chains_nothing}
 

@@ -1,17 +1,12 @@
 -- A search walks along one chain, and these lemmas say what its result means for all members of the table.
 use Rattle.std.proofs.Common.{◌≡◌, ◌≢◌, ℕ, ◌<◌, Bool, true, false, Option, Some, None, IsSome, IfSome, is_some, drop, eqb-true, eq-eqb, true≢false, List, [], ◌∷◌, ◌++◌, slice_index_or, refl, sym, ap, ◌∙◌, subst, arith, append_assoc}
 use Rattle.std.specs.List.{AllByRecursion}
-use Rattle.ic_link_ops.specs.Prelude.{Place, same_word, Objects, object_at, IsAbsent, last, Table, RepresentsPlaced}
-use Rattle.ic_link_ops.specs.SinglyLinkedList.{Successor}
-use Rattle.ic_link_ops.proofs.Each.{all_both, all_front, all_back, all_map}
-use Rattle.ic_link_ops.proofs.SequenceLemmas.{nothing_first, first_is}
+use Rattle.ic_link_ops.specs.Prelude.{Place, same_word, Objects, object_at, IsAbsent, last, Table, RepresentsPlaced, Successor}
+use Rattle.ic_link_ops.proofs.Prelude.{all_both, all_front, all_back, all_map, nothing_first, first_is}
 use Rattle.ic_hash_table.specs.declared.slots.Slots.{Slots}
 use Rattle.ic_hash_table.specs.declared.table.HashTable.{HashTable}
-use Rattle.ic_hash_table.specs.Slots.{slot_of}
-use Rattle.ic_hash_table.specs.HashTable.{BelongsIn, Holds}
-use Rattle.ic_hash_table.specs.Searches.{passes, matches, is_place, Finds, StopsAt}
+use Rattle.ic_hash_table.specs.Prelude.{slot_of, BelongsIn, Holds, passes, matches, is_place, Finds, StopsAt, RepresentsFrom}
 use Rattle.ic_hash_table.proofs.Chains.{Elsewhere, Between, chain_at}
-use Rattle.ic_hash_table.specs.Chains.{RepresentsFrom}
 
 module _ {E A B V : Type 0} {successor : E → Successor} {hash : A → V → ℕ} {fronts : B → List (Option Place)} {t : Table E} {table : HashTable A B} {objects : Objects V} {s : List Place}
     (held : Holds successor hash fronts t table objects s) (k : ℕ) (used : k < table.slots.used) where

@@ -1,21 +1,14 @@
 -- These lemmas are about a hash table after one of its chains was split in two.
-use Rattle.std.proofs.Common.{◌≡◌, ◌≢◌, ℕ, ◌<◌, Bool, true, false, eqb-true, eq-eqb, true≢false, Option, Some, None, IsSome, List, [], ◌∷◌, ◌++◌, length, length-append, slice_index_or, slice_set, refl, sym, ap, ◌∙◌, subst, arith}
+use Rattle.std.proofs.Common.{◌≡◌, ◌≢◌, ℕ, ◌<◌, Bool, true, false, eqb-true, eq-eqb, true≢false, Option, Some, None, IsSome, List, [], ◌∷◌, ◌++◌, length, length-append, slice_index_or, slice_set, refl, sym, ap, ◌∙◌, subst, arith, get_or-set_other, length-set}
 use Rattle.std.specs.List.{AllByRecursion}
 use Rattle.std.specs.Cmp.{IsPartialEquivalence}
-use Rattle.std.proofs.lemmas.List.{get_or-set_other, length-set}
-use Rattle.ic_link_ops.specs.Prelude.{Place, Objects, object_at, IsAbsent, IsDistinct, IsDisjoint, first, Table, ChangesOnlyIn}
-use Rattle.ic_link_ops.specs.SinglyLinkedList.{Successor}
-use Rattle.ic_link_ops.proofs.Each.{all_front, all_back, all_map}
-use Rattle.ic_link_ops.proofs.SequenceLemmas.{absent_both, absent_left, absent_right, absent_swap, disjoint_both, disjoint_left, disjoint_right, disjoint_sym, distinct_disjoint, distinct_left, distinct_right, distinct_splice, distinct_remove, disjoint_nothing, nothing_first}
+use Rattle.ic_link_ops.specs.Prelude.{Place, Objects, object_at, IsAbsent, IsDistinct, IsDisjoint, first, Table, ChangesOnlyIn, Successor}
+use Rattle.ic_link_ops.proofs.Prelude.{all_front, all_back, all_map, absent_both, absent_left, absent_right, absent_swap, disjoint_both, disjoint_left, disjoint_right, disjoint_sym, distinct_disjoint, distinct_left, distinct_right, distinct_splice, distinct_remove, disjoint_nothing, nothing_first}
 use Rattle.ic_hash_table.specs.declared.slots.Slots.{Slots}
 use Rattle.ic_hash_table.specs.declared.table.HashTable.{HashTable}
-use Rattle.ic_hash_table.specs.Slots.{slot_of, split_of, IsWellFormed, IsSplit}
-use Rattle.ic_hash_table.specs.Chains.{AreChained}
-use Rattle.ic_hash_table.specs.HashTable.{BelongsIn, Holds}
-use Rattle.ic_hash_table.specs.Searches.{matches, passes}
+use Rattle.ic_hash_table.specs.Prelude.{slot_of, split_of, IsWellFormed, IsSplit, AreChained, BelongsIn, Holds, matches, passes, AreSideBySide}
 use Rattle.ic_hash_table.specs.Growth.{belongs_at, IsParted, HoldsSameMembers}
 use Rattle.ic_hash_table.proofs.Chains.{Between, chain_at}
-use Rattle.ic_hash_table.specs.SideBySide.{AreSideBySide}
 use Rattle.ic_hash_table.proofs.ChainParts.{of_members}
 use Rattle.ic_hash_table.proofs.SideBySideSequences.{front_beside, back_beside}
 use Rattle.ic_hash_table.proofs.SideBySideChains.{BelongTogether, middle_beside}

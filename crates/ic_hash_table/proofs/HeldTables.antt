@@ -1,17 +1,11 @@
 -- These lemmas say which sequence the table holds after an edit of one chain.
-use Rattle.std.proofs.Common.{◌≡◌, ℕ, ◌+◌, ◌<◌, ◌≤◌, Bool, Option, Some, None, IsSome, IfSome, Result, Ok, Err, OnOk, List, [], ◌∷◌, ◌++◌, length, length-append, slice_index_or, slice_set, refl, sym, ap, ◌∙◌, subst, arith, append_assoc}
+use Rattle.std.proofs.Common.{◌≡◌, ℕ, ◌+◌, ◌<◌, ◌≤◌, Bool, Option, Some, None, IsSome, IfSome, Result, Ok, Err, OnOk, List, [], ◌∷◌, ◌++◌, length, length-append, slice_index_or, slice_set, refl, sym, ap, ◌∙◌, subst, arith, append_assoc, length-set}
 use Rattle.std.specs.List.{AllByRecursion}
-use Rattle.std.proofs.lemmas.List.{length-set}
-use Rattle.ic_link_ops.specs.Prelude.{Place, Objects, object_at, Cut, join, insert, first, IsAbsent, IsMember, IsDistinct, IsDisjoint, Table, ChangesOnlyIn}
-use Rattle.ic_link_ops.specs.SinglyLinkedList.{Successor}
-use Rattle.ic_link_ops.proofs.CollectionLaws.{IsKind}
-use Rattle.ic_link_ops.proofs.Each.{all_with, all_without, all_both, all_map, all_front}
-use Rattle.ic_link_ops.proofs.SequenceLemmas.{absent_left, absent_right, disjoint_cons, disjoint_left, disjoint_sym, distinct_disjoint, distinct_right, distinct_insert, distinct_remove, none_not, split_member}
+use Rattle.ic_link_ops.specs.Prelude.{Place, Objects, object_at, Cut, join, insert, first, IsAbsent, IsMember, IsDistinct, IsDisjoint, Table, ChangesOnlyIn, Successor}
+use Rattle.ic_link_ops.proofs.Prelude.{IsKind, all_with, all_without, all_both, all_map, all_front, absent_left, absent_right, disjoint_cons, disjoint_left, disjoint_sym, distinct_disjoint, distinct_right, distinct_insert, distinct_remove, none_not, split_member}
 use Rattle.ic_hash_table.specs.declared.table.HashTable.{HashTable}
-use Rattle.ic_hash_table.specs.Slots.{slot_of}
-use Rattle.ic_hash_table.specs.Chains.{AreChained, RepresentsFrom}
+use Rattle.ic_hash_table.specs.Prelude.{slot_of, AreChained, RepresentsFrom, Finds, StopsAt}
 use Rattle.ic_hash_table.specs.HashTable.{BelongsIn, Holds, HoldsAt, HoldsBefore, HoldsWith, IsNew}
-use Rattle.ic_hash_table.specs.Searches.{Finds, StopsAt}
 use Rattle.ic_hash_table.specs.declared.slots.Slots.{Slots}
 use Rattle.ic_hash_table.proofs.ChainParts.{of_member}
 use Rattle.ic_hash_table.proofs.Chains.{Between, Above, chain_one, chains_frame, chains_free, chains_one, chains_nothing}

@@ -1,11 +1,9 @@
 -- These lemmas say what the buckets of a table have room for, and that an edit keeps the buckets.
 use Rattle.std.proofs.Common.{◌≡◌, ℕ, Bool, Option, None, List, [], ◌∷◌, length, map, inl, inr, sym, ap, ◌∙◌}
 use Rattle.std.specs.List.{AllByRecursion}
-use Rattle.ic_link_ops.specs.Prelude.{Place, place_at, word_of, Table, IsLinked, IsNameable}
-use Rattle.ic_unsafe_ref.proofs.PlaceLemmas.{place_at_word}
-use Rattle.ic_link_ops.specs.SinglyLinkedList.{Successor}
+use Rattle.ic_link_ops.specs.Prelude.{Place, place_at, word_of, Table, IsLinked, IsNameable, Successor}
+use Rattle.ic_link_ops.proofs.Prelude.{place_at_word, gap_after_linked}
 use Rattle.ic_link_ops.proofs.Naming.{end_named}
-use Rattle.ic_link_ops.proofs.RepresentedLists.{gap_after_linked}
 use Rattle.ic_link_ops.proofs.SinglyLists.{followed_linked}
 use Rattle.ic_hash_table.specs.declared.table.HashTable.{HashTable}
 use Rattle.ic_hash_table.specs.Buckets.{AreRewritten}

@@ -3,19 +3,12 @@ use Rattle.std.proofs.Common.{◌≡◌, ℕ, zero, suc, ◌/◌, ◌<◌, ◌�
 use Rattle.std.specs.Bool.{⊤}
 use Rattle.std.specs.List.{AllByRecursion}
 use Rattle.std.proofs.Math.Seq.{drop-cons}
-use Rattle.ic_link_ops.specs.Prelude.{Place, Objects, object_at, Cut, join, first, last, but_last, IsDistinct, IsAbsent, IsMember, Table, ArePlaced}
-use Rattle.ic_link_ops.specs.SinglyLinkedList.{Successor, IsFollowed}
-use Rattle.ic_link_ops.proofs.SequenceLemmas.{split_last, nothing_first}
-use Rattle.ic_link_ops.proofs.Each.{all_front, all_map, all_back}
-use Rattle.ic_link_ops.proofs.RepresentedLists.{represents_middle}
+use Rattle.ic_link_ops.specs.Prelude.{Place, Objects, object_at, Cut, join, first, last, but_last, IsDistinct, IsAbsent, IsMember, Table, ArePlaced, Successor, IsFollowed}
+use Rattle.ic_link_ops.proofs.Prelude.{split_last, nothing_first, all_front, all_map, all_back, represents_middle, absent_both, member_split, split_member, some_same}
 use Rattle.ic_hash_table.specs.declared.slots.Slots.{Slots}
-use Rattle.ic_hash_table.specs.Slots.{slot_of}
+use Rattle.ic_hash_table.specs.Prelude.{slot_of, AreChained, RepresentsFrom, BelongsIn, Holds, matches, Finds, StopsAt}
 use Rattle.ic_hash_table.proofs.SlotLemmas.{slot_used}
-use Rattle.ic_link_ops.proofs.SequenceLemmas.{absent_both, member_split, split_member, some_same}
 use Rattle.ic_hash_table.specs.declared.table.HashTable.{HashTable}
-use Rattle.ic_hash_table.specs.Chains.{AreChained, RepresentsFrom}
-use Rattle.ic_hash_table.specs.HashTable.{BelongsIn, Holds}
-use Rattle.ic_hash_table.specs.Searches.{matches, Finds, StopsAt}
 use Rattle.ic_hash_table.proofs.Chains.{Elsewhere, chains_weakened}
 use Rattle.ic_hash_table.proofs.ChainParts.{represents_after}
 use Rattle.ic_hash_table.proofs.FoundMembers.{chain_of, finds_among, none_elsewhere, place_absent, place_elsewhere}

@@ -1,19 +1,12 @@
 -- These lemmas are about the members that a walk over a hash table has not returned yet, and about one step of the walk.
-use Rattle.std.proofs.Common.{◌≡◌, ℕ, suc, true, eq-eqb, cond, Bor, Option, None, Some, IsSome, List, [], ◌∷◌, ◌++◌, drop, refl, sym, ap, ◌∙◌, subst, append_assoc}
-use Rattle.std.specs.Option.{option_copied}
+use Rattle.std.proofs.Common.{◌≡◌, ℕ, suc, true, eq-eqb, cond, Bor, Option, None, Some, IsSome, List, [], ◌∷◌, ◌++◌, drop, refl, sym, ap, ◌∙◌, subst, append_assoc, option_copied}
 use Rattle.std.specs.List.{cons_option}
 use Rattle.std.specs.Iterator.{MakesProgress, item_count}
-use Rattle.ic_link_ops.specs.Prelude.{Place, Objects, object_at, Cut, join, but_last, IsDistinct, IsAfter, IsBefore, Table, IsCovered, ArePlaced, values_at}
-use Rattle.ic_link_ops.specs.SinglyLinkedList.{Successor, list_from}
-use Rattle.ic_link_ops.specs.Walk.{GivesFirst}
-use Rattle.ic_link_ops.proofs.Each.{all_back}
-use Rattle.ic_link_ops.proofs.PlacedEnds.{first_placed}
-use Rattle.ic_link_ops.proofs.SequenceLemmas.{absent_right, first_is, last_of_push, nothing_first, nothing_last}
+use Rattle.ic_link_ops.specs.Prelude.{Place, Objects, object_at, Cut, join, but_last, IsDistinct, IsAfter, IsBefore, Table, IsCovered, ArePlaced, values_at, Successor, list_from, GivesFirst}
+use Rattle.ic_link_ops.proofs.Prelude.{all_back, first_placed, absent_right, first_is, last_of_push, nothing_first, nothing_last, yields_placed, makes_progress}
 use Rattle.ic_link_ops.proofs.SinglyLists.{members_represented}
-use Rattle.ic_link_ops.proofs.Walks.{yields_placed, makes_progress}
 use Rattle.ic_hash_table.specs.declared.iter.Iter.{Iter}
-use Rattle.ic_hash_table.specs.Chains.{AreChained}
-use Rattle.ic_hash_table.specs.HashTable.{BelongsIn, Holds}
+use Rattle.ic_hash_table.specs.Prelude.{AreChained, BelongsIn, Holds}
 use Rattle.ic_hash_table.specs.Iter.{members_of, after, objects_left, CanWalk}
 use Rattle.ic_hash_table.proofs.FoundMembers.{not_place}
 use Rattle.ic_hash_table.proofs.NextMembers.{gap_after}

@@ -1,9 +1,7 @@
 -- A walk over a hash table removes each member that fails a test, and these lemmas are about one step of the walk and about its end.
 use Rattle.std.proofs.Common.{◌≡◌, ◌<◌, arith, ℕ, Bool, true, false, Option, None, Some, List, [], ◌∷◌, ◌++◌, drop, length, refl, sym, ap, ◌∙◌, subst, append_assoc, append-nil}
-use Rattle.ic_link_ops.specs.Prelude.{Place, Objects, first, IsAbsent, IsDistinct, Table, IsCovered, ChangesOnlyIn, LinkStep, releases, releases_each}
-use Rattle.ic_link_ops.specs.SinglyLinkedList.{Successor}
-use Rattle.ic_link_ops.proofs.SequenceLemmas.{absent_without, first_is, none_not, nothing_first, some_same}
-use Rattle.ic_link_ops.proofs.StepLemmas.{releases_append}
+use Rattle.ic_link_ops.specs.Prelude.{Place, Objects, first, IsAbsent, IsDistinct, Table, IsCovered, ChangesOnlyIn, LinkStep, releases, releases_each, Successor}
+use Rattle.ic_link_ops.proofs.Prelude.{absent_without, first_is, none_not, nothing_first, some_same, releases_append}
 use Rattle.ic_hash_table.specs.declared.table.HashTable.{HashTable}
 use Rattle.ic_hash_table.specs.HashTable.{BelongsIn, Holds}
 use Rattle.ic_hash_table.specs.Iter.{members_of, after}

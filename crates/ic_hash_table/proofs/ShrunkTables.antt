@@ -1,18 +1,12 @@
 -- These lemmas are about a hash table after its last chain was joined to the chain from which growth had split it.
-use Rattle.std.proofs.Common.{◌≡◌, ◌≢◌, ℕ, ◌<◌, Bool, Option, None, IsSome, List, [], ◌++◌, length, length-append, slice_index_or, slice_set, refl, sym, ap, ◌∙◌, subst, arith, append_assoc}
-use Rattle.std.proofs.lemmas.List.{get_or-set_other, length-set}
+use Rattle.std.proofs.Common.{◌≡◌, ◌≢◌, ℕ, ◌<◌, Bool, Option, None, IsSome, List, [], ◌++◌, length, length-append, slice_index_or, slice_set, refl, sym, ap, ◌∙◌, subst, arith, append_assoc, get_or-set_other, length-set}
 use Rattle.std.specs.List.{AllByRecursion}
-use Rattle.ic_link_ops.specs.Prelude.{Place, Objects, object_at, IsAbsent, IsDistinct, IsDisjoint, Table, ChangesOnlyIn}
-use Rattle.ic_link_ops.specs.SinglyLinkedList.{Successor}
-use Rattle.ic_link_ops.proofs.Each.{all_back, all_both, all_front, all_map}
-use Rattle.ic_link_ops.proofs.SequenceLemmas.{absent_both, absent_left, absent_right, distinct_disjoint, distinct_left, distinct_right, distinct_splice, disjoint_nothing}
+use Rattle.ic_link_ops.specs.Prelude.{Place, Objects, object_at, IsAbsent, IsDistinct, IsDisjoint, Table, ChangesOnlyIn, Successor}
+use Rattle.ic_link_ops.proofs.Prelude.{all_back, all_both, all_front, all_map, absent_both, absent_left, absent_right, distinct_disjoint, distinct_left, distinct_right, distinct_splice, disjoint_nothing}
 use Rattle.ic_hash_table.specs.declared.slots.Slots.{Slots}
 use Rattle.ic_hash_table.specs.declared.table.HashTable.{HashTable}
-use Rattle.ic_hash_table.specs.Slots.{split_of, IsWellFormed, IsSplit}
-use Rattle.ic_hash_table.specs.Chains.{AreChained, RepresentsFrom}
-use Rattle.ic_hash_table.specs.HashTable.{BelongsIn, Holds}
+use Rattle.ic_hash_table.specs.Prelude.{split_of, IsWellFormed, IsSplit, AreChained, RepresentsFrom, BelongsIn, Holds, AreSideBySide}
 use Rattle.ic_hash_table.specs.Growth.{HoldsSameMembers}
-use Rattle.ic_hash_table.specs.SideBySide.{AreSideBySide}
 use Rattle.ic_hash_table.proofs.Chains.{Between, chain_at}
 use Rattle.ic_hash_table.proofs.SideBySideSequences.{join_beside, front_beside, back_beside}
 use Rattle.ic_hash_table.proofs.SideBySideChains.{BelongTogether, in_others, middle_beside}

@@ -4,10 +4,7 @@ use Rattle.std.specs.List.{AllByRecursion}
 use Rattle.ic_link_ops.specs.Prelude.{Place, Objects, object_at, IsMember}
 use Rattle.ic_link_ops.proofs.Each.{all_both, all_map}
 use Rattle.ic_hash_table.specs.declared.slots.Slots.{Slots}
-use Rattle.ic_hash_table.specs.Slots.{slot_of}
-use Rattle.ic_hash_table.specs.HashTable.{BelongsIn}
-use Rattle.ic_hash_table.specs.Searches.{passes}
-use Rattle.ic_hash_table.specs.SideBySide.{AreSideBySide, same_key}
+use Rattle.ic_hash_table.specs.Prelude.{slot_of, BelongsIn, passes, AreSideBySide, same_key}
 use Rattle.ic_hash_table.proofs.ChainParts.{of_member}
 use Rattle.ic_hash_table.proofs.Chains.{Below, Above}
 use Rattle.ic_hash_table.proofs.SideBySideSequences.{join_beside}

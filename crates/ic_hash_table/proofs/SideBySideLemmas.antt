@@ -2,15 +2,13 @@
 use Rattle.std.proofs.Common.{◌≡◌, ◌≢◌, ℕ, drop, Bool, true, false, true≢false, Option, Some, None, IfSome, List, [], ◌∷◌, ◌++◌, refl, sym, ap, subst, ◌∙◌}
 use Rattle.std.specs.List.{AllByRecursion}
 use Rattle.std.specs.Cmp.{IsPartialEquivalence, IsEquivalence}
-use Rattle.ic_link_ops.specs.Prelude.{Place, Objects, object_at, IsMember, IsDistinct, first, Table}
+use Rattle.ic_link_ops.specs.Prelude.{Place, Objects, object_at, IsMember, IsDistinct, first, Table, Successor}
 use Rattle.ic_link_ops.proofs.SequenceLemmas.{absent_left, absent_right, nothing_first, first_is, split_member, some_same}
-use Rattle.ic_link_ops.specs.SinglyLinkedList.{Successor}
 use Rattle.ic_hash_table.specs.declared.table.HashTable.{HashTable}
 use Rattle.ic_hash_table.specs.HashTable.{BelongsIn, Holds, HoldsAt, DifferInNumber}
 use Rattle.ic_hash_table.specs.declared.slots.Slots.{Slots}
-use Rattle.ic_hash_table.specs.Slots.{slot_of}
+use Rattle.ic_hash_table.specs.Prelude.{slot_of, AreSideBySide, HoldsSideBySide, same_key}
 use Rattle.ic_hash_table.specs.Searches.{passes, has_key, Finds, StopsAt}
-use Rattle.ic_hash_table.specs.SideBySide.{AreSideBySide, HoldsSideBySide, same_key}
 use Rattle.ic_hash_table.proofs.ChainParts.{of_member}
 use Rattle.ic_hash_table.proofs.SideBySideSequences.{put_beside, spans}
 use Rattle.ic_hash_table.proofs.HeldTables.{one_cut}

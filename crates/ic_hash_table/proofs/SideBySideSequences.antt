@@ -3,8 +3,7 @@
 use Rattle.std.proofs.Common.{◌≡◌, ◌≢◌, Bool, true, Option, Some, None, IfSome, List, [], ◌∷◌, ◌++◌, refl, sym, subst, ◌∙◌, inl, inr}
 use Rattle.std.specs.Cmp.{IsPartialEquivalence}
 use Rattle.ic_link_ops.specs.Prelude.{Place, IsAbsent, IsMember, first}
-use Rattle.ic_unsafe_ref.proofs.PlaceLemmas.{same_or_not}
-use Rattle.ic_link_ops.proofs.SequenceLemmas.{absent_left, absent_right, absent_both, absent_without}
+use Rattle.ic_link_ops.proofs.Prelude.{same_or_not, absent_left, absent_right, absent_both, absent_without}
 use Rattle.ic_hash_table.specs.SideBySide.{AreSideBySide}
 
 -- a sequence with at least one member has the same first member, whatever comes after it

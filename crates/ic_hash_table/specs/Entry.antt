@@ -1,8 +1,7 @@
 -- An entry is the result of a search for a key: the first member with the key, or the chain where an object with the key belongs.
 use Rattle.std.specs.Prelude.{◌≡◌, ℕ, ◌<◌, ⊤, Option, Result, IfOk, IfErr, List, [], ◌∷◌, ◌++◌}
 use Rattle.std.specs.Borrow.{MutBor}
-use Rattle.ic_link_ops.specs.Prelude.{Place, Objects, last, Table, LinkStep, acquires}
-use Rattle.ic_link_ops.specs.SinglyLinkedList.{Successor}
+use Rattle.ic_link_ops.specs.Prelude.{Place, Objects, last, Table, LinkStep, acquires, Successor}
 use Rattle.ic_hash_table.specs.declared.entry.Entry.{Entry}
 use Rattle.ic_hash_table.specs.declared.entry.Entry.TheVariants.{Occupied, Vacant}
 use Rattle.ic_hash_table.specs.declared.entry.OccupiedEntry.{OccupiedEntry}

@@ -1,7 +1,6 @@
 -- A walk returns the objects of a hash table one by one, and these definitions say which ones are left.
 use Rattle.std.specs.Prelude.{ℕ, nat_eq, cond, Option, None, Some, List, [], ◌∷◌, ◌++◌}
-use Rattle.ic_link_ops.specs.Prelude.{Place, Objects, Cut, join, IsAfter, Table, values_at}
-use Rattle.ic_link_ops.specs.SinglyLinkedList.{Successor, members_from}
+use Rattle.ic_link_ops.specs.Prelude.{Place, Objects, Cut, join, IsAfter, Table, values_at, Successor, members_from}
 use Rattle.ic_hash_table.specs.HashTable.{Holds}
 use Rattle.ic_hash_table.specs.declared.iter.Iter.{Iter}
 

@@ -11,3 +11,4 @@ pub mod Iter
 pub mod Retained
 pub mod SideBySide
 pub mod StdHash
+pub mod Prelude

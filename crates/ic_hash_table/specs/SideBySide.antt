@@ -1,7 +1,6 @@
 -- These definitions say that members of a hash table with equal keys are side by side.
 use Rattle.std.specs.Prelude.{◌≡◌, ℕ, Bool, true, Option, IfSome, List, [], ◌∷◌, ⊤}
-use Rattle.ic_link_ops.specs.Prelude.{Place, Objects, IsMember, first, Table}
-use Rattle.ic_link_ops.specs.SinglyLinkedList.{Successor}
+use Rattle.ic_link_ops.specs.Prelude.{Place, Objects, IsMember, first, Table, Successor}
 use Rattle.ic_hash_table.specs.declared.table.HashTable.{HashTable}
 use Rattle.ic_hash_table.specs.HashTable.{Holds}
 use Rattle.ic_hash_table.specs.Searches.{matches, has_key}

@@ -5,8 +5,7 @@
 //! ```
 
 ghost use Rattle.std.specs.Prelude.{◌≡◌, List, Option, map, ⊤};
-ghost use Rattle.ic_link_ops.specs.Prelude.{Place, place_at, word_of, IsNameable};
-ghost use Rattle.ic_link_ops.specs.Widths.{HasRoom, narrow};
+ghost use Rattle.ic_link_ops.specs.Prelude.{Place, place_at, word_of, IsNameable, HasRoom, narrow};
 
 use ic_link_ops::{LinkOps, NarrowPlaceWord, PlaceWord};
 use ic_unsafe_ref::Place;

@@ -8,8 +8,7 @@
 //! ```
 
 ghost use Rattle.std.specs.Prelude.{◌≡◌, List, Option, Some, ⊤};
-ghost use Rattle.ic_link_ops.specs.Prelude.{Place, values_at};
-ghost use Rattle.ic_link_ops.specs.Walk.{GivesFirst};
+ghost use Rattle.ic_link_ops.specs.Prelude.{Place, values_at, GivesFirst};
 ghost use Rattle.ic_hash_table.specs.HashTable.{number, Holds, HoldsSome};
 
 use crate::{BucketRow, HashAdapter, HashTable};

@@ -1,8 +1,7 @@
 //! Buckets can have 4 bytes each if the words of the links have 4 bytes.
 
 ghost use Rattle.std.specs.Prelude.{◌≡◌};
-ghost use Rattle.ic_unsafe_ref.specs.declared.place.Place.{Place};
-ghost use Rattle.ic_link_ops.specs.Widths.{HasRoom, narrow};
+ghost use Rattle.ic_link_ops.specs.Prelude.{Place, HasRoom, narrow};
 
 use crate::bucket_word::BucketWordFor;
 use ic_link_ops::{

@@ -12,7 +12,7 @@ ghost use Rattle.ic_pool.specs.Refusals.{value_of};
 ghost use Rattle.ic_container.specs.Orders.{IsWhole};
 ghost use Rattle.ic_container.specs.Trees.{IsFound};
 ghost use Rattle.ic_container.specs.Values.{first_value, last_value, Without};
-ghost use Rattle.ic_indexed.specs.Indexed.{order_in, values_of};
+ghost use Rattle.ic_indexed.specs.Indexed.{IsEmptyIndexed, order_in, values_of};
 
 use crate::place::place;
 use crate::replace_keyed::replace_keyed;
@@ -62,9 +62,7 @@ impl<T: HasKey, A: Allocator> Indexed<T, RBTree<ByKey<T>>, A> {
     pub fn new(alloc: A) -> TreeIndexed<T, A>
     where
         A: Copy,
-        ensures empty { values_of result ≡ [] }
-        ensures vacant { (place : Place) → object_at result.values place ≡ None }
-        ensures parts { result.parts ≡ 1 }
+        ensures { IsEmptyIndexed 1 result }
     {
         Indexed::by_tree(alloc)
     }
@@ -76,9 +74,7 @@ impl<T: HasKey, W: NodeWords, O: PrevPlace, A: Allocator> Indexed<T, RBTree<ByKe
     pub fn by_tree(alloc: A) -> Indexed<T, RBTree<ByKey<T, W, O>>, A>
     where
         A: Copy,
-        ensures empty { values_of result ≡ [] }
-        ensures vacant { (place : Place) → object_at result.values place ≡ None }
-        ensures parts { result.parts ≡ 1 }
+        ensures { IsEmptyIndexed 1 result }
     {
         let links = (PlainTable::new(alloc), PlainTable::new(alloc));
         Indexed {
@@ -98,9 +94,7 @@ impl<T: HasKey, I: Index<T, A>, A: Allocator> Indexed<T, I, A> {
     where
         A: Copy,
         requires new { I.IsNew index }
-        ensures empty { values_of result ≡ [] }
-        ensures vacant { (place : Place) → object_at result.values place ≡ None }
-        ensures parts { result.parts ≡ I.parts index }
+        ensures { IsEmptyIndexed (I.parts index) result }
     {
         let links = (index.new_links(alloc), PlainTable::new(alloc));
         Indexed {

@@ -1,9 +1,8 @@
 //! A tree is an index, which finds objects by their keys.
 
 ghost use Rattle.std.specs.Prelude.{◌≡◌, None, length};
-ghost use Rattle.ic_rbtree.specs.Tree.{root_of};
+ghost use Rattle.ic_rbtree.specs.Prelude.{root_of, node_by};
 ghost use Rattle.ic_link_ops.specs.PlainTables.{linked_by, table};
-ghost use Rattle.ic_rbtree.specs.PlainTrees.{node_by};
 ghost use Rattle.ic_container.specs.Trees.{HasAllIn};
 ghost use Rattle.ic_container.specs.TreeLaws.{all_grown, all_alike};
 ghost use Rattle.ic_indexed.specs.Indexed.{WithinComparisonBound};
@@ -33,7 +32,7 @@ impl<T: HasKey, W: NodeWords, O: PrevPlace, A: Allocator> Index<T, A> for RBTree
 
     fn find_key(
         &self,
-        links: &PlainTable<W, A>,
+        links: &Self::Links,
         objects: &Objects<T, A>,
         key: u64,
     ) -> (Option<Place>, u64) {
@@ -42,21 +41,11 @@ impl<T: HasKey, W: NodeWords, O: PrevPlace, A: Allocator> Index<T, A> for RBTree
         (place, probe.looks())
     }
 
-    fn insert_place(
-        &mut self,
-        links: &mut PlainTable<W, A>,
-        objects: &Objects<T, A>,
-        place: Place,
-    ) {
+    fn insert_place(&mut self, links: &mut Self::Links, objects: &Objects<T, A>, place: Place) {
         let _ = self.insert(links, objects, UnsafeRef::new(place)); // proved: it is not linked
     }
 
-    fn remove_place(
-        &mut self,
-        links: &mut PlainTable<W, A>,
-        objects: &Objects<T, A>,
-        place: Place,
-    ) {
+    fn remove_place(&mut self, links: &mut Self::Links, objects: &Objects<T, A>, place: Place) {
         let _ = objects;
         self.remove(links, &UnsafeRef::new(place));
     }

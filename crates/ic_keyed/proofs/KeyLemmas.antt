@@ -7,9 +7,8 @@ use Rattle.std.proofs.lemmas.List.Elements.{filter-append}
 use Rattle.std.proofs.lemmas.List.Folds.{find-append}
 use Rattle.std.specs.Option.{option_or}
 use Rattle.ic_link_ops.specs.Prelude.{Place, Objects, object_there}
-use Rattle.ic_link_ops.proofs.Each.{all_back, all_both, all_front, all_map, all_without}
+use Rattle.ic_link_ops.proofs.Prelude.{all_back, all_both, all_front, all_map, all_without, none_not}
 use Rattle.ic_link_ops.proofs.PlacedValues.{from_each}
-use Rattle.ic_link_ops.proofs.SequenceLemmas.{none_not}
 use Rattle.ic_rbtree.proofs.KeyLaws.{filter_front, filter_pass}
 use Rattle.ic_container.specs.Orders.{IsWhole}
 use Rattle.ic_container.specs.Trees.{IsFound}

@@ -4,8 +4,7 @@ use Rattle.std.specs.Borrow.{Fml, RattleType, MutBor, follows_so}
 use Rattle.std.specs.declared.alloc.Allocator.{Ghosts}
 use Rattle.ic_indexed.specs.declared.has_key.HasKey.{Ghosts as KeyGhosts}
 use Rattle.ic_indexed.specs.declared.index.Index.{Ghosts as IndexGhosts}
-use Rattle.ic_unsafe_ref.specs.declared.place.Place.{Place}
-use Rattle.ic_link_ops.specs.Widths.{Width}
+use Rattle.ic_link_ops.specs.Prelude.{Place, Width}
 use Rattle.ic_pool.specs.declared.tables.Tables.{Ghosts as TableGhosts}
 use mathlib.Core.Option.{none}
 use Rattle.ic_keyed.specs.Keyed.{KeyedValues, with_values}

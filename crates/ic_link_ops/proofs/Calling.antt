@@ -5,7 +5,7 @@ use Rattle.std.proofs.lemmas.Iterator.Consumers.{YieldsList-from_shown, YieldsLi
 use Rattle.std.specs.declared.iter.Copied.{Copied}
 use Rattle.std.specs.Iterator.Adapters.{copied_source}
 use Rattle.std.proofs.iter.Yields.{copies}
-use Rattle.ic_link_ops.specs.Prelude.{Place, index_of, IsMember, Extent, Table, IsCovered, IsLinked, CursorState, IsValidCursor, HasMember, LinkStep, releases, TraceIs}
+use Rattle.ic_link_ops.specs.Base.{Place, index_of, IsMember, Extent, Table, IsCovered, IsLinked, CursorState, IsValidCursor, HasMember, LinkStep, releases, TraceIs}
 use Rattle.ic_link_ops.specs.EditsAt.{RemovesThere}
 use Rattle.ic_link_ops.proofs.Positions.{gap_there}
 use Rattle.ic_link_ops.proofs.SequenceLemmas.{member_split}

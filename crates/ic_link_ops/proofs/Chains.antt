@@ -1,7 +1,7 @@
 -- This file proves facts about chains. A chain can be cut, and chains can be joined. The neighbors at the ends of a chain can be
 -- changed. A chain stays if the entries of its members stay.
 use Rattle.std.proofs.Common.{◌≡◌, ◌≢◌, Option, Some, None, List, [], ◌∷◌, ◌++◌, reverse, Bool, true, false, refl, sym, ap}
-use Rattle.ic_link_ops.specs.Prelude.{Place, IsAbsent, IsDistinct, IsDisjoint, first_or, last_or, first, last, but_last}
+use Rattle.ic_link_ops.specs.Base.{Place, IsAbsent, IsDistinct, IsDisjoint, first_or, last_or, first, last, but_last}
 use Rattle.ic_link_ops.specs.Chains.{IsChain}
 use Rattle.ic_link_ops.specs.Turns.{TurnsAfter, TurnsBefore}
 use Rattle.ic_link_ops.proofs.SequenceLemmas.{IsOutside, first_or-append, absent_left, absent_right, distinct_disjoint, distinct_left, distinct_right, distinct_middle, distinct_remove, last_outside, first_outside, last_not, none_not, some_same, disjoint_left, disjoint_right, disjoint_sym, reverse_cons, last_of_reverse}

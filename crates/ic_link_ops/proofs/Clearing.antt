@@ -1,7 +1,7 @@
 -- This file is about a walk that unlinks the members of a list one after the other, from the front. The facts in this file hold
 -- for every kind of list.
 use Rattle.std.proofs.Common.{◌≡◌, ◌≢◌, ◌<◌, Option, Some, None, List, [], ◌∷◌, ◌++◌, drop, length, refl, sym, ◌∙◌, ap, subst, arith, append_assoc, append-nil}
-use Rattle.ic_link_ops.specs.Prelude.{Place, IsAbsent, IsDistinct, first, last, Table, IsCovered}
+use Rattle.ic_link_ops.specs.Base.{Place, IsAbsent, IsDistinct, first, last, Table, IsCovered}
 use Rattle.ic_link_ops.specs.Chains.{IsChain}
 use Rattle.ic_link_ops.specs.Walk.{walked}
 use Rattle.ic_link_ops.proofs.SequenceLemmas.{absent_right, distinct_middle, distinct_right, last_or-append, none_not, first_is}

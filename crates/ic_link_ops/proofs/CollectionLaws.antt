@@ -1,6 +1,6 @@
 -- This file proves what follows, for collections of every kind, from five facts that each kind proves.
 use Rattle.std.proofs.Common.{◌≡◌, Bool, Option, List, [], append-nil}
-use Rattle.ic_link_ops.specs.Prelude.{Place, Cut, join, at_back, IsAbsent, IsDistinct, IsAfter, IsDisjoint, Table, ChangesOnlyIn, IsUnlinked}
+use Rattle.ic_link_ops.specs.Base.{Place, Cut, join, at_back, IsAbsent, IsDistinct, IsAfter, IsDisjoint, Table, ChangesOnlyIn, IsUnlinked}
 use Rattle.ic_link_ops.specs.Edits.{Splices, Splits}
 use Rattle.ic_link_ops.proofs.Covering.{frames_join}
 use Rattle.ic_link_ops.proofs.SequenceLemmas.{disjoint_nothing, disjoint_sym, distinct_disjoint}

@@ -1,6 +1,5 @@
 -- This file counts the numbers below a bound that pass a test.
-use Rattle.std.proofs.Common.{◌≡◌, ◌≢◌, ℕ, zero, suc, ◌+◌, ◌<◌, ◌≤◌, Bool, true, false, arith, refl, ap, sym, ◌∙◌, inl, inr}
-use Rattle.std.proofs.Math.Nat.{eq-or-lt_of_le}
+use Rattle.std.proofs.Common.{◌≡◌, ◌≢◌, ℕ, zero, suc, ◌+◌, ◌<◌, ◌≤◌, Bool, true, false, arith, refl, ap, sym, ◌∙◌, inl, inr, eq-or-lt_of_le}
 use Rattle.ic_link_ops.specs.TreeWords.{one_if}
 
 -- `count f n` is the number of numbers below n that pass the test f.

@@ -1,7 +1,7 @@
 -- A frame says which entries an edit may change. This file proves that an edit keeps the covered places, and that two frames can
 -- be joined.
 use Rattle.std.proofs.Common.{◌∙◌, List}
-use Rattle.ic_link_ops.specs.Prelude.{Place, IsAbsent, Table, IsCovered, ChangesOnlyIn}
+use Rattle.ic_link_ops.specs.Base.{Place, IsAbsent, Table, IsCovered, ChangesOnlyIn}
 
 -- A covered place is still covered after an edit, whichever entries the edit changed.
 pub still_covered : {E : Type 0} {old new : Table E} {touched : List Place} (p : Place) → ChangesOnlyIn old new touched → IsCovered old p → IsCovered new p

@@ -1,6 +1,6 @@
 -- This file proves facts about doubly linked lists: about their setters, their entries, and their walks.
 use Rattle.std.proofs.Common.{◌≡◌, ◌≢◌, ◌≤◌, Option, Some, None, List, [], ◌∷◌, ◌++◌, length, Bool, true, refl, sym, ◌∙◌, ap}
-use Rattle.ic_link_ops.specs.Prelude.{Place, index_of, first, IsDistinct, Table, IsCovered, IsLinked, ChangesOnly}
+use Rattle.ic_link_ops.specs.Base.{Place, index_of, first, IsDistinct, Table, IsCovered, IsLinked, ChangesOnly}
 use Rattle.ic_link_ops.specs.Chains.{Ends, no_members}
 use Rattle.ic_link_ops.specs.Turns.{TurnsAfter, TurnsBefore}
 use Rattle.ic_link_ops.specs.LinkedList.{Neighbors, neighbors_at, IsBetween, Represents, next_of, members_between, members, IsWalk}

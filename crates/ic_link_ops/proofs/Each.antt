@@ -1,7 +1,7 @@
 -- A statement that is true for each element of a list is true for each element of a part of the list.
 use Rattle.std.proofs.Common.{List, [], ◌∷◌, ◌++◌, refl}
 use Rattle.std.specs.List.{AllByRecursion}
-use Rattle.ic_link_ops.specs.Prelude.{Place, IsMember}
+use Rattle.ic_link_ops.specs.Base.{Place, IsMember}
 
 module _ {X : Type 0} (P : X → Type 0) where
   pub all_front : (s t : List X) → AllByRecursion P (s ++ t) → AllByRecursion P s

@@ -1,7 +1,7 @@
 -- A walk can remove members on its way. This file describes which members a walk has passed, which members it has removed, and
 -- which members it has not reached. The facts in this file hold for every kind of collection.
 use Rattle.std.proofs.Common.{◌≡◌, ◌∙◌, sym, refl, Option, Some, List, [], ◌∷◌, ◌++◌, append_assoc}
-use Rattle.ic_link_ops.specs.Prelude.{Place, Cut, first, IsAbsent, Table, ChangesOnlyIn, CursorState, site, MovesOn, LinkStep, releases_each}
+use Rattle.ic_link_ops.specs.Base.{Place, Cut, first, IsAbsent, Table, ChangesOnlyIn, CursorState, site, MovesOn, LinkStep, releases_each}
 use Rattle.ic_link_ops.specs.EditsAt.{RemovesThere}
 use Rattle.ic_link_ops.proofs.Covering.{frames_join}
 use Rattle.ic_link_ops.proofs.SequenceLemmas.{absent_without, last_of_push}

@@ -3,7 +3,7 @@ use Rattle.std.proofs.Common.{◌≡◌, ◌≢◌, ℕ, ◌∷◌, ◌<◌, Lis
 use Rattle.std.proofs.lemmas.List.{get_or-set_other, get_or_default, length-set}
 use Rattle.std.proofs.Math.Seq.{map-set_same}
 use Rattle.std.proofs.lemmas.Grind.{get_or-set_at}
-use Rattle.ic_link_ops.specs.Prelude.{Place, index_of, place_at, word_of, ChangesOnly, LinksAlso}
+use Rattle.ic_link_ops.specs.Base.{Place, index_of, place_at, word_of, ChangesOnly, LinksAlso}
 use Rattle.ic_unsafe_ref.proofs.PlaceLemmas.{same_index, place_at_word}
 use Rattle.ic_link_ops.specs.PlainTables.{entry_at, table_with, values_beside, linked_by}
 use Rattle.ic_link_ops.specs.Links.{link_of, words_of, value_of}

@@ -6,6 +6,7 @@ pub mod RepresentedLists
 pub mod Covering
 pub mod Naming
 pub mod WidthLemmas
+pub mod WordLemmas
 pub mod CollectionLaws
 pub mod Positions
 pub mod TwoLists
@@ -36,3 +37,4 @@ pub mod PlacedEnds
 pub mod PlacedValues
 pub mod TwoFields
 pub mod NumberedCollections
+pub mod Prelude

@@ -1,6 +1,6 @@
 -- This file proves which places are linked after two edits.
 use Rattle.std.proofs.Common.{◌≡◌, ◌≢◌, Some, Bool, true, false, refl, sym, ◌∙◌, ap, subst}
-use Rattle.ic_link_ops.specs.Prelude.{Place, Table, LinksAlso, Unlinks, KeepsLinked}
+use Rattle.ic_link_ops.specs.Base.{Place, Table, LinksAlso, Unlinks, KeepsLinked}
 use Rattle.ic_link_ops.specs.Walk.{is_end}
 use Rattle.ic_link_ops.proofs.SequenceLemmas.{some_same}
 use Rattle.ic_link_ops.proofs.Walks.{is_end_yes, is_end_no}

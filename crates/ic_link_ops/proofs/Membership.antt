@@ -2,7 +2,7 @@
 -- every kind of list.
 use Rattle.std.proofs.Common.{◌≡◌, ◌≢◌, ◌↔◌, Option, Some, None, List, [], ◌∷◌, ◌++◌, drop, true, false, IsTrue, nat_eq, refl, sym, ◌∙◌, ap, subst, eqb-true}
 use Rattle.std.proofs.lemmas.Bool.{eqb-false}
-use Rattle.ic_link_ops.specs.Prelude.{Place, IsAbsent, IsMember, IsDistinct, first, last, Table, IsCovered}
+use Rattle.ic_link_ops.specs.Base.{Place, IsAbsent, IsMember, IsDistinct, first, last, Table, IsCovered}
 use Rattle.ic_unsafe_ref.proofs.PlaceLemmas.{same_index, word_tells}
 use Rattle.ic_link_ops.specs.Chains.{IsChain}
 use Rattle.ic_link_ops.specs.Walk.{walked}

@@ -3,7 +3,7 @@
 use Rattle.std.proofs.Common.{◌≡◌, ◌≢◌, ℕ, Bool, Option, Some, None, IsSome, List, [], ◌∷◌, ◌++◌, drop, inl, inr, refl, sym, ap, ◌∙◌, subst, true≢false}
 use Rattle.std.proofs.lemmas.Bool.Decides.{eqb_tells}
 use Rattle.std.specs.List.{AllByRecursion, cons_option}
-use Rattle.ic_link_ops.specs.Prelude.{Place, Objects, Frees, object_at, IsAbsent, IsDisjoint, first, Table, IsUnlinked, ChangesOnlyIn, LinksAlso, Unlinks, ArePlaced, StandAt, values_at}
+use Rattle.ic_link_ops.specs.Base.{Place, Objects, Frees, object_at, IsAbsent, IsDisjoint, first, Table, IsUnlinked, ChangesOnlyIn, LinksAlso, Unlinks, ArePlaced, StandAt, values_at}
 use Rattle.ic_unsafe_ref.proofs.Placing.{others_left}
 use Rattle.ic_link_ops.specs.NumberedCollections.{with_at, IsNumbered, HasNumbered}
 use Rattle.ic_link_ops.proofs.CollectionLaws.{IsKind, kept_represented, others_stay}

@@ -1,7 +1,7 @@
 -- If each member of a sequence has an object, the first and the last member have objects as well.
 use Rattle.std.proofs.Common.{◌≡◌, true, Some, List, [], ◌∷◌, ◌++◌, sym, subst}
 use Rattle.std.specs.List.{AllByRecursion}
-use Rattle.ic_link_ops.specs.Prelude.{Place, Objects, is_placed, first, last, but_last, ArePlaced}
+use Rattle.ic_link_ops.specs.Base.{Place, Objects, is_placed, first, last, but_last, ArePlaced}
 use Rattle.ic_link_ops.proofs.SequenceLemmas.{first_is, split_last}
 
 -- If a statement holds for each member of w followed by p, it holds for each member of w, and it holds for p.

@@ -3,7 +3,7 @@
 use Rattle.std.proofs.Common.{◌≡◌, ◌≢◌, ◌⊎◌, inl, inr, Option, Some, None, IsSome, is_some, List, [], ◌∷◌, ◌++◌, drop, length, ◌≤◌, arith, refl, sym, ap, ◌∙◌, subst, true≢false, append-nil}
 use Rattle.std.proofs.lemmas.List.Elements.{filter_map-append}
 use Rattle.std.specs.List.{AllByRecursion, cons_option}
-use Rattle.ic_link_ops.specs.Prelude.{Place, Objects, Places, object_at, IsAbsent, IsDistinct, first, ArePlaced, StandAt, values_at}
+use Rattle.ic_link_ops.specs.Base.{Place, Objects, Places, object_at, IsAbsent, IsDistinct, first, ArePlaced, StandAt, values_at}
 use Rattle.ic_unsafe_ref.proofs.Placing.{placed_there, others_placed}
 use Rattle.ic_link_ops.proofs.SequenceLemmas.{first_is}
 use Rattle.ic_link_ops.proofs.Walks.{few_places}

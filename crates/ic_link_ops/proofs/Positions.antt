@@ -1,6 +1,6 @@
 -- This file proves which gaps are beside a position in a collection, and that a position is valid after a call.
 use Rattle.std.proofs.Common.{◌≡◌, ◌∙◌, sym, Result, Ok, Err, OnOk, OnErr, IfErr, Option, Some, None, List, [], ◌∷◌, ◌++◌, drop, append-nil, append_assoc}
-use Rattle.ic_link_ops.specs.Prelude.{Place, Cut, join, splice, at_front, at_back, first, last, IsAfter, IsBefore, Table, CursorState, RepresentsAt, IsValidCursor, MovesOn, MovesBack, HasMember, IsSecondAfter, LinkStep, acquires}
+use Rattle.ic_link_ops.specs.Base.{Place, Cut, join, splice, at_front, at_back, first, last, IsAfter, IsBefore, Table, CursorState, RepresentsAt, IsValidCursor, MovesOn, MovesBack, HasMember, IsSecondAfter, LinkStep, acquires}
 use Rattle.ic_link_ops.specs.declared.errors.AlreadyLinked.{AlreadyLinked}
 use Rattle.ic_link_ops.specs.Edits.{Inserts, Removes, Replaces, Splits}
 use Rattle.ic_link_ops.specs.EditsAt.{InsertsBeside}

@@ -1,7 +1,7 @@
 -- This file proves facts about the sequences that a table represents for lists of any kind: after an edit, at a gap, and if the
 -- entries of the members stay.
 use Rattle.std.proofs.Common.{◌≡◌, ◌≢◌, Option, Some, None, List, [], ◌∷◌, ◌++◌, reverse, Bool, true, false, refl, sym, ap, ◌∙◌, append-nil, append_assoc, drop}
-use Rattle.ic_link_ops.specs.Prelude.{Place, IsAbsent, IsDisjoint, first, last, but_last, Table}
+use Rattle.ic_link_ops.specs.Base.{Place, IsAbsent, IsDisjoint, first, last, but_last, Table}
 use Rattle.ic_link_ops.specs.Chains.{Ends, ListHead, end_of, TurnsTail, RepresentsChain, RepresentsBetween}
 use Rattle.ic_link_ops.specs.Turns.{TurnsAfter, TurnsBefore}
 use Rattle.ic_link_ops.proofs.SequenceLemmas.{distinct_left, distinct_right, distinct_insert, distinct_remove, distinct_replace, distinct_splice, distinct_reverse, last_not, first_not, none_not, some_same, new_head, new_tail, first_of_reverse, last_of_reverse}

@@ -2,7 +2,7 @@
 -- of other places change. A table represents at most one sequence for a tree.
 use Rattle.std.proofs.Common.{◌≡◌, ◌≢◌, ◌≤◌, arith, Bool, true, false, Option, Some, None, List, [], ◌∷◌, length, refl, sym, ap, ◌∙◌}
 use Rattle.std.proofs.lemmas.Bool.{true_from_ne_false}
-use Rattle.ic_link_ops.specs.Prelude.{Place, IsAbsent, IsDisjoint, Table, IsCovered, ChangesOnlyIn}
+use Rattle.ic_link_ops.specs.Base.{Place, IsAbsent, IsDisjoint, Table, IsCovered, ChangesOnlyIn}
 use Rattle.ic_link_ops.specs.declared.color.Color.{Color}
 use Rattle.ic_link_ops.specs.Trees.{Tree, leaf, fork, top, in_order}
 use Rattle.ic_link_ops.specs.RedBlackTree.{Node, IsAt, Holds, Represents}

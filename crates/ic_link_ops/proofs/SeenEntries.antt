@@ -1,9 +1,8 @@
 -- This file proves what the entries of a table are after a write, if the words of the table can perhaps name only some of the
 -- places.
-use Rattle.std.proofs.Common.{◌≡◌, ◌≢◌, ℕ, ◌∷◌, ◌<◌, List, length, Bool, true, false, slice_set, slice_index_or, sym, ap, ◌∙◌}
-use Rattle.std.proofs.lemmas.List.{length-set}
+use Rattle.std.proofs.Common.{◌≡◌, ◌≢◌, ℕ, ◌∷◌, ◌<◌, List, length, Bool, true, false, slice_set, slice_index_or, sym, ap, ◌∙◌, length-set}
 use Rattle.std.proofs.Math.Seq.{map-set_same}
-use Rattle.ic_link_ops.specs.Prelude.{Place, index_of, ChangesOnly, LinksAlso}
+use Rattle.ic_link_ops.specs.Base.{Place, index_of, ChangesOnly, LinksAlso}
 use Rattle.ic_link_ops.specs.PlainTables.{entry_at, table_with, nameable_table, values_beside, linked_by}
 use Rattle.ic_link_ops.specs.Widths.{Width, nameable}
 use Rattle.ic_link_ops.specs.Links.{value_of}

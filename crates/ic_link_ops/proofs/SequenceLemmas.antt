@@ -1,7 +1,7 @@
 -- This file proves facts about sequences of places: about their ends, and about sequences that are cut, joined or edited.
 use Rattle.std.proofs.Common.{◌≡◌, ◌≢◌, ◌<◌, Option, Some, None, List, [], ◌∷◌, ◌++◌, drop, length, reverse, refl, sym, ◌∙◌, ap, subst, arith, append_assoc, append-nil, inl, inr}
 use Rattle.std.proofs.lemmas.List.{reverse-append}
-use Rattle.ic_link_ops.specs.Prelude.{Place, Cut, join, at_front, at_back, first, last, but_last, IsAfter, IsBefore, IsAbsent, IsMember, IsDistinct, IsDisjoint, first_or, last_or}
+use Rattle.ic_link_ops.specs.Base.{Place, Cut, join, at_front, at_back, first, last, but_last, IsAfter, IsBefore, IsAbsent, IsMember, IsDistinct, IsDisjoint, first_or, last_or}
 use Rattle.ic_unsafe_ref.proofs.PlaceLemmas.{same_or_not}
 use Rattle.ic_link_ops.specs.Chains.{end_of}
 

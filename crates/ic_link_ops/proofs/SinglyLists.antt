@@ -1,6 +1,6 @@
 -- This file proves facts about singly linked lists: about their setter, their entries, and their walks.
 use Rattle.std.proofs.Common.{◌≡◌, ◌≤◌, Option, Some, None, List, [], ◌∷◌, length, Bool, true, refl, sym, ◌∙◌, ap}
-use Rattle.ic_link_ops.specs.Prelude.{Place, IsDistinct, Table, IsCovered, IsLinked, ChangesOnly}
+use Rattle.ic_link_ops.specs.Base.{Place, IsDistinct, Table, IsCovered, IsLinked, ChangesOnly}
 use Rattle.ic_link_ops.specs.Turns.{TurnsAfter, TurnsBefore}
 use Rattle.ic_link_ops.specs.SinglyLinkedList.{Front, list_from, Successor, successor_at, IsFollowed, Represents, next_of, members_from, members, IsWalk}
 use Rattle.ic_link_ops.proofs.Turning.{turns_after}

@@ -1,6 +1,6 @@
 -- This file proves which places are linked after the steps of a table.
 use Rattle.std.proofs.Common.{◌≡◌, List, [], ◌∷◌, ◌++◌, Bool, refl, ◌∙◌, ap}
-use Rattle.ic_link_ops.specs.Prelude.{Place, IsAbsent, Table, ChangesOnly, IsLinked, IsUnlinked, LinksAlso, Unlinks, releases, releases_each, TraceIs}
+use Rattle.ic_link_ops.specs.Base.{Place, IsAbsent, Table, ChangesOnly, IsLinked, IsUnlinked, LinksAlso, Unlinks, releases, releases_each, TraceIs}
 use Rattle.ic_link_ops.proofs.LinkedSets.{everywhere}
 
 module _ {E : Type 0} {linked : E → Bool} {a b : Table E} {p : Place} where

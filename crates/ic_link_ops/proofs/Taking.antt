@@ -2,7 +2,7 @@
 -- sequence.
 use Rattle.std.proofs.Common.{◌≡◌, ◌<◌, Bool, Option, Some, None, List, [], ◌++◌, reverse, drop, length, sym, ap, arith}
 use Rattle.std.specs.Iterator.{MakesProgress, item_count}
-use Rattle.ic_link_ops.specs.Prelude.{Place, but_last, Table, LinkStep}
+use Rattle.ic_link_ops.specs.Base.{Place, but_last, Table, LinkStep}
 use Rattle.ic_link_ops.specs.Taking.{Taking, Leaves, TakesFirst, TakesLast}
 use Rattle.ic_link_ops.specs.BothEnds.{Item, Leads, from_front, from_back}
 use Rattle.ic_link_ops.proofs.BothEnds.{both_ends}

@@ -1,7 +1,7 @@
 -- This file proves facts about how often a place occurs in a sequence, in a tree, and around a subtree. Places are distinct if
 -- none of them occurs more than once.
 use Rattle.std.proofs.Common.{◌≡◌, ◌≢◌, ◌+◌, ◌≤◌, List, [], ◌∷◌, ◌++◌, refl, arith, inl, inr, eq-eqb, ne_eqb}
-use Rattle.ic_link_ops.specs.Prelude.{Place, index_of, IsAbsent, IsDistinct}
+use Rattle.ic_link_ops.specs.Base.{Place, index_of, IsAbsent, IsDistinct}
 use Rattle.ic_unsafe_ref.proofs.PlaceLemmas.{same_index, same_or_not}
 use Rattle.ic_link_ops.specs.declared.color.Color.{Color}
 use Rattle.ic_link_ops.specs.declared.side.Side.{Side}

@@ -1,6 +1,6 @@
 -- This file proves what the third word of a tree's link says after its parts are set.
 use Rattle.std.proofs.Common.{◌≡◌, ℕ, zero, suc, ◌+◌, ◌*◌, ◌/◌, ◌%◌, ◌<◌, Option, None, cond, nat_eq, true, false, arith, refl, ap, ◌∙◌}
-use Rattle.ic_link_ops.specs.Prelude.{Place, place_at, word_of}
+use Rattle.ic_link_ops.specs.Base.{Place, place_at, word_of}
 use Rattle.ic_unsafe_ref.proofs.PlaceLemmas.{place_at_word, word_at, word_fits}
 use Rattle.ic_link_ops.specs.declared.color.Color.{Color}
 use Rattle.ic_link_ops.specs.declared.color.Color.TheVariants.{Red, Black}

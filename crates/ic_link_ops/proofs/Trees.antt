@@ -2,7 +2,7 @@
 -- one tree below a root.
 use Rattle.std.proofs.Common.{◌≡◌, ◌≢◌, ◌<◌, Option, Some, [], ◌∷◌, true, false, refl, sym, ap, ◌∙◌, subst}
 use Rattle.std.specs.List.{AllByRecursion}
-use Rattle.ic_link_ops.specs.Prelude.{Place, index_of, IsAbsent, Table, IsCovered}
+use Rattle.ic_link_ops.specs.Base.{Place, index_of, IsAbsent, Table, IsCovered}
 use Rattle.ic_link_ops.specs.declared.color.Color.{Color}
 use Rattle.ic_link_ops.specs.Trees.{Tree, leaf, fork, top, in_order}
 use Rattle.ic_link_ops.specs.RedBlackTree.{Node, IsAt, IsTree}

@@ -1,6 +1,6 @@
 -- This file proves that a change of one place's entry is a change of one neighbor of the place.
 use Rattle.std.proofs.Common.{◌≡◌, Option, Some, sym, ap}
-use Rattle.ic_link_ops.specs.Prelude.{Place, Table, ChangesOnly}
+use Rattle.ic_link_ops.specs.Base.{Place, Table, ChangesOnly}
 use Rattle.ic_link_ops.specs.Turns.{TurnsAfter, TurnsBefore}
 use Rattle.ic_link_ops.proofs.SequenceLemmas.{some_same}
 

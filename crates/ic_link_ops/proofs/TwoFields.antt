@@ -1,7 +1,7 @@
 -- The facts in this file help callers whose objects are each linked in exactly one of two fields. They say that this is still
 -- true after each kind of step.
 use Rattle.std.proofs.Common.{◌≡◌, Bool, true, false, not, Some, None, is_some, refl, sym, ap, ◌∙◌, true≢false}
-use Rattle.ic_link_ops.specs.Prelude.{Place, Objects, Places, Frees, object_at, is_placed, Table, IsLinked, IsUnlinked, LinksAlso, Unlinks}
+use Rattle.ic_link_ops.specs.Base.{Place, Objects, Places, Frees, object_at, is_placed, Table, IsLinked, IsUnlinked, LinksAlso, Unlinks}
 use Rattle.ic_unsafe_ref.proofs.Placing.{placed_there, others_placed, gone_there, others_left}
 use Rattle.ic_link_ops.specs.TwoFields.{IsOnce, IsLinkedOnce}
 use Rattle.ic_link_ops.proofs.LinkedSets.{everywhere}

@@ -1,6 +1,6 @@
 -- A split of a list of any kind leaves two lists that share no member.
 use Rattle.std.proofs.Common.{Bool, Option, List, append-nil}
-use Rattle.ic_link_ops.specs.Prelude.{Place, Cut, join, at_front, at_back, IsAfter, IsBefore, Table}
+use Rattle.ic_link_ops.specs.Base.{Place, Cut, join, at_front, at_back, IsAfter, IsBefore, Table}
 use Rattle.ic_link_ops.specs.Edits.{Splits}
 use Rattle.ic_link_ops.specs.TwoLists.{AreApart}
 use Rattle.ic_link_ops.proofs.CollectionLaws.{IsKind}

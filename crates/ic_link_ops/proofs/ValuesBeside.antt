@@ -1,7 +1,7 @@
 -- This file proves facts about a value beside a link of a table that is read or set.
 use Rattle.std.proofs.Common.{◌≡◌, ℕ, ◌<◌, List, length, Some, true, slice_set, slice_index_or, ap, ◌∙◌, arith}
 use Rattle.std.proofs.lemmas.List.{get_or-map, length-map, map-set}
-use Rattle.ic_link_ops.specs.Prelude.{Place, index_of, object_at, is_placed, with_object, at_indexes}
+use Rattle.ic_link_ops.specs.Base.{Place, index_of, object_at, is_placed, with_object, at_indexes}
 use Rattle.ic_unsafe_ref.proofs.IndexLemmas.{in_range, set_at_index}
 use Rattle.ic_link_ops.specs.declared.link.Link.{Link}
 use Rattle.ic_link_ops.specs.Links.{value_of}

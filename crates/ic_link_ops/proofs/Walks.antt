@@ -1,11 +1,9 @@
 -- This file proves that a walk lists a part of a chain, and what each step of a walk from either end does.
-use Rattle.std.proofs.Common.{◌≡◌, ◌≢◌, ℕ, zero, suc, ◌<◌, ◌≤◌, Option, Some, None, List, [], ◌∷◌, ◌++◌, drop, length, length-append, Bool, true, false, nat_eq, ◌||◌, Bor, refl, sym, ◌∙◌, ap, arith, subst, ne_eqb, eq-eqb, eqb-true}
-use Rattle.std.specs.Prelude.{IsSome}
-use Rattle.std.specs.Option.{option_copied}
+use Rattle.std.proofs.Common.{◌≡◌, ◌≢◌, ℕ, zero, suc, ◌<◌, ◌≤◌, Option, Some, None, List, [], ◌∷◌, ◌++◌, drop, length, length-append, Bool, true, false, nat_eq, ◌||◌, Bor, refl, sym, ◌∙◌, ap, arith, subst, ne_eqb, eq-eqb, eqb-true, IsSome, option_copied}
 use Rattle.std.specs.List.{AllByRecursion, cons_option}
 use Rattle.std.specs.Iterator.{MakesProgress, item_count}
 use Rattle.std.proofs.lemmas.Option.{same_Some}
-use Rattle.ic_link_ops.specs.Prelude.{Place, index_of, IsAbsent, IsDistinct, first_or, last_or, first, last, but_last, Table, IsCovered}
+use Rattle.ic_link_ops.specs.Base.{Place, index_of, IsAbsent, IsDistinct, first_or, last_or, first, last, but_last, Table, IsCovered}
 use Rattle.ic_unsafe_ref.proofs.PlaceLemmas.{same_index, index_small}
 use Rattle.ic_link_ops.specs.Chains.{ListHead, Ends, IsChain, IsStretch, RepresentsChain, RepresentsBetween}
 use Rattle.ic_link_ops.specs.Walk.{walk, walked, is_end, GivesFirst, GivesLast}

@@ -1,6 +1,6 @@
 -- This file proves facts about XOR linked lists: about their setter, their entries, and their walks.
 use Rattle.std.proofs.Common.{◌≡◌, ◌≤◌, Option, Some, List, length, Bool, true, refl, ◌∙◌}
-use Rattle.ic_link_ops.specs.Prelude.{Place, Table, IsCovered, ChangesOnly}
+use Rattle.ic_link_ops.specs.Base.{Place, Table, IsCovered, ChangesOnly}
 use Rattle.ic_link_ops.specs.Chains.{Ends, no_members, IsStretch}
 use Rattle.ic_link_ops.specs.Walk.{walked}
 use Rattle.ic_link_ops.specs.Turns.{TurnsAfter, TurnsBefore}

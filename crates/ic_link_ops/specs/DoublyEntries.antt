@@ -15,11 +15,11 @@ use Rattle.ic_link_ops.specs.PlainTables as plain
 
 -- A link of a doubly linked list consists of two words.
 abbrev pub DoublyLink : Type 0
-DoublyLink = Link TwoWords ⊤
+DoublyLink = Link (TwoWords ℕ) ⊤
 
 -- A table that stores links of two words, for doubly linked lists.
 abbrev pub DoublyLinkOps : Type 0 → Type 0
-DoublyLinkOps A = PlainTable TwoWords A ⊤
+DoublyLinkOps A = PlainTable (TwoWords ℕ) A ⊤
 
 -- The link of a place that is not linked.
 abbrev pub unlinked : DoublyLink

@@ -23,10 +23,6 @@ pub mod Frames
 pub mod Times
 pub mod Words
 pub mod Widths
-pub mod NarrowWords
-pub mod OneNarrowWord
-pub mod TwoNarrowWords
-pub mod ThreeNarrowWords
 pub mod XorLaws
 pub mod TreeWords
 pub mod Links
@@ -42,3 +38,4 @@ pub mod DoublyEntries
 pub mod TwoFields
 pub mod NumberedCollections
 pub mod Prelude
+pub mod Base

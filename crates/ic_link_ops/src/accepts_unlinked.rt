@@ -4,7 +4,7 @@
 //! links.acquire_link(place) // false exactly if the place is linked in this table
 //! ```
 
-ghost use Rattle.ic_link_ops.specs.Prelude.{Place, IsLinked};
+ghost use Rattle.ic_link_ops.specs.Base.{Place, IsLinked};
 
 use crate::{LentTable, LinkOps, LinkValue, PlainTable, Words};
 use std::alloc::Allocator;

@@ -10,7 +10,7 @@
 //! ```
 
 ghost use Rattle.std.specs.Prelude.{◌≡◌, ◌<◌, length};
-ghost use Rattle.ic_link_ops.specs.Prelude.{Place, IsCovered, IsLinked, IsUnlinked, ChangesOnly};
+ghost use Rattle.ic_link_ops.specs.Base.{Place, IsCovered, IsLinked, IsUnlinked, ChangesOnly};
 
 use crate::link::{Link, Words};
 use crate::link_ops::LinkOps;

@@ -6,13 +6,14 @@
 //! ```
 
 ghost use Rattle.std.specs.Prelude.{◌≡◌, ℕ, Bool, true, false, Option, ⊤};
-ghost use Rattle.ic_link_ops.specs.Prelude.{Place, IsNameable};
+ghost use Rattle.ic_link_ops.specs.Base.{Place, IsNameable};
 ghost use Rattle.ic_link_ops.specs.Widths.{Width, HasRoom, CanKeep, most_places, count_nameable};
 
 use crate::link_value::LinkValue;
 use crate::word::Word;
 use ic_unsafe_ref::Place;
 use std::alloc::AllocError;
+use std::cmp::min;
 use std::fmt;
 
 /// The words of a link. The words store whether the link's place is linked, and the places and the color that the traits
@@ -35,14 +36,6 @@ pub trait Words: Drop {
     fn is_linked(&self) -> bool
         ensures { result ≡ is_linked self.now };
 
-    /// The greatest number of places that a table with words of this type can cover.
-    fn most_places() -> usize
-        ensures { result ≡ most_places width };
-
-    /// The number of places, out of the first `places` places, that the words can name.
-    fn count_nameable(places: usize) -> usize
-        ensures { result ≡ count_nameable width places };
-
     /// Marks the place of these words as linked. The neighbors that the words name afterwards are unspecified.
     fn link(&mut self)
         ensures { is_linked self.new ≡ true };
@@ -50,6 +43,24 @@ pub trait Words: Drop {
     /// Marks the place of these words as unlinked. The neighbors that the words name afterwards are unspecified.
     fn unlink(&mut self)
         ensures { is_linked self.new ≡ false };
+
+    /// The greatest number of places that a table with words of this type can cover.
+    fn most_places() -> usize
+        ensures { result ≡ most_places width };
+
+    /// The number of places, out of the first `places` places, that the words can name.
+    #[inline]
+    #[tactic(auto, using(crate::proofs::WidthLemmas::all_nameable, crate::proofs::WidthLemmas::some_nameable))]
+    fn count_nameable(places: usize) -> usize
+        ensures { result ≡ count_nameable width places }
+    {
+        let most = Self::most_places();
+        if most == Place::COUNT {
+            places
+        } else {
+            min(most, places)
+        }
+    }
 
     // The law: the words of a new link say that its place is unlinked.
     ghost starts_unlinked: { is_linked unlinked ≡ false };
@@ -66,10 +77,11 @@ pub trait NextWord: Words {
 
     ghost use Rattle.ic_link_ops.specs.Words.{bits_of};
 
-    /// The next word. The call requires that the place is linked.
+    /// The next word, for which a word of this width has room. The call requires that the place is linked.
     fn next_word(&self) -> Word
         requires linked { Self.is_linked self.now ≡ true }
-        ensures { bits_of result ≡ next_word self.now };
+        ensures word { bits_of result ≡ next_word self.now }
+        ensures kept { CanKeep Self.width (bits_of result) };
 
     /// Replaces the next word. The call requires that the place is linked, and that a word of this width has room for `word`. The
     /// place stays linked.
@@ -79,9 +91,6 @@ pub trait NextWord: Words {
         ensures set { next_word self.new ≡ bits_of word }
         ensures linked { Self.is_linked self.new ≡ Self.is_linked self.old }
         ensures others { KeepsOthers self.old self.new };
-
-    // The law: a word of this width has room for the next word of a linked place.
-    ghost next_word_kept: { (w : Self) → Self.is_linked w ≡ true → CanKeep Self.width (next_word w) };
 }
 
 /// Words of a link that also name the previous place.

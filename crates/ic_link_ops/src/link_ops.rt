@@ -2,7 +2,7 @@
 
 ghost use Rattle.std.specs.Prelude.{◌≡◌, Bool, List, [], ◌∷◌, ◌++◌};
 ghost use Rattle.std.specs.Bool.{OnTrue, OnFalse};
-ghost use Rattle.ic_link_ops.specs.Prelude.{Place, Table, IsCovered, IsLinked, ChangesOnly, LinkStep, acquires, releases, TraceIs};
+ghost use Rattle.ic_link_ops.specs.Base.{Place, Table, IsCovered, IsLinked, ChangesOnly, LinkStep, acquires, releases, TraceIs};
 
 use ic_unsafe_ref::Place;
 

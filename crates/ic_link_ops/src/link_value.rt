@@ -9,7 +9,7 @@
 //! ```
 
 ghost use Rattle.std.specs.Prelude.{◌≡◌, ◌≢◌, true, ℕ, List, [], length};
-ghost use Rattle.ic_link_ops.specs.Prelude.{Place, is_placed, with_object, IsCovered};
+ghost use Rattle.ic_link_ops.specs.Base.{Place, is_placed, with_object, IsCovered};
 
 use crate::lent_table::LentTable;
 use crate::link::Words;

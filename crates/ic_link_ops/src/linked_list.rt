@@ -8,17 +8,17 @@
 
 ghost use Rattle.std.specs.Prelude.{◌≡◌, Option, [], ◌∷◌};
 ghost use Rattle.std.specs.Bool.{OnTrue, OnFalse};
-ghost use Rattle.ic_link_ops.specs.Prelude.{Place, IsCovered, IsLinked, IsNameable, ChangesOnly, acquires};
+ghost use Rattle.ic_link_ops.specs.Base.{Place, IsCovered, IsLinked, IsNameable, ChangesOnly, acquires};
 ghost use Rattle.ic_link_ops.specs.LinkedList.{Neighbors, neighbors_at, IsBetween};
 
+use crate::bits::Bits;
 use crate::lent_table::LentTable;
 use crate::link::{self, NextWord, PrevPlace, Words};
 use crate::link_ops;
 use crate::link_value::LinkValue;
 use crate::marked_word::MarkedWord;
-use crate::place_word::PlaceWord;
+use crate::stored_place::StoredPlace;
 use crate::table::PlainTable;
-use crate::two_narrow_words::TwoNarrowWords;
 use crate::word::Word;
 use ic_unsafe_ref::Place;
 use std::alloc::{Allocator, Global};
@@ -86,14 +86,17 @@ pub trait LinkedListOps: link_ops::LinkOps {
 }
 
 /// The words of a doubly linked list's link. The first word names the next place, or is the mark 1 if the place is unlinked. The
-/// second word names the previous place.
+/// second word names the previous place. The integer `B` stores each word.
 ///
 /// Singly linked lists and XOR lists use only the first word.
 #[derive(Drop)]
-pub struct TwoWords {
-    next: MarkedWord,
-    prev: PlaceWord,
+pub struct TwoWords<B: Bits = u64> {
+    next: MarkedWord<B>,
+    prev: StoredPlace<B>,
 }
+
+/// The words of a doubly linked list's link, each of 4 bytes.
+pub type TwoNarrowWords = TwoWords<u32>;
 
 /// What the plain table of doubly linked lists stores at a place: two words.
 pub type Link = link::Link<TwoWords>;
@@ -114,33 +117,22 @@ pub type NarrowLinkOps<A = Global> = PlainTable<TwoNarrowWords, A>;
 /// The plain table of narrow links with a value beside each link.
 pub type NarrowLinkOpsWith<V, A = Global> = PlainTable<TwoNarrowWords, A, V>;
 
-impl Words for TwoWords {
+impl<B: Bits> Words for TwoWords<B> {
     ghost use Rattle.ic_link_ops.specs.TwoWords.{no_words, has_words};
     ghost use Rattle.std.specs.Prelude.{refl};
-    ghost use Rattle.ic_link_ops.specs.Widths.{wide};
 
     ghost unlinked = { no_words };
 
     ghost is_linked = { has_words };
 
-    ghost width = { wide };
+    ghost width = { B.width };
 
     #[inline]
     fn unlinked() -> Self {
         TwoWords {
             next: MarkedWord::mark(),
-            prev: PlaceWord::of(None),
+            prev: StoredPlace::of(None),
         }
-    }
-
-    #[inline]
-    fn most_places() -> usize {
-        Place::COUNT
-    }
-
-    #[inline]
-    fn count_nameable(places: usize) -> usize {
-        places
     }
 
     #[inline]
@@ -158,10 +150,15 @@ impl Words for TwoWords {
         self.next = MarkedWord::mark();
     }
 
+    #[inline]
+    fn most_places() -> usize {
+        B::most_places()
+    }
+
     ghost starts_unlinked = { refl };
 }
 
-impl NextWord for TwoWords {
+impl<B: Bits> NextWord for TwoWords<B> {
     ghost use Rattle.ic_link_ops.specs.TwoWords.{next_word_of, prev_of};
 
     ghost next_word = { next_word_of };
@@ -177,11 +174,9 @@ impl NextWord for TwoWords {
     fn set_next_word(&mut self, word: Word) {
         self.next = MarkedWord::of(word);
     }
-
-    ghost next_word_kept = { λ w linked. tt };
 }
 
-impl PrevPlace for TwoWords {
+impl<B: Bits> PrevPlace for TwoWords<B> {
     ghost use Rattle.ic_link_ops.specs.TwoWords.{prev_of};
 
     ghost prev = { prev_of };
@@ -193,7 +188,7 @@ impl PrevPlace for TwoWords {
 
     #[inline]
     fn set_prev(&mut self, place: Option<Place>) {
-        self.prev = PlaceWord::of(place);
+        self.prev = StoredPlace::of(place);
     }
 
     ghost keeps_prev = { λ old new h. h };

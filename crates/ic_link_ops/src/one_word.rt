@@ -1,4 +1,4 @@
-//! This file defines links of one word, for singly linked lists and for XOR lists.
+//! This file defines links of one word, of 8 bytes or of 4 bytes, for singly linked lists and for XOR lists.
 //!
 //! ```text
 //! xor_linked_list::Link::new().word() // 1: its place is unlinked
@@ -6,29 +6,32 @@
 
 ghost use Rattle.std.specs.Prelude.{◌≡◌};
 
+use crate::bits::Bits;
 use crate::link::{NextWord, Words};
 use crate::marked_word::MarkedWord;
 use crate::word::Word;
-use ic_unsafe_ref::Place;
 use std::marker::PhantomData;
 
-/// One word for the neighbors, or the mark 1 if the place is unlinked. The type parameter `K` is the kind of list.
+/// One word for the neighbors, or the mark 1 if the place is unlinked. The integer `B` stores the word. The type parameter `K` is
+/// the kind of list.
 #[derive(Drop)]
-pub struct OneWord<K> {
-    pub(crate) word: MarkedWord,
+pub struct OneWord<K, B: Bits = u64> {
+    pub(crate) word: MarkedWord<B>,
     of: PhantomData<K>,
 }
 
-impl<K> Words for OneWord<K> {
+/// One word of 4 bytes for the neighbors, or the mark 1 if the place is unlinked.
+pub type OneNarrowWord<K> = OneWord<K, u32>;
+
+impl<K, B: Bits> Words for OneWord<K, B> {
     ghost use Rattle.ic_link_ops.specs.OneWord.{no_word, has_word};
     ghost use Rattle.std.specs.Prelude.{refl};
-    ghost use Rattle.ic_link_ops.specs.Widths.{wide};
 
     ghost unlinked = { no_word };
 
     ghost is_linked = { has_word };
 
-    ghost width = { wide };
+    ghost width = { B.width };
 
     #[inline]
     fn unlinked() -> Self {
@@ -36,16 +39,6 @@ impl<K> Words for OneWord<K> {
             word: MarkedWord::mark(),
             of: PhantomData,
         }
-    }
-
-    #[inline]
-    fn most_places() -> usize {
-        Place::COUNT
-    }
-
-    #[inline]
-    fn count_nameable(places: usize) -> usize {
-        places
     }
 
     #[inline]
@@ -63,10 +56,15 @@ impl<K> Words for OneWord<K> {
         self.word = MarkedWord::mark();
     }
 
+    #[inline]
+    fn most_places() -> usize {
+        B::most_places()
+    }
+
     ghost starts_unlinked = { refl };
 }
 
-impl<K> NextWord for OneWord<K> {
+impl<K, B: Bits> NextWord for OneWord<K, B> {
     ghost use Rattle.ic_link_ops.specs.OneWord.{next_word_of};
     ghost use Rattle.std.specs.Prelude.{⊤};
 
@@ -83,6 +81,4 @@ impl<K> NextWord for OneWord<K> {
     fn set_next_word(&mut self, word: Word) {
         self.word = MarkedWord::of(word);
     }
-
-    ghost next_word_kept = { λ w linked. tt };
 }

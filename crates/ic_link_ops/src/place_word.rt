@@ -19,7 +19,7 @@ pub struct PlaceWord {
 
 impl Model for PlaceWord {
     ghost use Rattle.std.specs.Prelude.{Option};
-    ghost use Rattle.ic_link_ops.specs.Prelude.{Place, place_at};
+    ghost use Rattle.ic_link_ops.specs.Base.{Place, place_at};
     ghost use Rattle.ic_unsafe_ref.specs.PlaceWords.{IsWord};
 
     ghost Value = { Option Place };

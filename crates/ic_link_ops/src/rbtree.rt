@@ -6,19 +6,20 @@
 //! ```
 
 ghost use Rattle.std.specs.Prelude.{◌≡◌, ◌≢◌, Option, []};
-ghost use Rattle.ic_link_ops.specs.Prelude.{Place, IsLinked, IsNameable, ChangesOnly};
+ghost use Rattle.ic_link_ops.specs.Base.{Place, IsLinked, IsNameable, ChangesOnly};
 ghost use Rattle.ic_link_ops.specs.RedBlackTree.{Node, node_at};
 ghost use Rattle.ic_link_ops.specs.declared.color.Color.{Color};
 
+use crate::bits::Bits;
 use crate::color::Color;
 use crate::lent_table::LentTable;
 use crate::link::{self, NextWord, PrevPlace, Words};
 use crate::link_ops;
 use crate::link_value::LinkValue;
 use crate::node_words::NodeWords;
-use crate::place_word::PlaceWord;
+use crate::stored_place::StoredPlace;
+use crate::stored_word::StoredWord;
 use crate::table::PlainTable;
-use crate::three_narrow_words::ThreeNarrowWords;
 use crate::tree_word::TreeWord;
 use crate::word::Word;
 use ic_unsafe_ref::Place;
@@ -103,17 +104,20 @@ pub trait RBTreeOps: link_ops::LinkOps {
     ghost linked_alike: { (e : Self.Entry) → (node e).linked ≡ Self.linked e };
 }
 
-/// The words of a tree's link, each of 8 bytes. Two words store the children. The third word stores the parent, the color and
-/// whether the place is linked.
+/// The words of a tree's link. The integer `B` stores each word. Two words name the children. The third word stores the parent, the
+/// color and whether the place is linked.
 ///
 /// A doubly linked list stores the previous place as the left child and the next place as the right child. A singly linked list
 /// or an XOR list stores its one word as the word of the right child.
 #[derive(Drop)]
-pub struct ThreeWords {
-    left: PlaceWord,
-    right: Word,
-    third: TreeWord,
+pub struct ThreeWords<B: Bits = u64> {
+    left: StoredPlace<B>,
+    right: StoredWord<B>,
+    third: TreeWord<B>,
 }
+
+/// The words of a tree's link, each of 4 bytes.
+pub type ThreeNarrowWords = ThreeWords<u32>;
 
 /// What the plain table of red-black trees stores at a place: three words.
 pub type Link = link::Link<ThreeWords>;
@@ -151,40 +155,29 @@ impl link::Link<ThreeWords> {
     {
         [
             Place::to_word(self.words.left.get()) / 4,
-            self.words.right.bits() / 4,
+            self.words.right.word().bits() / 4,
             self.words.third.number(),
         ]
     }
 }
 
-impl Words for ThreeWords {
+impl<B: Bits> Words for ThreeWords<B> {
     ghost use Rattle.ic_link_ops.specs.ThreeWords.{no_words, has_link};
     ghost use Rattle.std.specs.Prelude.{refl};
-    ghost use Rattle.ic_link_ops.specs.Widths.{wide};
 
     ghost unlinked = { no_words };
 
     ghost is_linked = { has_link };
 
-    ghost width = { wide };
+    ghost width = { B.width };
 
     #[inline]
     fn unlinked() -> Self {
         ThreeWords {
-            left: PlaceWord::of(None),
-            right: Word::none(),
+            left: StoredPlace::of(None),
+            right: StoredWord::none(),
             third: TreeWord::unlinked(),
         }
-    }
-
-    #[inline]
-    fn most_places() -> usize {
-        Place::COUNT
-    }
-
-    #[inline]
-    fn count_nameable(places: usize) -> usize {
-        places
     }
 
     #[inline]
@@ -202,10 +195,15 @@ impl Words for ThreeWords {
         self.third = TreeWord::unlinked();
     }
 
+    #[inline]
+    fn most_places() -> usize {
+        B::most_places()
+    }
+
     ghost starts_unlinked = { refl };
 }
 
-impl NextWord for ThreeWords {
+impl<B: Bits> NextWord for ThreeWords<B> {
     ghost use Rattle.ic_link_ops.specs.ThreeWords.{right_word_of, left_of};
 
     ghost next_word = { right_word_of };
@@ -214,18 +212,16 @@ impl NextWord for ThreeWords {
 
     #[inline]
     fn next_word(&self) -> Word {
-        self.right
+        self.right.word()
     }
 
     #[inline]
     fn set_next_word(&mut self, word: Word) {
-        self.right = word;
+        self.right = StoredWord::of(word);
     }
-
-    ghost next_word_kept = { λ w linked. tt };
 }
 
-impl PrevPlace for ThreeWords {
+impl<B: Bits> PrevPlace for ThreeWords<B> {
     ghost use Rattle.ic_link_ops.specs.ThreeWords.{left_of};
 
     ghost prev = { left_of };
@@ -237,13 +233,13 @@ impl PrevPlace for ThreeWords {
 
     #[inline]
     fn set_prev(&mut self, place: Option<Place>) {
-        self.left = PlaceWord::of(place);
+        self.left = StoredPlace::of(place);
     }
 
     ghost keeps_prev = { λ old new h. h };
 }
 
-impl NodeWords for ThreeWords {
+impl<B: Bits> NodeWords for ThreeWords<B> {
     ghost use Rattle.ic_link_ops.specs.ThreeWords.{node_in};
     ghost use Rattle.std.specs.Prelude.{refl};
 
@@ -256,7 +252,7 @@ impl NodeWords for ThreeWords {
 
     #[inline]
     fn right(&self) -> Option<Place> {
-        self.right.place()
+        self.right.word().place()
     }
 
     #[inline]
@@ -271,12 +267,12 @@ impl NodeWords for ThreeWords {
 
     #[inline]
     fn set_left(&mut self, left: Option<Place>) {
-        self.left = PlaceWord::of(left);
+        self.left = StoredPlace::of(left);
     }
 
     #[inline]
     fn set_right(&mut self, right: Option<Place>) {
-        self.right = Word::of(right);
+        self.right = StoredWord::of(Word::of(right));
     }
 
     #[inline]

@@ -7,15 +7,14 @@
 
 ghost use Rattle.std.specs.Prelude.{◌≡◌, Option, true, [], ◌∷◌};
 ghost use Rattle.std.specs.Bool.{OnTrue, OnFalse};
-ghost use Rattle.ic_link_ops.specs.Prelude.{Place, IsCovered, IsLinked, IsNameable, ChangesOnly, acquires};
+ghost use Rattle.ic_link_ops.specs.Base.{Place, IsCovered, IsLinked, IsNameable, ChangesOnly, acquires};
 ghost use Rattle.ic_link_ops.specs.SinglyLinkedList.{Successor, successor_at};
 
 use crate::lent_table::LentTable;
 use crate::link::{self, NextWord};
 use crate::link_ops;
 use crate::link_value::LinkValue;
-use crate::one_narrow_word::OneNarrowWord;
-use crate::one_word::OneWord;
+use crate::one_word::{OneNarrowWord, OneWord};
 use crate::table::PlainTable;
 use crate::word::Word;
 use ic_unsafe_ref::Place;

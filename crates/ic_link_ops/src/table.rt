@@ -8,7 +8,7 @@
 
 ghost use Rattle.std.specs.Prelude.{◌≡◌, ◌<◌, ◌≤◌, ◌↔◌, length, max, OnOk, OnErr, IsOk, Err};
 ghost use Rattle.std.specs.Bool.{OnTrue, OnFalse};
-ghost use Rattle.ic_link_ops.specs.Prelude.{Place, IsCovered, IsLinked, IsUnlinked, ChangesOnly};
+ghost use Rattle.ic_link_ops.specs.Base.{Place, IsCovered, IsLinked, IsUnlinked, ChangesOnly};
 
 use crate::errors::CoverError;
 use crate::link::{Link, Words};

@@ -23,12 +23,12 @@ pub struct Word {
 }
 
 impl Word {
-    ghost use Rattle.ic_link_ops.specs.Words.{bits_of, none};
+    ghost use Rattle.ic_link_ops.specs.Words.{bits_of};
 
     /// The word for no place: 0. O(1).
     #[inline]
     pub fn none() -> Word
-        ensures { result ≡ none }
+        ensures { bits_of result ≡ 0 }
     {
         Word { bits: 0 }
     }

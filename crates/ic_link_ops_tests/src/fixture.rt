@@ -1,8 +1,7 @@
 //! The functions and constants that all tests of this crate share.
 
 ghost use Rattle.std.specs.Prelude.{◌≡◌};
-ghost use Rattle.ic_link_ops.specs.Prelude.{index_of, IsCovered, IsLinked};
-ghost use Rattle.ic_link_ops.specs.PlainTables.{table, linked_by};
+ghost use Rattle.ic_link_ops.specs.Prelude.{index_of, IsCovered, IsLinked, table, linked_by};
 
 use ic_link_ops::{LinkOps, PlainTable, Words};
 use ic_unsafe_ref::Place;

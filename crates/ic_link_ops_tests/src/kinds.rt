@@ -1,8 +1,7 @@
 //! Tests of what the links of a table contain about neighbors, for each kind of collection that can use the table.
 
 ghost use Rattle.std.specs.Prelude.{◌≡◌};
-ghost use Rattle.ic_link_ops.specs.Prelude.{Place, IsCovered, IsLinked, IsNameable};
-ghost use Rattle.ic_link_ops.specs.Widths.{HasRoom};
+ghost use Rattle.ic_link_ops.specs.Prelude.{Place, IsCovered, IsLinked, IsNameable, HasRoom};
 
 use crate::fixture::{LAST, LAST_NARROW, at, check, one_linked};
 use ic_link_ops::linked_list::LinkedListOps;

@@ -26,7 +26,7 @@ fn numbers(first: Option<Place>, second: Option<Place>) -> [u64; 6] {
 
 // Returns a mark, a marked word, and the word that the marked word contains, as numbers. Also returns whether the mark and the marked word are words.
 fn marks(word: Word) -> ([u64; 3], [bool; 2]) {
-    let (mark, marked) = (MarkedWord::mark(), MarkedWord::of(word));
+    let (mark, marked) = (MarkedWord::<u64>::mark(), MarkedWord::<u64>::of(word));
     let numbers = [mark.bits(), marked.bits(), marked.word().bits()];
     (numbers, [mark.is_word(), marked.is_word()])
 }
@@ -34,14 +34,14 @@ fn marks(word: Word) -> ([u64; 3], [bool; 2]) {
 // Returns the numbers of a tree's word that is unlinked, that is linked, that then gets a parent, and that then becomes red. Also returns the number of the
 // word of its parent, and whether the tree's word is then red and linked.
 fn tree_numbers(parent: Option<Place>) -> ([u64; 5], bool) {
-    let mut word = TreeWord::linked();
+    let mut word = TreeWord::<u64>::linked();
     let black = word.number();
     word.set_parent(parent);
     let below = word.number();
     word.set_color(Color::Red);
     let above = Place::to_word(PlaceWord::of(word.parent()).get());
     let is_red = word.color() == Color::Red && word.is_linked();
-    let unlinked = TreeWord::unlinked().number();
+    let unlinked = TreeWord::<u64>::unlinked().number();
     ([unlinked, black, below, word.number(), above], is_red)
 }
 

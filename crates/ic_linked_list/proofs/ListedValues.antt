@@ -1,13 +1,9 @@
 -- Lemmas for callers about a list together with the values of the objects at its members, in the order of the list.
-use Rattle.std.proofs.Common.{◌≡◌, ◌≢◌, Bool, Option, Some, IsSome, IfSome, List, [], drop, take, ◌≤◌, is_some, length, ◌∷◌, ◌++◌, Result, OnOk, OnErr, ℕ, sym, ap, ◌∙◌, inl, inr}
-use Rattle.std.proofs.lemmas.List.{take_all}
+use Rattle.std.proofs.Common.{◌≡◌, ◌≢◌, Bool, Option, Some, IsSome, IfSome, List, [], drop, take, ◌≤◌, is_some, length, ◌∷◌, ◌++◌, Result, OnOk, OnErr, ℕ, sym, ap, ◌∙◌, inl, inr, take_all}
 use Rattle.std.proofs.lemmas.Option.{same_Some}
-use Rattle.ic_link_ops.specs.Prelude.{Place, Objects, Places, Frees, object_at, first, Table, IsLinked, LinksAlso, Unlinks, object_there, RepresentsPlaced, StandAt}
-use Rattle.ic_unsafe_ref.proofs.PlaceLemmas.{same_or_not}
-use Rattle.ic_unsafe_ref.proofs.Placing.{placed_there, others_placed, others_left}
-use Rattle.ic_link_ops.specs.Chains.{Ends}
+use Rattle.ic_link_ops.specs.Prelude.{Place, Objects, Places, Frees, object_at, first, Table, IsLinked, LinksAlso, Unlinks, object_there, RepresentsPlaced, StandAt, Ends}
+use Rattle.ic_link_ops.proofs.Prelude.{same_or_not, placed_there, others_placed, others_left, some_same}
 use Rattle.ic_link_ops.specs.LinkedList.{Neighbors, Represents}
-use Rattle.ic_link_ops.proofs.SequenceLemmas.{some_same}
 use Rattle.ic_link_ops.proofs.DoublyLists.{doubly_lists}
 use Rattle.ic_linked_list.specs.ListedValues.{HasValues}
 use Rattle.ic_link_ops.proofs.Calling.{accepted, still_represented}

@@ -1,7 +1,6 @@
 -- The values of the objects at the members of a list, in the order of the list.
 use Rattle.std.specs.Prelude.{◌≡◌, Bool, None, List}
-use Rattle.ic_link_ops.specs.Prelude.{Place, Objects, object_at, Table, IsUnlinked, ArePlaced, values_at}
-use Rattle.ic_link_ops.specs.Chains.{Ends}
+use Rattle.ic_link_ops.specs.Prelude.{Place, Objects, object_at, Table, IsUnlinked, ArePlaced, values_at, Ends}
 use Rattle.ic_link_ops.specs.LinkedList.{Neighbors, Represents}
 
 -- A LIST OF VALUES: the table represents some members for the list, and the objects at these members have the given values, in order. No place

@@ -1,15 +1,9 @@
 -- A sift keeps or unlinks the members of a list, one member after the other, and these lemmas are about its steps.
 use Rattle.std.proofs.Common.{◌≡◌, ◌<◌, Bool, true, false, not, cond, inl, inr, Option, Some, None, List, [], ◌∷◌, ◌++◌, drop, length, append_assoc, append-nil, refl, sym, ◌∙◌, ap, subst, arith}
 use Rattle.std.specs.List.{AllByRecursion, filter}
-use Rattle.ic_link_ops.specs.Prelude.{Place, Objects, object_at, IsAbsent, first, last, Table, IsCovered, ChangesOnlyIn, ArePlaced, RepresentsPlaced, LinkStep, releases_each}
-use Rattle.ic_link_ops.specs.Walk.{walked}
-use Rattle.ic_link_ops.specs.Chains.{ListHead, RepresentsChain}
+use Rattle.ic_link_ops.specs.Prelude.{Place, Objects, object_at, IsAbsent, first, last, Table, IsCovered, ChangesOnlyIn, ArePlaced, RepresentsPlaced, LinkStep, releases_each, walked, ListHead, RepresentsChain}
 use Rattle.ic_chain.proofs.Standing.{one_represented}
-use Rattle.ic_link_ops.proofs.Each.{all_both, all_front, all_back}
-use Rattle.ic_link_ops.proofs.SequenceLemmas.{absent_left, absent_right, absent_both, distinct_right, first_is, last_of_push, nothing_first}
-use Rattle.ic_link_ops.proofs.Chains.{chain_cut}
-use Rattle.ic_link_ops.proofs.StepLemmas.{releases_append}
-use Rattle.ic_link_ops.proofs.Walks.{stretch_through}
+use Rattle.ic_link_ops.proofs.Prelude.{all_both, all_front, all_back, absent_left, absent_right, absent_both, distinct_right, first_is, last_of_push, nothing_first, chain_cut, releases_append, stretch_through}
 use Rattle.ic_list_algorithms.specs.Walks.{passes, test_at}
 use Rattle.ic_list_algorithms.proofs.WalkLemmas.{middle_holds, last_holds}
 use Rattle.ic_list_algorithms.specs.Sifts.{sift, sift_out, IsMix, by_itself, object_there, keep_of, keep_at, SiftsTo, SiftsOne}

@@ -1,9 +1,6 @@
 -- In these lemmas a list is cut after its first n members, and its parts are put together in exchanged order.
-use Rattle.std.proofs.Common.{ℕ, Option, List, [], ◌++◌, drop, sym, ◌∙◌, subst, append-nil}
-use Rattle.std.specs.Prelude.{take}
-use Rattle.std.proofs.lemmas.List.{take-append-drop}
-use Rattle.ic_link_ops.specs.Prelude.{Place, IsAbsent, IsDisjoint, Table, ChangesOnlyIn}
-use Rattle.ic_link_ops.specs.Chains.{ListHead, RepresentsChain}
+use Rattle.std.proofs.Common.{ℕ, Option, List, [], ◌++◌, drop, sym, ◌∙◌, subst, append-nil, take, take-append-drop}
+use Rattle.ic_link_ops.specs.Prelude.{Place, IsAbsent, IsDisjoint, Table, ChangesOnlyIn, ListHead, RepresentsChain}
 use Rattle.ic_link_ops.proofs.SequenceLemmas.{absent_left, absent_right, absent_both, distinct_disjoint}
 
 module _ {E W : Type 0} {between : E → Option Place → Option Place → Type 0} {kept : Option Place → W} {t : Table E} {list : ListHead W} {s : List Place} (n : ℕ)

@@ -1,15 +1,10 @@
 -- These lemmas are about a walk over a list from its front, and about what the walk has found after each member.
-use Rattle.std.specs.Prelude.{take}
-use Rattle.std.proofs.Common.{◌≡◌, ◌+◌, ◌-◌, ◌<◌, ◌≤◌, ℕ, zero, suc, Bool, true, false, not, ◌&&◌, Option, Some, None, List, [], ◌∷◌, ◌++◌, drop, length, length-append, append_assoc, append-nil, refl, sym, ◌∙◌, ap, subst, arith}
-use Rattle.std.specs.Prelude.{IsTrue, ◌↔◌}
+use Rattle.std.proofs.Common.{◌≡◌, ◌+◌, ◌-◌, ◌<◌, ◌≤◌, ℕ, zero, suc, Bool, true, false, not, ◌&&◌, Option, Some, None, List, [], ◌∷◌, ◌++◌, drop, length, length-append, append_assoc, append-nil, refl, sym, ◌∙◌, ap, subst, arith, take, IsTrue, ◌↔◌}
 use Rattle.std.specs.List.{AllByRecursion}
 use Rattle.std.specs.Cmp.{IsStrictWeakOrder}
-use Rattle.ic_link_ops.specs.Prelude.{Place, Objects, object_at, IsDistinct, first, last, Table, IsCovered}
-use Rattle.ic_link_ops.specs.Walk.{walked}
+use Rattle.ic_link_ops.specs.Prelude.{Place, Objects, object_at, IsDistinct, first, last, Table, IsCovered, walked}
 use Rattle.ic_link_ops.specs.Chains.{ListHead, IsChain, RepresentsChain}
-use Rattle.ic_link_ops.proofs.Each.{all_map, all_both}
-use Rattle.ic_link_ops.proofs.SequenceLemmas.{distinct_right, first_is, last_of_push, nothing_first}
-use Rattle.ic_link_ops.proofs.Walks.{stretch_through}
+use Rattle.ic_link_ops.proofs.Prelude.{all_map, all_both, distinct_right, first_is, last_of_push, nothing_first, stretch_through}
 use Rattle.ic_list_algorithms.specs.Ordered.{IsOrdered}
 use Rattle.ic_list_algorithms.specs.Walks.{test_at, HoldsNowhere, comes_after, ordered_from, are_neighbors_ordered}
 

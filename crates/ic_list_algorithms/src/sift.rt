@@ -10,8 +10,7 @@ ghost use Rattle.std.specs.Prelude.{◌≡◌, ◌∷◌, ◌++◌, Bool, true, 
 ghost use Rattle.std.specs.List.{filter};
 ghost use Rattle.std.specs.List.Retain.{IsFiltered, IsDeduped};
 ghost use Rattle.std.specs.Fn.{ComputesKey, ComputesOnPairs, CalledAt, CalledAtTwo};
-ghost use Rattle.ic_link_ops.specs.Prelude.{Place, is_placed, last, RepresentsPlaced};
-ghost use Rattle.ic_link_ops.specs.Chains.{RepresentsChain};
+ghost use Rattle.ic_link_ops.specs.Prelude.{Place, is_placed, last, RepresentsPlaced, RepresentsChain};
 ghost use Rattle.ic_list_algorithms.specs.Asked.{AsksAt, AsksBoth, AsksBeside, KeepsInTurn};
 ghost use Rattle.ic_list_algorithms.specs.Walks.{test_at};
 ghost use Rattle.ic_list_algorithms.specs.Sifts.{sift as sifted, sift_out, keep_at, dedup, duplicates, SiftsTo, SiftsOne};

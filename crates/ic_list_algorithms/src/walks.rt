@@ -8,8 +8,7 @@
 
 ghost use Rattle.std.specs.Prelude.{◌≡◌, ◌↔◌, ℕ, Bool, true, Some, None, IsTrue, MatchOption, List, length, drop};
 ghost use Rattle.std.specs.Fn.{ComputesKey, CalledAt};
-ghost use Rattle.ic_link_ops.specs.Prelude.{Place, is_placed, first, RepresentsPlaced};
-ghost use Rattle.ic_link_ops.specs.Chains.{RepresentsChain, RepresentsSomeChain};
+ghost use Rattle.ic_link_ops.specs.Prelude.{Place, is_placed, first, RepresentsPlaced, RepresentsChain, RepresentsSomeChain};
 ghost use Rattle.ic_list_algorithms.specs.Asked.{AnswersNo, AsksAt, AsksAfter, FindsFirst, OrderedInTurn};
 ghost use Rattle.ic_list_algorithms.specs.Ordered.{GoesBy, IsOrdered};
 ghost use Rattle.ic_list_algorithms.specs.Runs.{less_at};

@@ -6,8 +6,7 @@
 //! ```
 
 ghost use Rattle.std.specs.Prelude.{◌≡◌, ◌++◌, List, [], drop, take};
-ghost use Rattle.ic_link_ops.specs.Prelude.{Place, first, last, ChangesOnlyIn};
-ghost use Rattle.ic_link_ops.specs.Chains.{RepresentsChain, RepresentsSomeChain, empty_list};
+ghost use Rattle.ic_link_ops.specs.Prelude.{Place, first, last, ChangesOnlyIn, RepresentsChain, RepresentsSomeChain, empty_list};
 ghost use Rattle.ic_list_algorithms.specs.Effects.{Appends};
 ghost use Rattle.ic_list_algorithms.specs.TwoLists.{TwoLists};
 

@@ -16,10 +16,7 @@ use Rattle.ic_lock_free_stack.specs.declared.held.HeldAccounts.{HeldAccounts}
 use Rattle.ic_lock_free_stack.specs.declared.stacks.Stacks.{Stacks}
 use Rattle.ic_lock_free_stack.specs.declared.stacks.Holder.{Holder}
 use Rattle.ic_lock_free_stack.specs.declared.step.Entry.{Entry}
-use Rattle.ic_lock_free_stack.specs.Moments.{Moment, at_first, is_with, moment_after, steps_of}
-use Rattle.ic_lock_free_stack.specs.Records.{holds}
-use Rattle.ic_lock_free_stack.specs.Words.{known_of}
-use Rattle.ic_lock_free_stack.specs.Held.{hand, fresh, sees, without_first, only_first}
+use Rattle.ic_lock_free_stack.specs.Prelude.{Moment, at_first, is_with, moment_after, steps_of, holds, known_of, hand, fresh, sees, without_first, only_first}
 use Rattle.ic_lock_free_stack.specs.OneHistory.{IsSound, IsSeen, IsOneHistory, Party, party_of_account, IsHistory}
 use Rattle.ic_lock_free_stack.specs.Plays.{Compares}
 use Rattle.ic_lock_free_stack.specs.Holders.{holders_of, IsSeatOf, hand_with, account_of, seen_of, party_of, IsOf, KeepsChains, AreOneHistory, NoneTwice}

@@ -11,8 +11,7 @@ use Rattle.ic_unsafe_ref.specs.declared.place.Place.{Place}
 use Rattle.ic_lock_free_stack.specs.declared.step.Step.{Step}
 use Rattle.ic_lock_free_stack.specs.declared.step.Entry.{Entry}
 use Rattle.ic_lock_free_stack.specs.declared.step.Step.TheVariants.{Claim, Release, Push, TakeAll}
-use Rattle.ic_lock_free_stack.specs.Moments.{Moment, entry, at_first, same, members_after, after, Fits, IsLegal, moment_after, steps_of, stack_after}
-use Rattle.ic_lock_free_stack.specs.OneHistory.{IsSeen, GoesOn, Party, IsHistory}
+use Rattle.ic_lock_free_stack.specs.Prelude.{Moment, entry, at_first, same, members_after, after, Fits, IsLegal, moment_after, steps_of, stack_after, IsSeen, GoesOn, Party, IsHistory}
 use Rattle.ic_lock_free_stack.specs.Counts.{times, puts, takes_out, in_all, OneStepOn}
 use Rattle.ic_lock_free_stack.proofs.MomentLemmas.{by_test, steps_of-append}
 use Rattle.ic_lock_free_stack.proofs.Lists.{all_each}

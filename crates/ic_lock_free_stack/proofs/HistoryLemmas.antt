@@ -13,10 +13,7 @@ use Rattle.ic_lock_free_stack.specs.declared.held.Size.{Size}
 use Rattle.ic_lock_free_stack.specs.declared.held.Known.{Known}
 use Rattle.ic_lock_free_stack.specs.declared.held.Account.{Account}
 use Rattle.ic_lock_free_stack.specs.declared.step.Entry.{Entry}
-use Rattle.ic_lock_free_stack.specs.Moments.{Moment, entry, at_first, is_with, moves, after, Fits, IsLegal, steps_of}
-use Rattle.ic_lock_free_stack.specs.Records.{brings, holds, on_head, pushes_and_takes, most_steps}
-use Rattle.ic_lock_free_stack.specs.Words.{word_at, head_at, Spells, known_of}
-use Rattle.ic_lock_free_stack.specs.Held.{made, sees}
+use Rattle.ic_lock_free_stack.specs.Prelude.{Moment, entry, at_first, is_with, moves, after, Fits, IsLegal, steps_of, brings, holds, on_head, pushes_and_takes, most_steps, word_at, head_at, Spells, known_of, made, sees}
 use Rattle.ic_lock_free_stack.specs.OneHistory.{heads_in, IsSeen, GoesOn, LooksOn, IsKept, IsOneHistory}
 use Rattle.ic_lock_free_stack.proofs.Lists.{at_or, at_inside, each_all, map_set, named_apart, contains_at}
 use Rattle.ic_lock_free_stack.proofs.MomentLemmas.{legal_more, moment_more, heads_more, pushes_more, holds_more, steps_of-mine, steps_of-other, steps_of-append, none_added, sound_after, with_mine, with_other, with_is}

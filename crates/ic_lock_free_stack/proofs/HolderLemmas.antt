@@ -1,6 +1,5 @@
 -- Lemmas about holders whose seats have one account each, and about the chains of these holders.
-use Rattle.std.proofs.Common.{rules, zero, suc, map, ◌≡◌, ◌≢◌, ℕ, ◌+◌, ◌-◌, ◌%◌, ◌<◌, ◌≤◌, ◌||◌, Bool, true, false, true≢false, Option, Some, None, List, [], ◌∷◌, ◌++◌, drop, get_or, refl, sym, ap, ◌∙◌, subst, arith, length, eq-eqb, eqb-true}
-use Rattle.std.specs.Prelude.{◌==◌}
+use Rattle.std.proofs.Common.{rules, zero, suc, map, ◌≡◌, ◌≢◌, ℕ, ◌+◌, ◌-◌, ◌%◌, ◌<◌, ◌≤◌, ◌||◌, Bool, true, false, true≢false, Option, Some, None, List, [], ◌∷◌, ◌++◌, drop, get_or, refl, sym, ap, ◌∙◌, subst, arith, length, eq-eqb, eqb-true, ◌==◌}
 use Rattle.std.specs.Bool.{OnTrue, OnFalse}
 use Rattle.std.specs.List.{range_with_len}
 use Rattle.std.proofs.lemmas.Option.{same_Some}
@@ -8,7 +7,7 @@ use Rattle.ic_unsafe_ref.specs.declared.place.Place.{Place}
 use Rattle.ic_unsafe_ref.specs.Places.{index_of, word_of, place_at}
 use Rattle.ic_unsafe_ref.specs.PlaceWords.{IsWord}
 use Rattle.ic_unsafe_ref.proofs.PlaceLemmas.{word_fits, place_at_word}
-use Rattle.ic_lock_free_stack.specs.Ends.{first}
+use Rattle.ic_lock_free_stack.specs.Prelude.{first, same, is_in, moves, IsOnce, stack_after, brings, holds, on_head, pushes_and_takes, link_to, known_of, knows, knows_all, hand, fresh, made, noted, sees, without_first, only_first}
 use Rattle.ic_lock_free_stack.specs.declared.step.Step.{Step}
 use Rattle.ic_lock_free_stack.specs.declared.step.Entry.{Entry}
 use Rattle.ic_lock_free_stack.specs.declared.step.Step.TheVariants.{Claim, Release, Push, TakeAll}
@@ -19,11 +18,7 @@ use Rattle.ic_lock_free_stack.specs.declared.held.HeldAccounts.{HeldAccounts}
 use Rattle.ic_lock_free_stack.specs.declared.stacks.Stacks.{Stacks}
 use Rattle.ic_lock_free_stack.specs.declared.stacks.Holder.{Holder}
 use Rattle.ic_lock_free_stack.specs.declared.stacks.Chain.{Chain}
-use Rattle.ic_lock_free_stack.specs.Moments.{same, is_in, moves, IsOnce, stack_after}
-use Rattle.ic_lock_free_stack.specs.Records.{brings, holds, on_head, pushes_and_takes}
 use Rattle.ic_lock_free_stack.specs.OneHistory.{GoesOn, LooksOn}
-use Rattle.ic_lock_free_stack.specs.Words.{link_to, known_of, knows, knows_all}
-use Rattle.ic_lock_free_stack.specs.Held.{hand, fresh, made, noted, sees, without_first, only_first}
 use Rattle.ic_lock_free_stack.specs.Plays.{only, Makes, Sees}
 use Rattle.ic_lock_free_stack.specs.Holders.{places_of, IsSeatOf, account_of, name_of, record_of, seen_of, Steps, Stays, Looks, IsOf, AreKnown, HasChain, IsNoChain, KeepsChains}
 use Rattle.ic_lock_free_stack.proofs.MomentLemmas.{pushes_more, holds_more, one_place, same_place, by_test}

@@ -1,12 +1,11 @@
 -- How many places of a chain are left.
 use Rattle.std.proofs.Common.{◌≡◌, ℕ, zero, suc, ◌<◌, ◌≤◌, Some, List, [], ◌∷◌, drop, length, refl, ap, ◌∙◌, arith}
 use Rattle.ic_unsafe_ref.specs.declared.place.Place.{Place}
-use Rattle.ic_lock_free_stack.specs.Ends.{first}
+use Rattle.ic_lock_free_stack.specs.Prelude.{first, known_of}
 use Rattle.ic_lock_free_stack.specs.declared.held.Known.{Known}
 use Rattle.ic_lock_free_stack.specs.declared.stacks.Stacks.{Stacks}
 use Rattle.ic_lock_free_stack.specs.declared.stacks.Holder.{Holder}
 use Rattle.ic_lock_free_stack.specs.declared.stacks.Chain.{Chain}
-use Rattle.ic_lock_free_stack.specs.Words.{known_of}
 use Rattle.ic_lock_free_stack.specs.Holders.{account_of, AreKnown, HasChain, left_from, left_of}
 use Rattle.ic_lock_free_stack.proofs.HolderLemmas.{link_names}
 

@@ -17,10 +17,8 @@ use Rattle.ic_lock_free_stack.specs.declared.held.Size.{Size}
 use Rattle.ic_lock_free_stack.specs.declared.held.Account.{Account}
 use Rattle.ic_lock_free_stack.specs.declared.held.HeldAccounts.{HeldAccounts}
 use Rattle.ic_lock_free_stack.specs.declared.step.Entry.{Entry}
-use Rattle.ic_lock_free_stack.specs.Moments.{at_first}
-use Rattle.ic_lock_free_stack.specs.Words.{head_at, Spells}
+use Rattle.ic_lock_free_stack.specs.Prelude.{at_first, head_at, Spells, IsKept, IsOneHistory}
 use Rattle.ic_lock_free_stack.specs.Held.{hand, accounts_in, fresh, all_fresh, without_first, only_first, both_hands, nothing_left, sees}
-use Rattle.ic_lock_free_stack.specs.OneHistory.{IsKept, IsOneHistory}
 use Rattle.ic_lock_free_stack.specs.Rule.{Rule, Mine}
 use Rattle.ic_lock_free_stack.specs.Plays.{compared, Compares}
 use Rattle.ic_lock_free_stack.proofs.Lists.{each_all, all_each}

@@ -5,8 +5,7 @@ use Rattle.ic_unsafe_ref.specs.declared.place.Place.{Place}
 use Rattle.ic_lock_free_stack.specs.declared.step.Step.{Step}
 use Rattle.ic_lock_free_stack.specs.declared.step.Entry.{Entry}
 use Rattle.ic_lock_free_stack.specs.declared.step.Step.TheVariants.{Claim, Release, Push, TakeAll}
-use Rattle.ic_lock_free_stack.specs.Moments.{Moment, at_first, members_after, after, Fits, IsLegal, moment_after, stack_after}
-use Rattle.ic_lock_free_stack.specs.Orders.{sent, got, of_history}
+use Rattle.ic_lock_free_stack.specs.Prelude.{Moment, at_first, members_after, after, Fits, IsLegal, moment_after, stack_after, sent, got, of_history}
 use Rattle.ic_lock_free_stack.proofs.MomentLemmas.{by_test}
 
 -- for one step, the members before the step and then the pushed places are the taken places and then the members after the step, in the order of the pushes

@@ -3,16 +3,12 @@ use Rattle.std.proofs.Common.{length, ◌≡◌, ◌≢◌, ℕ, ◌+◌, ◌<�
 use Rattle.std.proofs.lemmas.Option.{same_Some}
 use Rattle.ic_unsafe_ref.specs.declared.place.Place.{Place}
 use Rattle.ic_unsafe_ref.specs.Places.{index_of}
-use Rattle.ic_lock_free_stack.specs.Ends.{first, last}
+use Rattle.ic_lock_free_stack.specs.Prelude.{first, last, same, is_in, IsOnce, holds, known_of, knows, AreKnownTo, forgets, noted}
 use Rattle.ic_lock_free_stack.specs.declared.held.Known.{Known}
 use Rattle.ic_lock_free_stack.specs.declared.held.Account.{Account}
 use Rattle.ic_lock_free_stack.specs.declared.stacks.Stacks.{Stacks}
 use Rattle.ic_lock_free_stack.specs.declared.stacks.Holder.{Holder}
 use Rattle.ic_lock_free_stack.specs.declared.stacks.Chain.{Chain}
-use Rattle.ic_lock_free_stack.specs.Moments.{same, is_in, IsOnce}
-use Rattle.ic_lock_free_stack.specs.Records.{holds}
-use Rattle.ic_lock_free_stack.specs.Words.{known_of, knows, AreKnownTo, forgets}
-use Rattle.ic_lock_free_stack.specs.Held.{noted}
 use Rattle.ic_lock_free_stack.specs.Plays.{only, Misses}
 use Rattle.ic_lock_free_stack.specs.Holders.{places_of, IsSeatOf, account_of, record_of, AreKnown, AreKnownBut, HasChain, IsReady}
 use Rattle.ic_lock_free_stack.proofs.MomentLemmas.{one_place, same_place, by_test, in_rest}

@@ -11,7 +11,7 @@ use Rattle.atomic_table.proofs.Lists.{set_again}
 use Rattle.ic_unsafe_ref.specs.declared.place.Place.{Place}
 use Rattle.ic_unsafe_ref.specs.Places.{index_of}
 use Rattle.ic_unsafe_ref.proofs.PlaceLemmas.{same_index}
-use Rattle.ic_lock_free_stack.specs.Ends.{first}
+use Rattle.ic_lock_free_stack.specs.Prelude.{first, Moment, entry, nowhere, with_holder, is_nowhere, is_with, same, is_in, IsOnce, in_stack, moves, after, Fits, holds, pushes_and_takes, most_steps, link_to, word_at, head_at, Spells, known_of, knows, knows_all, AreKnownTo, forgets, accounts_in, made, noted, sees, heads_in, IsKept, IsOneHistory}
 use Rattle.ic_lock_free_stack.specs.declared.step.Step.{Step}
 use Rattle.ic_lock_free_stack.specs.declared.step.Entry.{Entry}
 use Rattle.ic_lock_free_stack.specs.declared.step.Step.TheVariants.{Claim, Release, Push, TakeAll}
@@ -19,11 +19,6 @@ use Rattle.ic_lock_free_stack.specs.declared.held.Size.{Size}
 use Rattle.ic_lock_free_stack.specs.declared.held.Known.{Known}
 use Rattle.ic_lock_free_stack.specs.declared.held.Account.{Account}
 use Rattle.ic_lock_free_stack.specs.declared.held.HeldAccounts.{HeldAccounts}
-use Rattle.ic_lock_free_stack.specs.Moments.{Moment, entry, nowhere, with_holder, is_nowhere, is_with, same, is_in, IsOnce, in_stack, moves, after, Fits}
-use Rattle.ic_lock_free_stack.specs.Records.{holds, pushes_and_takes, most_steps}
-use Rattle.ic_lock_free_stack.specs.Words.{link_to, word_at, head_at, Spells, known_of, knows, knows_all, AreKnownTo, forgets}
-use Rattle.ic_lock_free_stack.specs.Held.{accounts_in, made, noted, sees}
-use Rattle.ic_lock_free_stack.specs.OneHistory.{heads_in, IsKept, IsOneHistory}
 use Rattle.ic_lock_free_stack.specs.Rule.{Rule, Mine}
 use Rattle.ic_lock_free_stack.specs.Plays.{only, OfPlace, OfHead, claimed, released, looked, linked, tried, took_all, peeked, followed, Makes, Misses, Takes, Sees}
 use Rattle.ic_lock_free_stack.proofs.MomentLemmas.{holds_more, one_place, same_place, by_test, with_is, with_itself, nowhere_is, off_stacks, off_free, in_its_stack}

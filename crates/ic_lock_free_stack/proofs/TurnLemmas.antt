@@ -5,8 +5,7 @@ use Rattle.ic_unsafe_ref.specs.declared.place.Place.{Place}
 use Rattle.ic_lock_free_stack.specs.declared.stacks.Stacks.{Stacks}
 use Rattle.ic_lock_free_stack.specs.declared.stacks.Holder.{Holder}
 use Rattle.ic_lock_free_stack.specs.declared.stacks.Chain.{Chain}
-use Rattle.ic_lock_free_stack.specs.Ends.{first}
-use Rattle.ic_lock_free_stack.specs.Moments.{same, is_in}
+use Rattle.ic_lock_free_stack.specs.Prelude.{first, same, is_in}
 use Rattle.ic_lock_free_stack.specs.Holders.{Stays, IsOf, HasChain, IsNoChain, KeepsChains}
 use Rattle.ic_lock_free_stack.proofs.MomentLemmas.{by_test, one_place, in_here, in_rest}
 use Rattle.ic_lock_free_stack.proofs.HolderLemmas.{apart_in, empty_chain, one_sequence}

@@ -1,18 +1,16 @@
 -- The words at a moment, after one word has changed.
-use Rattle.std.proofs.Common.{◌≡◌, ◌≢◌, ℕ, ◌+◌, ◌<◌, eqb, true, false, true≢false, cond, ◌||◌, Some, None, List, [], ◌∷◌, ◌++◌, length, set, refl, sym, ap, ◌∙◌, subst, arith, eq-eqb, eqb-true}
-use Rattle.std.proofs.lemmas.List.{get_or-set_same, get_or-set_other}
+use Rattle.std.proofs.Common.{◌≡◌, ◌≢◌, ℕ, ◌+◌, ◌<◌, eqb, true, false, true≢false, cond, ◌||◌, Some, None, List, [], ◌∷◌, ◌++◌, length, set, refl, sym, ap, ◌∙◌, subst, arith, eq-eqb, eqb-true, get_or-set_same, get_or-set_other}
 use mathlib.Core.Logic.{dite}
 use native.Mathlib.Decide.{ℕ_discrete}
 use Rattle.ic_unsafe_ref.specs.declared.place.Place.{Place}
 use Rattle.ic_unsafe_ref.specs.Places.{index_of}
 use Rattle.ic_unsafe_ref.proofs.PlaceLemmas.{same_index}
-use Rattle.ic_lock_free_stack.specs.Ends.{first}
+use Rattle.ic_lock_free_stack.specs.Prelude.{first, IsSound}
 use Rattle.ic_lock_free_stack.specs.declared.step.Step.TheVariants.{Push, TakeAll}
 use Rattle.ic_lock_free_stack.specs.declared.held.Size.{Size}
 use Rattle.ic_lock_free_stack.specs.declared.held.Known.{Known}
 use Rattle.ic_lock_free_stack.specs.Moments.{Location, with_holder, in_stack, is_nowhere, Moment, same, is_in, after}
 use Rattle.ic_lock_free_stack.specs.Words.{link_to, word_at, head_at, AreLinked, link_or, AreLinkedTo, Spells, known_of, knows, knows_all, AreKnownTo, forgets}
-use Rattle.ic_lock_free_stack.specs.OneHistory.{IsSound}
 use Rattle.ic_lock_free_stack.proofs.MomentLemmas.{one_place, same_place, apart_place, by_test, by_case, off_stacks, in_both, in_here, in_rest}
 
 -- if a word changes that is not the word of a member, the members stay linked

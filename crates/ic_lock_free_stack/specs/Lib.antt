@@ -9,3 +9,4 @@ pub mod Plays
 pub mod Holders
 pub mod Counts
 pub mod Orders
+pub mod Prelude

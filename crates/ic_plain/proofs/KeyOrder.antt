@@ -1,21 +1,13 @@
 -- A caller needs these lemmas about trees in the order of their keys. They say what a search finds, and that the order stays after an insert and a removal.
-use Rattle.std.proofs.Common.{◌≡◌, ◌≢◌, Bool, true, false, cond, Option, Some, None, IsSome, not, List, [], ◌∷◌, ◌++◌, map, drop, refl, sym, ap, ◌∙◌, subst, true≢false}
+use Rattle.std.proofs.Common.{◌≡◌, ◌≢◌, Bool, true, false, cond, Option, Some, None, IsSome, not, List, [], ◌∷◌, ◌++◌, map, drop, refl, sym, ap, ◌∙◌, subst, true≢false, is_gt, Ordering, Less, Equal, Greater}
 use Rattle.std.proofs.lemmas.List.Elements.{filter_map-append}
 use Rattle.std.specs.Cmp.{IsTotalOrder, upto}
 use Rattle.std.specs.List.{cons_option, filter}
-use Rattle.std.specs.Ordering.{is_gt}
-use Rattle.std.specs.declared.cmp.Ordering.{Ordering}
-use Rattle.std.specs.declared.cmp.Ordering.TheVariants.{Less, Equal, Greater}
 use Rattle.ic_link_ops.specs.Prelude.{Place, Objects, Places, object_at, join, insert, first, last, but_last, Table, HasMember, ArePlaced, RepresentsPlaced, values_at}
-use Rattle.ic_unsafe_ref.proofs.Placing.{others_placed}
+use Rattle.ic_link_ops.proofs.Prelude.{others_placed, all_back, all_with, all_without, stand_beside, vacant_absent, first_is, none_not, some_same, split_last}
 use Rattle.ic_link_ops.specs.RedBlackTree.{Node, Represents}
-use Rattle.ic_link_ops.proofs.Each.{all_back, all_with, all_without}
-use Rattle.ic_link_ops.proofs.PlacedValues.{stand_beside, vacant_absent}
-use Rattle.ic_link_ops.proofs.SequenceLemmas.{first_is, none_not, some_same, split_last}
 use Rattle.ic_link_ops.proofs.RepresentedTrees.{represents_kept, represents_nothing}
-use Rattle.ic_rbtree.specs.Borders.{Finds, IsBorder, IsLowerBorder, IsSorted, IsSortedFor, at_most_at, equal_at, less_at}
-use Rattle.ic_rbtree.specs.Comparing.{compared, order_of, own_order}
-use Rattle.ic_rbtree.specs.Ordered.{InsertsInOrder}
+use Rattle.ic_rbtree.specs.Prelude.{Finds, IsBorder, IsLowerBorder, IsSorted, IsSortedFor, at_most_at, equal_at, less_at, compared, order_of, own_order, InsertsInOrder}
 use Rattle.ic_rbtree.specs.Tree.{adapter_of, root_of}
 use Rattle.ic_rbtree.specs.declared.tree.RBTree.{RBTree}
 use Rattle.ic_rbtree.specs.declared.keys.key_adapter.Bound.TheVariants.{Included}

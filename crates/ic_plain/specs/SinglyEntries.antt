@@ -1,22 +1,20 @@
 -- These definitions are about the links of the plain table of singly linked lists.
-use Rattle.std.specs.Prelude.{List, Bool, ⊤}
-use Rattle.ic_link_ops.specs.Prelude.{Place, Table}
+use Rattle.std.specs.Prelude.{ℕ, List, Bool, ⊤}
+use Rattle.ic_link_ops.specs.Prelude.{Place, Table, table, linked_by, wide}
 use Rattle.ic_link_ops.specs.declared.link.Link.{Link}
 use Rattle.ic_link_ops.specs.declared.one_word.OneWord.{OneWord}
 use Rattle.ic_link_ops.specs.declared.singly_linked_list.Singly.{Singly}
 use Rattle.ic_link_ops.specs.declared.table.PlainTable.{PlainTable}
 use Rattle.ic_link_ops.specs.OneWord.{no_word, has_word, next_word_of}
-use Rattle.ic_link_ops.specs.PlainTables.{table, linked_by}
-use Rattle.ic_link_ops.specs.Widths.{wide}
 use Rattle.ic_link_ops.specs.Readings.{successor_of}
 use Rattle.ic_link_ops.specs.SinglyLinkedList.{Front, Represents, RepresentsSome}
 
 -- the link of a singly linked list. `SinglyLinkOps` is a table of such links
 abbrev pub SinglyLink : Type 0
-SinglyLink = Link (OneWord Singly) ⊤
+SinglyLink = Link (OneWord Singly ℕ) ⊤
 
 abbrev pub SinglyLinkOps : Type 0 → Type 0
-SinglyLinkOps A = PlainTable (OneWord Singly) A ⊤
+SinglyLinkOps A = PlainTable (OneWord Singly ℕ) A ⊤
 
 -- whether a link is that of a linked place
 abbrev pub is_linked : SinglyLink → Bool

@@ -3,22 +3,10 @@ use Rattle.std.specs.Prelude.{⊤, Option, Bool, not, List, ◌∷◌, ◌++◌,
 use Rattle.std.specs.List.{filter}
 use Rattle.std.specs.declared.cmp.Ordering.{Ordering}
 use Rattle.ic_link_ops.specs.Prelude.{Place, Objects, Table, RepresentsPlaced, values_at}
-use Rattle.ic_link_ops.specs.declared.link.Link.{Link}
-use Rattle.ic_link_ops.specs.declared.three_narrow_words.ThreeNarrowWords.{ThreeNarrowWords}
 use Rattle.ic_link_ops.specs.RedBlackTree.{Node, Represents}
-use Rattle.ic_link_ops.specs.ThreeNarrowWords.{node_in}
 use Rattle.ic_rbtree.specs.declared.tree.RBTree.{RBTree}
-use Rattle.ic_rbtree.specs.Borders.{IsSorted, at_most_at, equal_at, less_at}
-use Rattle.ic_rbtree.specs.Comparing.{compared, order_of, own_order}
-use Rattle.ic_rbtree.specs.PlainTrees.{node_by}
+use Rattle.ic_rbtree.specs.Prelude.{IsSorted, at_most_at, equal_at, less_at, compared, order_of, own_order}
 use Rattle.ic_rbtree.specs.Tree.{adapter_of, root_of}
-
--- the link of a tree, made of three words of 4 bytes. `narrow_node_of` is the node of the tree that a link stores
-abbrev pub NarrowTreeLink : Type 0
-NarrowTreeLink = Link ThreeNarrowWords ⊤
-
-abbrev pub narrow_node_of : NarrowTreeLink → Node
-narrow_node_of = node_by node_in
 
 module _ {T K : Type 0} (cmp : K → K → Ordering) (key : T → K) where
   -- some sequence is represented, and an object is at each of its members. The keys of these objects are in order: no key is less than the key before

@@ -1,23 +1,20 @@
 -- These definitions are about the links of the plain table of XOR lists.
-use Rattle.std.specs.Prelude.{List, Bool, ⊤}
-use Rattle.ic_link_ops.specs.Prelude.{Place, Table}
+use Rattle.std.specs.Prelude.{ℕ, List, Bool, ⊤}
+use Rattle.ic_link_ops.specs.Prelude.{Place, Table, Ends, table, linked_by, wide}
 use Rattle.ic_link_ops.specs.declared.link.Link.{Link}
 use Rattle.ic_link_ops.specs.declared.one_word.OneWord.{OneWord}
 use Rattle.ic_link_ops.specs.declared.xor_linked_list.Xor.{Xor}
 use Rattle.ic_link_ops.specs.declared.table.PlainTable.{PlainTable}
-use Rattle.ic_link_ops.specs.Chains.{Ends}
 use Rattle.ic_link_ops.specs.OneWord.{no_word, has_word, next_word_of}
-use Rattle.ic_link_ops.specs.PlainTables.{table, linked_by}
-use Rattle.ic_link_ops.specs.Widths.{wide}
 use Rattle.ic_link_ops.specs.Readings.{HasXorNeighbors}
 use Rattle.ic_link_ops.specs.XorLinkedList.{Represents, RepresentsSome}
 
 -- the link of an XOR list. `XorLinkOps` is a table of such links
 abbrev pub XorLink : Type 0
-XorLink = Link (OneWord Xor) ⊤
+XorLink = Link (OneWord Xor ℕ) ⊤
 
 abbrev pub XorLinkOps : Type 0 → Type 0
-XorLinkOps A = PlainTable (OneWord Xor) A ⊤
+XorLinkOps A = PlainTable (OneWord Xor ℕ) A ⊤
 
 -- whether a link is that of a linked place
 abbrev pub is_linked : XorLink → Bool

@@ -13,10 +13,9 @@
 
 ghost use Rattle.std.specs.Prelude.{◌≡◌, ◌++◌, ◌∷◌, [], true, List, drop};
 ghost use Rattle.std.specs.Ordering.{nat_cmp};
-ghost use Rattle.ic_link_ops.specs.Prelude.{Place, is_placed, first, IsCovered, IsUnlinked, HasMember};
+ghost use Rattle.ic_link_ops.specs.Prelude.{Place, is_placed, first, IsCovered, IsUnlinked, HasMember, node_of};
 ghost use Rattle.ic_link_ops.specs.DoublyEntries.{is_linked, plain_table, PlainRepresents, PlainRepresentsSome};
 ghost use Rattle.ic_link_ops.specs.LinkedList.{Represents, RepresentsSome};
-ghost use Rattle.ic_link_ops.specs.ThreeWords.{node_of};
 ghost use Rattle.ic_rbtree.specs.PlainTrees as tree;
 ghost use Rattle.ic_rbtree.specs.Tree.{root_of};
 ghost use Rattle.ic_plain.specs.SortedTrees.{IsInOrder};

@@ -10,9 +10,9 @@
 //! linked_list::pop_front(&mut list, &mut links)           // the object
 //! ```
 
-ghost use Rattle.std.specs.Prelude.{◌≡◌, ◌↔◌, ◌∷◌, [], List, IsTrue, IfSome, IfNone, drop, ◌++◌};
-ghost use Rattle.ic_link_ops.specs.Prelude.{Place, first, last, but_last, IsCovered, IsUnlinked, LinksAlso, Unlinks, KeepsLinked, ChangesOnlyIn, HasMember};
-ghost use Rattle.ic_link_ops.specs.Chains.{empty_list, RepresentsChain, RepresentsSomeChain};
+ghost use Rattle.std.specs.Prelude.{◌≡◌, ◌↔◌, ◌∷◌, [], List, IsTrue, drop, ◌++◌};
+ghost use Rattle.ic_link_ops.specs.Prelude.{Place, first, last, but_last, at_front, at_back, IsCovered, IsUnlinked, Unlinks, ChangesOnlyIn, HasMember, empty_list, RepresentsChain, RepresentsSomeChain};
+ghost use Rattle.ic_plain.specs.ListEdits.{Pushes, Moves, Pops};
 
 use ic_chain::{BidirectionalLinks, DoubleEnded, ForwardLinks, LinkList, ListKind, NamesBoth};
 use ic_link_ops::{AcceptsUnlinked, LinkOps};
@@ -69,12 +69,7 @@ pub fn push_front<K: ForwardLinks<L>, T, L: AcceptsUnlinked>(
     requires covered { IsCovered (L.table links.old) object }
     requires unlinked { IsUnlinked L.linked (L.table links.old) object }
     requires shown { RepresentsSomeChain K.Between K.kept (L.table links.old) list.old }
-    ensures shown { (s : List Place) → RepresentsChain K.Between K.kept (L.table links.old) list.old s
-        → RepresentsChain K.Between K.kept (L.table links.new) list.new (object ∷ s) }
-    ensures shows { RepresentsSomeChain K.Between K.kept (L.table links.new) list.new }
-    ensures linked { LinksAlso L.linked (L.table links.old) (L.table links.new) object }
-    ensures frame { (s : List Place) → RepresentsChain K.Between K.kept (L.table links.old) list.old s
-        → ChangesOnlyIn (L.table links.old) (L.table links.new) (object ∷ s) }
+    ensures { Pushes (RepresentsChain K.Between K.kept) L.linked at_front (L.table links.old) list.old object (L.table links.new) list.new }
 {
     let _ = list.push_front(links, object); // proved: it is not linked
 }
@@ -89,12 +84,7 @@ pub fn push_back<K: DoubleEnded + ForwardLinks<L>, T, L: AcceptsUnlinked>(
     requires covered { IsCovered (L.table links.old) object }
     requires unlinked { IsUnlinked L.linked (L.table links.old) object }
     requires shown { RepresentsSomeChain K.Between K.kept (L.table links.old) list.old }
-    ensures shown { (s : List Place) → RepresentsChain K.Between K.kept (L.table links.old) list.old s
-        → RepresentsChain K.Between K.kept (L.table links.new) list.new (s ++ object ∷ []) }
-    ensures shows { RepresentsSomeChain K.Between K.kept (L.table links.new) list.new }
-    ensures linked { LinksAlso L.linked (L.table links.old) (L.table links.new) object }
-    ensures frame { (s : List Place) → RepresentsChain K.Between K.kept (L.table links.old) list.old s
-        → ChangesOnlyIn (L.table links.old) (L.table links.new) (object ∷ s) }
+    ensures { Pushes (RepresentsChain K.Between K.kept) L.linked at_back (L.table links.old) list.old object (L.table links.new) list.new }
 {
     let _ = list.push_back(links, object); // proved: it is not linked
 }
@@ -106,14 +96,7 @@ pub fn pop_front<K: ForwardLinks<L>, T, L: LinkOps>(
     links: &mut L,
 ) -> Option<UnsafeRef<T>>
     requires shown { RepresentsSomeChain K.Between K.kept (L.table links.old) list.old }
-    ensures answer { (s : List Place) → RepresentsChain K.Between K.kept (L.table links.old) list.old s → result ≡ first s }
-    ensures shown { (s : List Place) → RepresentsChain K.Between K.kept (L.table links.old) list.old s
-        → RepresentsChain K.Between K.kept (L.table links.new) list.new (drop 1 s) }
-    ensures shows { RepresentsSomeChain K.Between K.kept (L.table links.new) list.new }
-    ensures unlinked { IfSome result (λ object. Unlinks L.linked (L.table links.old) (L.table links.new) object) }
-    ensures empty { IfNone result ((list.new ≡ list.old) × (links.new ≡ links.old)) }
-    ensures frame { (s : List Place) → RepresentsChain K.Between K.kept (L.table links.old) list.old s
-        → ChangesOnlyIn (L.table links.old) (L.table links.new) s }
+    ensures { Pops (RepresentsChain K.Between K.kept) L.linked L.table first (drop 1) links.old list.old result links.new list.new }
 {
     list.pop_front(links)
 }
@@ -125,14 +108,7 @@ pub fn pop_back<K: DoubleEnded + BidirectionalLinks<L>, T, L: LinkOps>(
     links: &mut L,
 ) -> Option<UnsafeRef<T>>
     requires shown { RepresentsSomeChain K.Between K.kept (L.table links.old) list.old }
-    ensures answer { (s : List Place) → RepresentsChain K.Between K.kept (L.table links.old) list.old s → result ≡ last s }
-    ensures shown { (s : List Place) → RepresentsChain K.Between K.kept (L.table links.old) list.old s
-        → RepresentsChain K.Between K.kept (L.table links.new) list.new (but_last s) }
-    ensures shows { RepresentsSomeChain K.Between K.kept (L.table links.new) list.new }
-    ensures unlinked { IfSome result (λ object. Unlinks L.linked (L.table links.old) (L.table links.new) object) }
-    ensures empty { IfNone result ((list.new ≡ list.old) × (links.new ≡ links.old)) }
-    ensures frame { (s : List Place) → RepresentsChain K.Between K.kept (L.table links.old) list.old s
-        → ChangesOnlyIn (L.table links.old) (L.table links.new) s }
+    ensures { Pops (RepresentsChain K.Between K.kept) L.linked L.table last but_last links.old list.old result links.new list.new }
 {
     list.pop_back(links)
 }
@@ -163,12 +139,7 @@ pub fn move_to_front<K: DoubleEnded + NamesBoth<L>, T, L: LinkOps>(
     object: &UnsafeRef<T>,
 )
     requires member { HasMember (RepresentsChain K.Between K.kept (L.table links.old) list.old) object.now }
-    ensures shown { (front back : List Place) → RepresentsChain K.Between K.kept (L.table links.old) list.old (front ++ object.now ∷ back)
-        → RepresentsChain K.Between K.kept (L.table links.new) list.new (object.now ∷ (front ++ back)) }
-    ensures shows { RepresentsSomeChain K.Between K.kept (L.table links.new) list.new }
-    ensures linked { KeepsLinked L.linked (L.table links.old) (L.table links.new) }
-    ensures frame { (s : List Place) → RepresentsChain K.Between K.kept (L.table links.old) list.old s
-        → ChangesOnlyIn (L.table links.old) (L.table links.new) s }
+    ensures { Moves (RepresentsChain K.Between K.kept) L.linked at_front (L.table links.old) list.old object.now (L.table links.new) list.new }
 {
     list.move_to_front(links, object);
 }
@@ -181,12 +152,7 @@ pub fn move_to_back<K: DoubleEnded + NamesBoth<L>, T, L: LinkOps>(
     object: &UnsafeRef<T>,
 )
     requires member { HasMember (RepresentsChain K.Between K.kept (L.table links.old) list.old) object.now }
-    ensures shown { (front back : List Place) → RepresentsChain K.Between K.kept (L.table links.old) list.old (front ++ object.now ∷ back)
-        → RepresentsChain K.Between K.kept (L.table links.new) list.new ((front ++ back) ++ object.now ∷ []) }
-    ensures shows { RepresentsSomeChain K.Between K.kept (L.table links.new) list.new }
-    ensures linked { KeepsLinked L.linked (L.table links.old) (L.table links.new) }
-    ensures frame { (s : List Place) → RepresentsChain K.Between K.kept (L.table links.old) list.old s
-        → ChangesOnlyIn (L.table links.old) (L.table links.new) s }
+    ensures { Moves (RepresentsChain K.Between K.kept) L.linked at_back (L.table links.old) list.old object.now (L.table links.new) list.new }
 {
     list.move_to_back(links, object);
 }

@@ -13,7 +13,8 @@ ghost use Rattle.ic_link_ops.specs.RedBlackTree.{Represents, RepresentsSome};
 ghost use Rattle.ic_link_ops.specs.ThreeWords.{node_of};
 ghost use Rattle.ic_rbtree.specs.PlainTrees.{TreeLink};
 ghost use Rattle.ic_rbtree.specs.Tree.{adapter_of, root_of};
-ghost use Rattle.ic_plain.specs.SortedTrees.{IsInOrder, StaysInOrder, NarrowTreeLink, narrow_node_of, with_key, from_key, put_by_key};
+ghost use Rattle.ic_plain.specs.SortedTrees.{IsInOrder, StaysInOrder, with_key, from_key, put_by_key};
+ghost use Rattle.ic_plain.specs.TreeEdits.{PopsMember};
 
 use ic_cursors::{Bidirectional, CursorOps};
 use ic_link_ops::rbtree::RBTreeOps;
@@ -28,8 +29,6 @@ use std::alloc::Allocator;
 pub fn new<K: KeyAdapter>(adapter: K) -> RBTree<K>
     ensures empty { root_of result ≡ None }
     ensures sorted { (t : Table TreeLink) (objects : Placed K.Value) → IsInOrder K.Key.cmp K.key_of node_of t result objects }
-    ensures narrow_sorted { (t : Table NarrowTreeLink) (objects : Placed K.Value)
-        → IsInOrder K.Key.cmp K.key_of narrow_node_of t result objects }
     ensures adapter { adapter_of result ≡ adapter }
 {
     RBTree::new(adapter)
@@ -194,14 +193,7 @@ pub fn pop_front<K: KeyAdapter, L: RBTreeOps>(
     links: &mut L,
 ) -> Option<UnsafeRef<K::Value>>
     requires shown { RepresentsSome L.node (L.table links.old) (root_of tree.old) }
-    ensures answer { (s : List Place) → Represents L.node (L.table links.old) (root_of tree.old) s → result ≡ first s }
-    ensures shown { (s : List Place) → Represents L.node (L.table links.old) (root_of tree.old) s → Represents L.node (L.table links.new) (root_of tree.new) (drop 1 s) }
-    ensures shows { RepresentsSome L.node (L.table links.new) (root_of tree.new) }
-    ensures sorted { StaysInOrder K.Key.cmp K.key_of L.node (L.table links.old) tree.old (L.table links.new) tree.new }
-    ensures unlinked { IfSome result (λ object. Unlinks L.linked (L.table links.old) (L.table links.new) object) }
-    ensures empty { IfNone result ((tree.new ≡ tree.old) × (links.new ≡ links.old)) }
-    ensures adapter { adapter_of tree.new ≡ adapter_of tree.old }
-    ensures frame { (s : List Place) → Represents L.node (L.table links.old) (root_of tree.old) s → ChangesOnlyIn (L.table links.old) (L.table links.new) s }
+    ensures { PopsMember K.Key.cmp K.key_of L.node L.linked L.table first (drop 1) links.old tree.old result links.new tree.new }
 {
     let object = UnsafeRef::new(first(tree, &*links)?);
     remove(tree, links, &object);
@@ -216,14 +208,7 @@ pub fn pop_back<K: KeyAdapter, L: RBTreeOps>(
     links: &mut L,
 ) -> Option<UnsafeRef<K::Value>>
     requires shown { RepresentsSome L.node (L.table links.old) (root_of tree.old) }
-    ensures answer { (s : List Place) → Represents L.node (L.table links.old) (root_of tree.old) s → result ≡ last s }
-    ensures shown { (s : List Place) → Represents L.node (L.table links.old) (root_of tree.old) s → Represents L.node (L.table links.new) (root_of tree.new) (but_last s) }
-    ensures shows { RepresentsSome L.node (L.table links.new) (root_of tree.new) }
-    ensures sorted { StaysInOrder K.Key.cmp K.key_of L.node (L.table links.old) tree.old (L.table links.new) tree.new }
-    ensures unlinked { IfSome result (λ object. Unlinks L.linked (L.table links.old) (L.table links.new) object) }
-    ensures empty { IfNone result ((tree.new ≡ tree.old) × (links.new ≡ links.old)) }
-    ensures adapter { adapter_of tree.new ≡ adapter_of tree.old }
-    ensures frame { (s : List Place) → Represents L.node (L.table links.old) (root_of tree.old) s → ChangesOnlyIn (L.table links.old) (L.table links.new) s }
+    ensures { PopsMember K.Key.cmp K.key_of L.node L.linked L.table last but_last links.old tree.old result links.new tree.new }
 {
     let object = UnsafeRef::new(last(tree, &*links)?);
     remove(tree, links, &object);

@@ -4,14 +4,10 @@ use Rattle.std.specs.Prelude.{⊤}
 use Rattle.std.proofs.Common.{◌≡◌, ◌↔◌, ℕ, ◌^◌, ◌≤◌, leb, Bool, true, false, Result, Err, Option, None, Some, is_some, inl, inr, refl, sym, ap, ◌∙◌, arith}
 use Rattle.std.proofs.lemmas.Bool.{le-leb, false_from_ne_true}
 use Rattle.std.proofs.lemmas.Bool.Decides.{leb_tells}
-use Rattle.ic_link_ops.specs.Prelude.{Place, index_of, Objects, Places, Frees, object_at, is_placed, Table, IsCovered, IsUnlinked, LinksAlso, Unlinks}
-use Rattle.ic_unsafe_ref.proofs.PlaceLemmas.{same_or_not}
-use Rattle.ic_unsafe_ref.proofs.Placing.{placed_there, others_placed, gone_there, others_left}
+use Rattle.ic_link_ops.specs.Prelude.{Place, index_of, Objects, Places, Frees, object_at, is_placed, Table, IsCovered, IsUnlinked, LinksAlso, Unlinks, link_of, entries, table, linked_by, Width, nameable}
+use Rattle.ic_link_ops.proofs.Prelude.{same_or_not, placed_there, others_placed, gone_there, others_left}
 use Rattle.ic_link_ops.specs.declared.table.PlainTable.{PlainTable}
 use Rattle.ic_link_ops.specs.EntryLaws.{linked_in_range}
-use Rattle.ic_link_ops.specs.Links.{link_of}
-use Rattle.ic_link_ops.specs.PlainTables.{entries, table, linked_by}
-use Rattle.ic_link_ops.specs.Widths.{Width, nameable}
 use Rattle.ic_pool.specs.declared.place_error.PlaceError.{PlaceError}
 use Rattle.ic_pool.specs.declared.place_error.PlaceError.TheVariants.{NoPlaceLeft, OutOfMemory}
 use Rattle.ic_pool.specs.Pooled.{Grows, IsPooled}

@@ -51,8 +51,7 @@ pub trait Tables {
 }
 
 impl<W: Words, A: Allocator, V: LinkValue> Tables for PlainTable<W, A, V> {
-    ghost use Rattle.ic_link_ops.specs.Tables.{IsCovered, IsUnlinked};
-    ghost use Rattle.ic_link_ops.specs.PlainTables.{table_beside, linked_by};
+    ghost use Rattle.ic_link_ops.specs.Prelude.{IsCovered, IsUnlinked, table_beside, linked_by};
     ghost use Rattle.ic_link_ops.specs.Widths.{most_places};
     ghost use Rattle.ic_pool.specs.Pooled.{Grows, grows_room, grows_free, grows_itself};
 

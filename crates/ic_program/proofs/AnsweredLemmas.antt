@@ -1,17 +1,13 @@
 -- How the program's functions together answer lines: which lines are answered, and what remains.
-use Rattle.std.proofs.Common.{◌≡◌, ℕ, ◌+◌, ◌<◌, ◌⊎◌, inl, inr, List, [], ◌∷◌, ◌++◌, length, drop, Option, Some, None, Result, Ok, Err, IsOk, IsErr, IsErrAnd, IfErr, OnOk, true, false, cond, option_map, refl, sym, ap, ◌∙◌, subst, append_assoc, append-nil, length-append, arith}
+use Rattle.std.proofs.Common.{◌≡◌, ℕ, ◌+◌, ◌<◌, ◌⊎◌, inl, inr, List, [], ◌∷◌, ◌++◌, length, drop, Option, Some, None, Result, Ok, Err, IsOk, IsErr, IsErrAnd, IfErr, OnOk, true, false, cond, option_map, refl, sym, ap, ◌∙◌, subst, append_assoc, append-nil, length-append, arith, nat_cmp}
 use Rattle.std.specs.Prelude.{⊤, IfSome}
-use Rattle.std.specs.Ordering.{nat_cmp}
 use Rattle.std.specs.Io.KnownBytes.{Appends, Keeps, append_known}
 use Rattle.std.proofs.KnownBytes.{Appends-nil, Appends-trans, Appends-kept, Keeps-refl}
 use Rattle.std.proofs.lemmas.List.Concat.{flat_map-append}
 use Rattle.std.proofs.lemmas.Option.{same_Some}
 use Rattle.std.proofs.lemmas.Cmp.{nat_cmp_total}
 use Rattle.ic_world.specs.declared.call.Command.{Command}
-use Rattle.ic_world.specs.Calls.{Reply}
-use Rattle.ic_world.specs.Family.{Family}
-use Rattle.ic_world.specs.Sound.{IsSound}
-use Rattle.ic_world.specs.Step.{Step}
+use Rattle.ic_world.specs.Prelude.{Reply, Family, IsSound, Step}
 use Rattle.ic_world_laws.specs.Runs.{IsLawful}
 use Rattle.ic_world_laws.proofs.RunLaws.{join_lawful, is_lawful}
 use Rattle.ic_program.specs.declared.own_key.OwnKey.{OwnKey}

@@ -1,6 +1,5 @@
 -- How the runs of the program end.
-use Rattle.std.proofs.Common.{◌≡◌, ℕ, ◌+◌, Bool, List, [], ◌++◌, length, Option, Some, None, Result, Ok, Err, IsErr, IsErrAnd, OnSome, IfSome, true, false, cond, arith, refl, sym, ap, ◌∙◌, subst, append-nil, inl, inr}
-use Rattle.std.specs.Prelude.{◌⊎◌, IsSome, IsTrue, IfOk}
+use Rattle.std.proofs.Common.{◌≡◌, ℕ, ◌+◌, Bool, List, [], ◌++◌, length, Option, Some, None, Result, Ok, Err, IsErr, IsErrAnd, OnSome, IfSome, true, false, cond, arith, refl, sym, ap, ◌∙◌, subst, append-nil, inl, inr, ◌⊎◌, IsSome, IsTrue, IfOk}
 use Rattle.std.specs.FinMap as map
 use Rattle.std.specs.Str.Lines.{lines}
 use Rattle.std.proofs.KnownBytes.{Appends-trans, Appends-kept, Keeps-refl}

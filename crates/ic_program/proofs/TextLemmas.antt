@@ -1,7 +1,6 @@
 -- How the lines and words of a text are found byte by byte.
-use Rattle.std.proofs.Common.{◌≡◌, ◌≢◌, ℕ, ◌-◌, Bool, true, false, cond, List, [], ◌∷◌, ◌++◌, length, take, drop, filter, refl, sym, ap, ap₂, ◌∙◌, arith, nat_lt, ◌==◌, Option, Some, None, MatchOption, Bor}
+use Rattle.std.proofs.Common.{◌≡◌, ◌≢◌, ℕ, ◌-◌, Bool, true, false, cond, List, [], ◌∷◌, ◌++◌, length, take, drop, filter, refl, sym, ap, ap₂, ◌∙◌, arith, nat_lt, ◌==◌, Option, Some, None, MatchOption, Bor, take_all, length-drop}
 use Rattle.std.specs.List.{slice_split, onto_first}
-use Rattle.std.proofs.lemmas.List.{take_all, length-drop}
 use Rattle.std.proofs.lemmas.Bool.{cond-true, cond-false, cond_both, or_left, or_right, or_from, or_parts, eqb-true, lt-ltb}
 use Rattle.std.proofs.lemmas.List.Splits.{slice_split-cons_yes, slice_split-cons_no}
 use Rattle.ic_program.specs.Grammar.{words_of}

@@ -5,8 +5,7 @@ use Rattle.std.specs.Str.{IsUtf8}
 use Rattle.std.specs.Str.Lines.{lines}
 use Rattle.std.specs.Io.KnownBytes.{Appends, Keeps, append_known}
 use Rattle.ic_world.specs.declared.call.Command.{Command}
-use Rattle.ic_world.specs.Calls.{Reply}
-use Rattle.ic_world.specs.Family.{Family}
+use Rattle.ic_world.specs.Prelude.{Reply, Family}
 use Rattle.ic_world_laws.specs.Runs.{IsLawful, AreLawful}
 use Rattle.ic_program.specs.declared.own_key.OwnKey.{OwnKey}
 use Rattle.ic_program.specs.declared.fault.Fault.{Fault}

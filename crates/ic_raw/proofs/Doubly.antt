@@ -1,8 +1,6 @@
 -- These lemmas say what the calls of a doubly linked list read from the words, if the words represent a list.
 use Rattle.std.proofs.Common.{◌≡◌, Option, Some, None, List, [], ◌∷◌, ◌++◌, true, refl, sym, ◌∙◌, append_assoc, append-nil, subst}
-use Rattle.ic_link_ops.specs.Prelude.{Place, Cut, join, first, last, Table}
-use Rattle.ic_link_ops.specs.Chains.{Ends}
-use Rattle.ic_link_ops.specs.LinkedList.{IsBetween}
+use Rattle.ic_link_ops.specs.Prelude.{Place, Cut, join, first, last, Table, Ends, IsBetween}
 use Rattle.ic_link_ops.proofs.SequenceLemmas.{first_of_back, last_of_front, last_of_push, last_or-append, none_not, nothing_first}
 use Rattle.ic_link_ops.proofs.RepresentedLists.{before_gap, after_gap, represents_middle}
 use Rattle.ic_link_ops.proofs.DoublyLists.{between_linked}
@@ -12,8 +10,7 @@ use Rattle.ic_raw.specs.declared.gap.GapSide.{GapSide}
 use Rattle.ic_raw.specs.declared.gap.GapSide.TheVariants.{After, Before}
 use Rattle.ic_raw.specs.declared.words.RawEnds.{RawEnds}
 use Rattle.ic_raw.specs.LinkWords.{LinkWords, lent_table, neighbors, table_of}
-use Rattle.ic_raw.specs.Gaps.{IsBeside, IsNoneOrLinked, gap_of, outermost}
-use Rattle.ic_raw.specs.Tables.{raw_entries}
+use Rattle.ic_raw.specs.Prelude.{IsBeside, IsNoneOrLinked, gap_of, outermost, raw_entries}
 use Rattle.ic_raw.specs.Doubly.{Represents, RepresentsList, Split, SplitsBeside, TellsGap, around, ends_of, gap_from, next_from, prev_from}
 use Rattle.ic_raw.proofs.Lists.{before_stands, after_stands, kept}
 use Rattle.ic_raw.proofs.LinkViews.{splits_back}

@@ -1,12 +1,9 @@
 -- These lemmas follow a walk along a doubly linked list. The walk begins at the first member, and each place on it names the place before it.
 use Rattle.std.proofs.Common.{◌≡◌, ◌≤◌, Option, Some, None, List, [], ◌∷◌, ◌++◌, length, true, false, refl, sym, ap, ◌∙◌, arith}
-use Rattle.ic_link_ops.specs.Prelude.{Place, index_of, first_or, first, last, IsAbsent, IsDistinct, Table, IsCovered}
+use Rattle.ic_link_ops.specs.Prelude.{Place, index_of, first_or, first, last, IsAbsent, IsDistinct, Table, IsCovered, nameable, IsBetween}
 use Rattle.ic_link_ops.specs.Chains.{Ends, IsChain}
 use Rattle.ic_link_ops.specs.EntryLaws.{linked_in_range}
-use Rattle.ic_link_ops.specs.Widths.{nameable}
-use Rattle.ic_link_ops.specs.LinkedList.{IsBetween}
-use Rattle.ic_link_ops.proofs.SequenceLemmas.{none_not, first_or-append, last_of_push}
-use Rattle.ic_link_ops.proofs.Chains.{chain_glue, chain_one}
+use Rattle.ic_link_ops.proofs.Prelude.{none_not, first_or-append, last_of_push, chain_glue, chain_one}
 use Rattle.ic_link_ops.proofs.DoublyLists.{between_one}
 use Rattle.ic_raw.specs.declared.table.RawTable.{RawTable}
 use Rattle.ic_raw.specs.LinkWords.{LinkWords, lent_table, neighbors}

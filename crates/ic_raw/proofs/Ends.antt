@@ -1,7 +1,6 @@
 -- These lemmas say which ends a list has after a splice or a cut.
 use Rattle.std.proofs.Common.{◌≡◌, Option, Some, None, refl, sym, subst}
-use Rattle.ic_link_ops.specs.Prelude.{Place, Table}
-use Rattle.ic_link_ops.specs.Chains.{Ends, TurnsEnds, end_of}
+use Rattle.ic_link_ops.specs.Prelude.{Place, Table, Ends, TurnsEnds, end_of}
 use Rattle.ic_link_ops.proofs.SequenceLemmas.{none_not}
 use Rattle.ic_chain.specs.SplitEnds.{SplitsEnds}
 use Rattle.ic_raw.specs.declared.gap.Gap.{Gap}

@@ -1,11 +1,8 @@
 -- These lemmas say how the entries of a table are read after words are written.
-use Rattle.std.proofs.Common.{◌≡◌, ℕ, List, Bool, true, false, Option, slice_set, slice_index_or, ◌+◌, ◌%◌, ◌<◌, length, nat_eq, eqb-true, eq-eqb, sym, ap, ◌∙◌, arith}
-use Rattle.std.proofs.lemmas.List.{length-set}
-use Rattle.ic_link_ops.specs.Prelude.{Place, index_of, word_of, place_at, ChangesOnly, IsNameable}
+use Rattle.std.proofs.Common.{◌≡◌, ℕ, List, Bool, true, false, Option, slice_set, slice_index_or, ◌+◌, ◌%◌, ◌<◌, length, nat_eq, eqb-true, eq-eqb, sym, ap, ◌∙◌, arith, length-set}
+use Rattle.ic_link_ops.specs.Prelude.{Place, index_of, word_of, place_at, ChangesOnly, IsNameable, entry_at, table_with, Width, narrow, HasRoom, nameable}
 use Rattle.ic_unsafe_ref.specs.PlaceWords.{IsWord}
 use Rattle.ic_unsafe_ref.proofs.PlaceLemmas.{place_at_word, word_at, word_fits}
-use Rattle.ic_link_ops.specs.PlainTables.{entry_at, table_with}
-use Rattle.ic_link_ops.specs.Widths.{Width, narrow, HasRoom, nameable}
 use Rattle.ic_link_ops.specs.EntryLaws.{linked_in_range}
 use Rattle.ic_link_ops.proofs.EntryLemmas.{entry_same, entry_read, others_same}
 use Rattle.ic_link_ops.proofs.SeenEntries.{others_seen, entry_set, entry_seen}

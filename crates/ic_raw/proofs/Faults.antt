@@ -1,13 +1,8 @@
 -- These lemmas say why a call is refused. A call tests one place after the other.
 use Rattle.std.proofs.Common.{◌≡◌, ◌≢◌, ℕ, zero, suc, Bool, cond, nat_lt, List, [], ◌∷◌, Option, Some, None, refl, sym, ap, subst, ◌∙◌}
-use Rattle.ic_link_ops.specs.Prelude.{Place, index_of, Table}
-use Rattle.ic_link_ops.specs.PlainTables.{table_of}
+use Rattle.ic_link_ops.specs.Prelude.{Place, index_of, Table, table_of, Width, nameable}
 use Rattle.ic_raw.specs.declared.table.RawTable.{RawTable}
-use Rattle.ic_raw.specs.Answers.{refusal}
-use Rattle.ic_raw.specs.Gaps.{IsNoneOrLinked}
-use Rattle.ic_link_ops.specs.Widths.{Width, nameable}
-use Rattle.ic_raw.specs.Tables.{nameable_table, member_fault, place_fault}
-use Rattle.ic_raw.specs.Words.{place_of}
+use Rattle.ic_raw.specs.Prelude.{refusal, IsNoneOrLinked, nameable_table, member_fault, place_fault, place_of}
 use Rattle.ic_raw.proofs.Numbers.{none_named}
 
 -- if the first fault in the list is not `OK`, a refused call returns it

@@ -2,23 +2,17 @@
 use Rattle.std.proofs.Common.{◌≡◌, ◌≢◌, ◌<◌, ◌≤◌, ◌+◌, ℕ, zero, suc, inl, inr, Bool, true, Option, Some, None, List, [], ◌∷◌, ◌++◌, drop, length, length-append, refl, sym, ap, ◌∙◌, subst, arith}
 use Rattle.std.specs.List.{AllByRecursion}
 use Rattle.std.proofs.lemmas.Bool.Decides.{eqb_tells}
-use Rattle.ic_link_ops.specs.Prelude.{Place, index_of, first_or, IsAbsent, IsDistinct, IsDisjoint, Table}
+use Rattle.ic_link_ops.specs.Prelude.{Place, index_of, first_or, IsAbsent, IsDistinct, IsDisjoint, Table, IsFollowed, list_from, successor_at, members_from}
 use Rattle.ic_link_ops.specs.Chains.{IsChain}
 use Rattle.ic_link_ops.specs.EntryLaws.{linked_in_range}
-use Rattle.ic_link_ops.specs.SinglyLinkedList.{IsFollowed, list_from, successor_at, members_from}
-use Rattle.ic_link_ops.proofs.Chains.{chain_glue}
-use Rattle.ic_link_ops.proofs.Each.{all_back, all_both, all_map}
-use Rattle.ic_link_ops.proofs.SequenceLemmas.{first_or-append, distinct_splice, disjoint_sym}
+use Rattle.ic_link_ops.proofs.Prelude.{chain_glue, all_back, all_both, all_map, first_or-append, distinct_splice, disjoint_sym, few_places}
 use Rattle.ic_link_ops.proofs.SinglyLists.{members_represented}
-use Rattle.ic_link_ops.proofs.Walks.{few_places}
 use Rattle.ic_check.specs.Checked.{IsRepresented, RepresentsNone}
 use Rattle.ic_raw.specs.declared.words.RawFront.{RawFront}
 use Rattle.ic_raw.specs.declared.words.RawOne.{RawOne}
 use Rattle.ic_raw.specs.CheckCalls.{BelongsIn, HoldsByHash, IsOwnChain, members_of}
-use Rattle.ic_raw.specs.Hash.{slot_of, bucket_at}
-use Rattle.ic_raw.specs.Keys.{key_of}
+use Rattle.ic_raw.specs.Prelude.{slot_of, bucket_at, key_of, is_linked_one, no_word}
 use Rattle.ic_raw.specs.Singly.{Represents, front_of, list_of, successor, table_of}
-use Rattle.ic_raw.specs.Words.{is_linked_one, no_word}
 use Rattle.ic_raw.proofs.HashWalks.{Comes, comes_parts}
 use Rattle.ic_raw.proofs.Singly.{ended_distinct}
 

@@ -2,14 +2,10 @@
 use Rattle.std.proofs.Common.{◌≡◌, ◌≢◌, ◌≤◌, ◌-◌, ℕ, inl, inr, Bool, true, false, Option, Some, None, List, [], ◌∷◌, ◌++◌, drop, length, length-append, append_assoc, refl, sym, ap, ◌∙◌, subst, arith}
 use Rattle.std.specs.List.{AllByRecursion}
 use Rattle.std.proofs.lemmas.Bool.Decides.{eqb_tells}
-use Rattle.ic_link_ops.specs.Prelude.{Place, first, last, but_last, IsDistinct, IsMember, Table, IsCovered, IsLinked}
+use Rattle.ic_link_ops.specs.Prelude.{Place, first, last, but_last, IsDistinct, IsMember, Table, IsCovered, IsLinked, Front, IsFollowed, list_from, successor_at, entry_at}
 use Rattle.ic_link_ops.specs.Chains.{IsChain}
-use Rattle.ic_link_ops.specs.SinglyLinkedList.{Front, IsFollowed, list_from, successor_at}
-use Rattle.ic_link_ops.specs.PlainTables.{entry_at}
-use Rattle.ic_link_ops.proofs.Chains.{chain_cut}
-use Rattle.ic_link_ops.proofs.Clearing.{next_between, releases_all}
+use Rattle.ic_link_ops.proofs.Prelude.{chain_cut, next_between, releases_all, represents_middle}
 use Rattle.ic_link_ops.proofs.SequenceLemmas.{distinct_right, first_is, same_gap, last_of_push, but_last_of_push, split_member}
-use Rattle.ic_link_ops.proofs.RepresentedLists.{represents_middle}
 use Rattle.ic_link_ops.proofs.SinglyLists.{represented_length}
 use Rattle.ic_hash_table.specs.Searches.{is_place, Finds}
 use Rattle.ic_hash_table.proofs.ChainWalks.{HasPassed, passed_none, passed_more}
@@ -17,10 +13,8 @@ use Rattle.ic_hash_table.proofs.FoundMembers.{place_absent}
 use Rattle.ic_raw.specs.declared.words.RawOne.{RawOne}
 use Rattle.ic_raw.specs.declared.table.RawTable.{RawTable}
 use Rattle.ic_raw.specs.Hash.{has_key, NamesKey}
-use Rattle.ic_raw.specs.Keys.{key_of}
+use Rattle.ic_raw.specs.Prelude.{key_of, raw_entries, is_linked_one, no_word, HasNumber}
 use Rattle.ic_raw.specs.Singly.{LeadsFrom, Represents, lent_table, successor}
-use Rattle.ic_raw.specs.Tables.{raw_entries}
-use Rattle.ic_raw.specs.Words.{is_linked_one, no_word, HasNumber}
 use Rattle.ic_raw.proofs.Singly.{after_any, ended_distinct, leads_on, ends_there}
 
 -- THE WALK HAS COME to `current`, past members of s that fail the test `is`. The last of these members is `before`. At most `left` members of s

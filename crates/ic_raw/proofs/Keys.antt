@@ -1,23 +1,16 @@
 -- These lemmas say which members a search by a key finds.
-use Rattle.std.proofs.Common.{◌≡◌, ◌≢◌, ℕ, ◌+◌, ◌<◌, ◌≤◌, Bool, true, false, not, cond, Option, Some, None, List, [], ◌∷◌, ◌++◌, length, refl, sym, ap, ◌∙◌, subst, arith}
-use Rattle.std.proofs.lemmas.Bool.{ltb-true, lt-ltb, le-ltb}
-use Rattle.std.specs.Ordering.{is_eq, is_lt, is_ge}
-use Rattle.std.specs.declared.cmp.Ordering.{Ordering}
-use Rattle.ic_link_ops.specs.Prelude.{Place, index_of, is_placed, at_indexes, Cut, join, first, Table, IsCovered}
+use Rattle.std.proofs.Common.{◌≡◌, ◌≢◌, ℕ, ◌+◌, ◌<◌, ◌≤◌, Bool, true, false, not, cond, Option, Some, None, List, [], ◌∷◌, ◌++◌, length, refl, sym, ap, ◌∙◌, subst, arith, ltb-true, lt-ltb, le-ltb, is_eq, is_lt, is_ge, Ordering}
+use Rattle.ic_link_ops.specs.Prelude.{Place, index_of, is_placed, at_indexes, Cut, join, first, Table, IsCovered, entry_at, Tree}
 use Rattle.ic_unsafe_ref.proofs.IndexLemmas.{placed_in_range}
 use Rattle.ic_link_ops.specs.declared.side.Side.{Side}
 use Rattle.ic_link_ops.specs.declared.side.Side.TheVariants.{Left, Right}
 use Rattle.ic_link_ops.proofs.SequenceLemmas.{some_same, none_not}
 use Rattle.ic_link_ops.specs.Frames.{child_on}
-use Rattle.ic_link_ops.specs.PlainTables.{entry_at}
 use Rattle.ic_link_ops.specs.RedBlackTree as trees
-use Rattle.ic_link_ops.specs.Trees.{Tree}
-use Rattle.ic_rbtree.specs.Closed.{AreIn, IsClosed}
+use Rattle.ic_rbtree.specs.Prelude.{AreIn, IsClosed, IsBorder, Finds, less_at, at_most_at, if_passes, equal_at, goes_left}
 use Rattle.ic_rbtree.proofs.Closed.{in_there}
 use Rattle.ic_rbtree.proofs.Closed as sets
-use Rattle.ic_rbtree.specs.Borders.{IsBorder, Finds, less_at, at_most_at, if_passes, equal_at}
 use Rattle.ic_rbtree.specs.Descents as descents
-use Rattle.ic_rbtree.specs.Comparing.{goes_left}
 use Rattle.ic_rbtree.specs.Descents.{gap_in, passed, side_of}
 use Rattle.ic_rbtree.specs.declared.keys.descent.Descent.{Descent}
 use Rattle.ic_rbtree.proofs.Gaps.{gap_join, gap_border}
@@ -26,14 +19,11 @@ use Rattle.ic_raw.specs.declared.words.RawThree.{RawThree}
 use Rattle.ic_raw.specs.declared.search.InsertPos.{InsertPos}
 use Rattle.ic_raw.specs.declared.search.Target.{Target}
 use Rattle.ic_raw.specs.declared.search.Target.TheVariants.{Equal, AtLeast, AtMost}
-use Rattle.ic_raw.specs.Gaps.{IsNoneOrLinked}
+use Rattle.ic_raw.specs.Prelude.{IsNoneOrLinked, seen, seen_node, has_place, raw_entries, is_linked_three, no_tree_words}
 use Rattle.ic_raw.specs.Keys.{keys_fault, at_root, past, EndsBelow, EndsIn, HasTurned, IsTarget, LeadsDown, NamesTarget, SearchEnds}
 use Rattle.ic_raw.specs.declared.nodes.Seen.{Seen}
-use Rattle.ic_raw.specs.Seen.{seen, seen_node, has_place}
 use Rattle.ic_raw.specs.declared.table.RawTable.{RawTable}
-use Rattle.ic_raw.specs.Tables.{raw_entries}
 use Rattle.ic_raw.specs.Tree.{Represents, IsInsertPos, lent_table, table_of}
-use Rattle.ic_raw.specs.Words.{is_linked_three, no_tree_words}
 use Rattle.ic_raw.proofs.Trees.{beside_stands, child_in, insert_pos_told, seen_represents}
 
 -- if there are at least as many keys as places, each place of the table has a key

@@ -1,21 +1,17 @@
 -- If a statement holds of a view of doubly linked places, it holds of the words that the caller lent. Each place has two words of 8 bytes or of 4
 -- bytes.
 use Rattle.std.proofs.Common.{◌≡◌, false, List, [], Option, ap}
-use Rattle.ic_link_ops.specs.Prelude.{Place, Cut, Table, index_of, IsLinked, IsNameable, ChangesOnlyIn, IsUnlinked, LinkStep}
+use Rattle.ic_link_ops.specs.Prelude.{Place, Cut, Table, index_of, IsLinked, IsNameable, ChangesOnlyIn, IsUnlinked, LinkStep, HasRoom, nameable, nameable_has_room, Inserts, Removes, Replaces, Splices, Splits}
 use Rattle.ic_link_ops.specs.declared.link.Words as of_words
 use Rattle.ic_link_ops.specs.declared.link.NextWord as of_next
 use Rattle.ic_link_ops.specs.declared.link.PrevPlace as of_prev
 use Rattle.ic_link_ops.specs.EntryLaws.{linked_in_range}
-use Rattle.ic_link_ops.specs.Widths.{HasRoom, nameable, nameable_has_room}
-use Rattle.ic_link_ops.specs.Edits.{Inserts, Removes, Replaces, Splices, Splits}
 use Rattle.ic_link_ops.specs.StepLaws.{trace_within}
 use Rattle.ic_link_ops.proofs.Naming.{end_named}
 use Rattle.ic_raw.specs.declared.table.RawTable.{RawTable}
 use Rattle.ic_raw.specs.LinkWords.{LinkWords, lent_table, table_of, FreeIn}
 use Rattle.ic_raw.specs.Calls.{Clears}
-use Rattle.ic_raw.specs.Gaps.{IsNoneOrLinked}
-use Rattle.ic_raw.specs.Tables.{raw_entries, IsFree}
-use Rattle.ic_raw.specs.Touches.{Touches}
+use Rattle.ic_raw.specs.Prelude.{IsNoneOrLinked, raw_entries, IsFree, Touches}
 use Rattle.ic_raw.proofs.Views as views
 
 -- `link_words` is the record of the ghost members of `PrevPlace` and of the traits above it

@@ -1,13 +1,10 @@
 -- These lemmas hold for every kind of lists. They say what a call reads from the words, and what an edit of the list results in.
 use Rattle.std.proofs.Common.{◌≡◌, ◌≢◌, Bool, true, Option, Some, List, [], ◌∷◌, ◌++◌, sym, ◌∙◌}
-use Rattle.ic_link_ops.specs.Prelude.{Place, Cut, join, first, last, IsAbsent, IsDisjoint, IsAfter, IsBefore, Table, ChangesOnly}
-use Rattle.ic_link_ops.specs.Chains.{ListHead, RepresentsChain}
-use Rattle.ic_link_ops.specs.Edits.{Inserts, Removes, Replaces}
+use Rattle.ic_link_ops.specs.Prelude.{Place, Cut, join, first, last, IsAbsent, IsDisjoint, IsAfter, IsBefore, Table, ChangesOnly, ListHead, RepresentsChain, Inserts, Removes, Replaces}
 use Rattle.ic_link_ops.proofs.SequenceLemmas.{none_not, some_same, absent_right, absent_with, distinct_middle, gap_not, beside_not}
 use Rattle.ic_link_ops.proofs.RepresentedLists.{represents_kept, represents_beside, gap_linked, gap_after_linked, free_absent}
-use Rattle.ic_raw.specs.Gaps.{IsNoneOrLinked}
+use Rattle.ic_raw.specs.Prelude.{IsNoneOrLinked, IsFree}
 use Rattle.ic_raw.specs.Gaps as gaps
-use Rattle.ic_raw.specs.Tables.{IsFree}
 
 -- two lists that share no member begin with different members
 pub begin_apart : (s t : List Place) {p : Place} → IsDisjoint t s → first t ≡ Some p → first s ≡ Some p → ⊥

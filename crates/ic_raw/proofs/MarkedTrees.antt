@@ -5,8 +5,7 @@ use Rattle.ic_link_ops.specs.declared.color.Color.{Color}
 use Rattle.ic_link_ops.specs.declared.color.Color.TheVariants.{Red, Black}
 use Rattle.ic_link_ops.specs.TreeWords.{one_if_black}
 use Rattle.ic_raw.specs.declared.words.RawThree.{RawThree}
-use Rattle.ic_raw.specs.Tree.{node}
-use Rattle.ic_raw.specs.Words.{place_in}
+use Rattle.ic_raw.specs.Prelude.{node, place_in}
 use Rattle.ic_raw.proofs.Entries.{place_kept}
 use Rattle.ic_raw.proofs.Seen.{place_beside, mark_beside, one_digit, color_kept, same_parent}
 

@@ -1,16 +1,13 @@
 -- These lemmas say how an edit changes the ends of a list.
 use Rattle.std.proofs.Common.{◌≡◌, ◌≢◌, ◌↔◌, Option, Some, None, List, refl, sym, ap, subst, ◌∙◌}
-use Rattle.ic_link_ops.specs.Prelude.{Place, Table}
-use Rattle.ic_link_ops.specs.Chains.{Ends, TurnsEnds, end_of}
-use Rattle.ic_link_ops.specs.SinglyLinkedList.{Front}
+use Rattle.ic_link_ops.specs.Prelude.{Place, Table, Ends, TurnsEnds, end_of, Front}
 use Rattle.ic_link_ops.proofs.SequenceLemmas.{none_not, some_same}
 use Rattle.ic_raw.specs.declared.gap.Gap.{Gap}
 use Rattle.ic_raw.specs.declared.table.RawTable.{RawTable}
 use Rattle.ic_raw.specs.declared.words.RawFront.{RawFront}
 use Rattle.ic_raw.specs.declared.words.RawOne.{RawOne}
-use Rattle.ic_raw.specs.Gaps.{PutIn, TakenOut, gap_between}
+use Rattle.ic_raw.specs.Prelude.{PutIn, TakenOut, gap_between, raw_entries}
 use Rattle.ic_raw.specs.Singly.{LosesFront, front_of, lent_table, list_of, next_from, table_of}
-use Rattle.ic_raw.specs.Tables.{raw_entries}
 
 -- two gaps are equal if their sides are equal
 pub sides_are : {a b c d : Option Place} → a ≡ c → b ≡ d → gap_between a b ≡ gap_between c d

@@ -1,10 +1,7 @@
 -- These lemmas say what the calls of rings test, and that the words of each circle pass these tests.
 use Rattle.std.proofs.Common.{◌≡◌, ◌≢◌, append_assoc, subst, Option, Some, None, IsSome, List, [], ◌∷◌, ◌++◌, refl, sym, ap, ◌∙◌, inl, inr, true, false, append-nil}
-use Rattle.ic_link_ops.specs.Prelude.{Place, IsAbsent, IsDisjoint, first, last, Table, ChangesOnly, LinkStep}
-use Rattle.ic_unsafe_ref.proofs.PlaceLemmas.{same_or_not}
-use Rattle.ic_link_ops.specs.LinkedList.{IsBetween}
-use Rattle.ic_link_ops.proofs.Chains.{last_between}
-use Rattle.ic_link_ops.proofs.SequenceLemmas.{absent_both, absent_left, absent_right, absent_turned, disjoint_both, last_not, last_or-append, none_not, some_same}
+use Rattle.ic_link_ops.specs.Prelude.{Place, IsAbsent, IsDisjoint, first, last, Table, ChangesOnly, LinkStep, IsBetween}
+use Rattle.ic_link_ops.proofs.Prelude.{same_or_not, last_between, absent_both, absent_left, absent_right, absent_turned, disjoint_both, last_not, last_or-append, none_not, some_same}
 use Rattle.ic_ring.proofs.Circles.{circle_after_free, next_not, next_some, next_stands, prev_not, prev_some, prev_stands, rotated}
 use Rattle.ic_raw.specs.declared.table.RawTable.{RawTable}
 use Rattle.ic_raw.specs.declared.gap.GapSide.{GapSide}
@@ -12,8 +9,7 @@ use Rattle.ic_raw.specs.declared.gap.GapSide.TheVariants.{After, Before}
 use Rattle.ic_raw.specs.LinkWords.{LinkWords, lent_table, neighbors, table_of}
 use Rattle.ic_raw.specs.Ring.{IsCircle, AreLinked, Makes, MakesTwo, beside, own_on, neighbor_on, put_in, all_put_in}
 use Rattle.ic_raw.specs.RingCalls.{IsAmid}
-use Rattle.ic_raw.specs.Tables.{raw_entries}
-use Rattle.ic_raw.specs.Touches.{Touches}
+use Rattle.ic_raw.specs.Prelude.{raw_entries, Touches}
 use Rattle.ic_raw.proofs.Gaps.{never}
 use Rattle.ic_raw.proofs.LinkViews.{touched_back, frame_back}
 

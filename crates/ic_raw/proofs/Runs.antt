@@ -1,24 +1,17 @@
 -- These lemmas are about runs of places: the numbers of the places, their faults, and how a run is inserted.
-use Rattle.std.proofs.Common.{◌≡◌, ◌≢◌, ℕ, zero, suc, ◌+◌, ◌-◌, ◌*◌, ◌%◌, ◌<◌, Bool, true, false, cond, nat_lt, Option, Some, None, List, [], ◌∷◌, ◌++◌, length, map, refl, sym, ap, ◌∙◌, subst, inl, inr, arith, append_assoc, append-nil}
-use Rattle.std.proofs.lemmas.Bool.{lt-ltb, ltb-true}
+use Rattle.std.proofs.Common.{◌≡◌, ◌≢◌, ℕ, zero, suc, ◌+◌, ◌-◌, ◌*◌, ◌%◌, ◌<◌, Bool, true, false, cond, nat_lt, Option, Some, None, List, [], ◌∷◌, ◌++◌, length, map, refl, sym, ap, ◌∙◌, subst, inl, inr, arith, append_assoc, append-nil, lt-ltb, ltb-true}
 use Rattle.std.proofs.lemmas.Bool.Decides.{eqb_tells}
 use Rattle.std.proofs.lemmas.List.{map-append}
-use Rattle.ic_link_ops.specs.Prelude.{Place, index_of, place_at, Cut, join, first_or, last, last_or, IsAbsent, Table, ChangesOnlyIn, LinksAlso, LinkStep, TraceIs, acquires}
+use Rattle.ic_link_ops.specs.Prelude.{Place, index_of, place_at, Cut, join, first_or, last, last_or, IsAbsent, Table, ChangesOnlyIn, LinksAlso, LinkStep, TraceIs, acquires, table_of, wide, Ends, ListHead, RepresentsChain, TurnsEnds, end_of, Inserts, Splices}
 use Rattle.ic_unsafe_ref.proofs.PlaceLemmas.{index_at}
 use Rattle.ic_link_ops.specs.StepLaws.{replays_on}
-use Rattle.ic_link_ops.specs.PlainTables.{table_of}
-use Rattle.ic_link_ops.specs.Widths.{wide}
-use Rattle.ic_link_ops.specs.Chains.{Ends, ListHead, RepresentsChain, TurnsEnds, end_of}
-use Rattle.ic_link_ops.specs.Edits.{Inserts, Splices}
 use Rattle.ic_link_ops.proofs.SequenceLemmas.{some_same, none_not, absent_left, absent_right, absent_both, last_not, last_of_push, last_or-append}
 use Rattle.ic_raw.specs.declared.gap.Gap.{Gap}
 use Rattle.ic_raw.specs.declared.table.RawTable.{RawTable}
-use Rattle.ic_raw.specs.Answers.{refusal}
+use Rattle.ic_raw.specs.Prelude.{refusal, IsFree, place_fault, raw_entries, raw_table, place_of}
 use Rattle.ic_raw.specs.Fills.{IsRun, run_faults, first_fault, last_of_run, AreFree, IsFreeRun, TouchesRun}
 use Rattle.ic_raw.specs.Gaps.{Turns}
 use Rattle.ic_raw.specs.Touches.{IsNoneOf}
-use Rattle.ic_raw.specs.Tables.{IsFree, place_fault, raw_entries, raw_table}
-use Rattle.ic_raw.specs.Words.{place_of}
 use Rattle.ic_raw.proofs.Faults.{place_fault_back}
 use Rattle.ic_raw.proofs.Numbers.{none_named}
 use Rattle.ic_raw.proofs.Touches.{touched_back}

@@ -1,15 +1,10 @@
 -- These lemmas say how an edit of a tree reads a caller's words after a call has written to them.
-use Rattle.std.proofs.Common.{◌≡◌, ℕ, ◌+◌, ◌*◌, ◌/◌, ◌%◌, ◌<◌, ◌≤◌, List, length, Bool, true, false, cond, nat_eq, nat_lt, Option, Some, None, slice_set, slice_index_or, refl, sym, ap, ◌∙◌, subst, inl, inr, arith, ne_eqb}
-use Rattle.std.proofs.lemmas.Bool.{ltb-true, lt-ltb, le-ltb}
-use Rattle.std.proofs.lemmas.List.{length-set}
-use Rattle.ic_link_ops.specs.Prelude.{Place, index_of, word_of, place_at, Table, ChangesOnly}
+use Rattle.std.proofs.Common.{◌≡◌, ℕ, ◌+◌, ◌*◌, ◌/◌, ◌%◌, ◌<◌, ◌≤◌, List, length, Bool, true, false, cond, nat_eq, nat_lt, Option, Some, None, slice_set, slice_index_or, refl, sym, ap, ◌∙◌, subst, inl, inr, arith, ne_eqb, ltb-true, lt-ltb, le-ltb, length-set}
+use Rattle.ic_link_ops.specs.Prelude.{Place, index_of, word_of, place_at, Table, ChangesOnly, entry_at, table_with, Node, is_end}
 use Rattle.ic_unsafe_ref.proofs.PlaceLemmas.{place_at_word, word_fits, same_or_not, word_is, word_tells}
 use Rattle.ic_link_ops.specs.declared.color.Color.{Color}
 use Rattle.ic_link_ops.specs.declared.color.Color.TheVariants.{Red, Black}
-use Rattle.ic_link_ops.specs.PlainTables.{entry_at, table_with}
-use Rattle.ic_link_ops.specs.RedBlackTree.{Node}
 use Rattle.ic_link_ops.specs.TreeWords.{one_if_black}
-use Rattle.ic_link_ops.specs.Walk.{is_end}
 use Rattle.ic_link_ops.proofs.EntryLemmas.{entry_same, entry_read}
 use Rattle.ic_raw.specs.declared.words.RawThree.{RawThree}
 use Rattle.ic_raw.specs.Words.{number_in, place_in, is_marked, is_linked_three, no_tree_words}

@@ -1,20 +1,15 @@
 -- These lemmas say what the calls of a singly linked list read from the words, and to which places the links lead.
 use Rattle.std.proofs.Common.{◌≡◌, ◌≢◌, ◌↔◌, ◌≤◌, Option, Some, None, List, [], ◌∷◌, ◌++◌, length, true, refl, sym, ap, subst, ◌∙◌, arith}
-use Rattle.ic_link_ops.specs.Prelude.{Place, index_of, Cut, join, first_or, first, last, IsAbsent, IsDistinct, IsAfter, Table, ChangesOnly, IsCovered, IsLinked, KeepsLinked, Unlinks, LinkStep, acquires, releases}
+use Rattle.ic_link_ops.specs.Prelude.{Place, index_of, Cut, join, first_or, first, last, IsAbsent, IsDistinct, IsAfter, Table, ChangesOnly, IsCovered, IsLinked, KeepsLinked, Unlinks, LinkStep, acquires, releases, Front, IsFollowed, list_from, successor_at}
 use Rattle.ic_link_ops.specs.Chains.{IsChain}
 use Rattle.ic_link_ops.specs.EntryLaws.{linked_in_range}
-use Rattle.ic_link_ops.specs.SinglyLinkedList.{Front, IsFollowed, list_from, successor_at}
-use Rattle.ic_link_ops.proofs.SequenceLemmas.{first_of_back, first_or-append, last_of_push, none_not, some_same}
-use Rattle.ic_link_ops.proofs.Chains.{chain_glue, chain_one}
-use Rattle.ic_link_ops.proofs.RepresentedLists.{before_gap}
+use Rattle.ic_link_ops.proofs.Prelude.{first_of_back, first_or-append, last_of_push, none_not, some_same, chain_glue, chain_one, before_gap}
 use Rattle.ic_link_ops.proofs.SinglyLists.{followed_linked, followed_one}
 use Rattle.ic_raw.specs.declared.words.RawOne.{RawOne}
 use Rattle.ic_raw.specs.declared.words.RawFront.{RawFront}
 use Rattle.ic_raw.specs.declared.table.RawTable.{RawTable}
 use Rattle.ic_raw.specs.declared.gap.Gap.{Gap}
-use Rattle.ic_raw.specs.Gaps.{gap_of}
-use Rattle.ic_raw.specs.Words.{no_word, is_linked_one}
-use Rattle.ic_raw.specs.Tables.{IsFree, raw_entries}
+use Rattle.ic_raw.specs.Prelude.{gap_of, no_word, is_linked_one, IsFree, raw_entries}
 use Rattle.ic_raw.specs.Touches.{IsNoneOf, Touches}
 use Rattle.ic_raw.specs.Singly.{LeadsTo, Represents, RepresentsSome, TellsGap, TellsMember, table_of, lent_table, list_of, successor, next_from}
 use Rattle.ic_raw.proofs.Views.{viewed, represented_back}

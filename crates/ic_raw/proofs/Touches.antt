@@ -1,11 +1,9 @@
 -- These lemmas say what an edit touches. An edit links or unlinks a place, and changes the links of the place's neighbors.
 use Rattle.std.proofs.Common.{◌≡◌, ◌≢◌, Bool, Option, Some, List, [], ◌∷◌, ◌++◌, sym, ap, subst, ◌∙◌}
-use Rattle.ic_link_ops.specs.Prelude.{Place, Table, ChangesOnly, IsLinked, KeepsLinked, LinksAlso, Unlinks, LinkStep, acquires, releases}
+use Rattle.ic_link_ops.specs.Prelude.{Place, Table, ChangesOnly, IsLinked, KeepsLinked, LinksAlso, Unlinks, LinkStep, acquires, releases, table_of}
 use Rattle.ic_link_ops.specs.StepLaws.{trace_within}
-use Rattle.ic_link_ops.specs.PlainTables.{table_of}
 use Rattle.ic_raw.specs.declared.table.RawTable.{RawTable}
-use Rattle.ic_raw.specs.Tables.{IsFree, raw_entries, raw_table}
-use Rattle.ic_raw.specs.Touches.{Touches}
+use Rattle.ic_raw.specs.Prelude.{IsFree, raw_entries, raw_table, Touches}
 
 -- two places differ if the options of these places differ
 pub other_place : {p q : Place} → (Some p ≢ Some q) → q ≢ p

@@ -1,21 +1,15 @@
 -- These lemmas say what an edit of a tree leaves, whatever the words contain: which places are linked, and out of which sets of places no link leads.
-use Rattle.std.proofs.Common.{◌≡◌, ◌≢◌, ◌⊎◌, ℕ, Bool, true, false, cond, nat_lt, Option, Some, None, List, [], ◌∷◌, refl, sym, ap, ◌∙◌, subst, inl, inr, eq-eqb}
-use Rattle.std.proofs.lemmas.Bool.{lt-ltb}
-use Rattle.ic_link_ops.specs.Prelude.{Place, index_of, Extent, Table, ChangesOnly, LinksAlso, Unlinks, Exchanges, LinkStep, TraceIs}
-use Rattle.ic_unsafe_ref.proofs.PlaceLemmas.{same_or_not}
-use Rattle.ic_link_ops.specs.RedBlackTree.{Node}
+use Rattle.std.proofs.Common.{◌≡◌, ◌≢◌, ◌⊎◌, ℕ, Bool, true, false, cond, nat_lt, Option, Some, None, List, [], ◌∷◌, refl, sym, ap, ◌∙◌, subst, inl, inr, eq-eqb, lt-ltb}
+use Rattle.ic_link_ops.specs.Prelude.{Place, index_of, Extent, Table, ChangesOnly, LinksAlso, Unlinks, Exchanges, LinkStep, TraceIs, Node, is_end}
+use Rattle.ic_link_ops.proofs.Prelude.{same_or_not, none_not, some_same, is_end_not}
 use Rattle.ic_link_ops.specs.StepLaws.{trace_within}
-use Rattle.ic_link_ops.specs.Walk.{is_end}
-use Rattle.ic_link_ops.proofs.SequenceLemmas.{none_not, some_same}
-use Rattle.ic_link_ops.proofs.Walks.{is_end_not}
 use Rattle.ic_rbtree.specs.Closed.{IsIn, AreIn, IsClosed, IsClosedBut, StaysClosed}
 use Rattle.ic_raw.specs.declared.nodes.Seen.{Seen}
 use Rattle.ic_raw.specs.declared.table.RawTable.{RawTable}
 use Rattle.ic_raw.specs.declared.words.RawThree.{RawThree}
 use Rattle.ic_raw.specs.Seen.{seen, seen_node, has_place, also, NamesWithin, IsWithin, KeepsMarks, StaysWithin, HandsOutReached}
-use Rattle.ic_raw.specs.Tables.{raw_entries, IsFree}
+use Rattle.ic_raw.specs.Prelude.{raw_entries, IsFree, is_linked_three}
 use Rattle.ic_raw.specs.Tree.{table_of, lent_table}
-use Rattle.ic_raw.specs.Words.{is_linked_three}
 use Rattle.ic_raw.proofs.Seen.{seen_changes}
 use Rattle.ic_raw.proofs.Trees.{closed, in_kept}
 

@@ -1,17 +1,11 @@
 -- These lemmas follow a walk through a tree from the first member on, while the members lose their marks of linked places.
-use Rattle.std.proofs.Common.{◌≡◌, ◌≢◌, ◌⊎◌, Bool, true, false, eq-eqb, ℕ, ◌≤◌, ◌-◌, ◌*◌, ◌/◌, ◌%◌, inl, inr, Option, Some, None, List, [], ◌∷◌, ◌++◌, length, drop, refl, sym, ap, ◌∙◌, subst, arith, append_assoc, append-nil}
-use Rattle.std.proofs.lemmas.Bool.{ltb-true}
-use Rattle.ic_link_ops.specs.Prelude.{Place, index_of, place_at, Cut, join, first, last, IsMember, Extent, Table, ChangesOnly}
-use Rattle.ic_unsafe_ref.proofs.PlaceLemmas.{same_or_not}
-use Rattle.ic_link_ops.specs.Trees.{Tree, leaf, fork}
-use Rattle.ic_link_ops.specs.RedBlackTree.{Node, IsTree}
-use Rattle.ic_link_ops.proofs.SequenceLemmas.{first_is, fewer, gap_not, last_of_push, nothing_first, split_member}
-use Rattle.ic_link_ops.proofs.RepresentedTrees.{holds_linked, holds_length, root_member}
+use Rattle.std.proofs.Common.{◌≡◌, ◌≢◌, ◌⊎◌, Bool, true, false, eq-eqb, ℕ, ◌≤◌, ◌-◌, ◌*◌, ◌/◌, ◌%◌, inl, inr, Option, Some, None, List, [], ◌∷◌, ◌++◌, length, drop, refl, sym, ap, ◌∙◌, subst, arith, append_assoc, append-nil, ltb-true}
+use Rattle.ic_link_ops.specs.Prelude.{Place, index_of, place_at, Cut, join, first, last, IsMember, Extent, Table, ChangesOnly, Tree, leaf, fork, Node, IsTree}
+use Rattle.ic_link_ops.proofs.Prelude.{same_or_not, first_is, fewer, gap_not, last_of_push, nothing_first, split_member, holds_linked, holds_length, root_member}
 use Rattle.ic_rbtree.specs.Closed.{IsIn}
 use Rattle.ic_raw.specs.declared.words.RawThree.{RawThree}
-use Rattle.ic_raw.specs.Seen.{seen, seen_node, has_place}
+use Rattle.ic_raw.specs.Prelude.{seen, seen_node, has_place, place_in, is_linked_three}
 use Rattle.ic_raw.specs.TreeShape.{IsSeen, OnlyUnmarks, unmarked}
-use Rattle.ic_raw.specs.Words.{place_in, is_linked_three}
 
 module _ {t : Table RawThree} {root : Option Place} where
   -- each member of a tree, as an edit reads it, belongs to the table

@@ -1,32 +1,21 @@
 -- These lemmas compare a tree as its words describe it with the tree as an edit reads the words.
-use Rattle.std.proofs.Common.{◌≡◌, ◌≢◌, ℕ, zero, suc, ◌+◌, ◌≤◌, Bool, true, false, cond, nat_lt, Option, Some, None, List, [], ◌∷◌, ◌++◌, refl, sym, ap, ◌∙◌, subst, inl, inr, arith}
-use Rattle.std.proofs.lemmas.Bool.{lt-ltb}
-use Rattle.ic_link_ops.specs.Prelude.{Place, index_of, Cut, join, first, last, IsAbsent, Extent, Table, IsCovered, IsLinked, ChangesOnlyIn}
-use Rattle.ic_unsafe_ref.proofs.PlaceLemmas.{same_or_not}
+use Rattle.std.proofs.Common.{◌≡◌, ◌≢◌, ℕ, zero, suc, ◌+◌, ◌≤◌, Bool, true, false, cond, nat_lt, Option, Some, None, List, [], ◌∷◌, ◌++◌, refl, sym, ap, ◌∙◌, subst, inl, inr, arith, lt-ltb}
+use Rattle.ic_link_ops.specs.Prelude.{Place, index_of, Cut, join, first, last, IsAbsent, Extent, Table, IsCovered, IsLinked, ChangesOnlyIn, Tree, leaf, fork, top, in_order, entry_at, times, times_in, IsTree}
+use Rattle.ic_link_ops.proofs.Prelude.{same_or_not, gap_not, none_not, absent_with, absent_both, absent_right, one_at_self, one_at_other, times_order, times_absent}
 use Rattle.ic_link_ops.specs.declared.color.Color.{Color}
 use Rattle.ic_link_ops.specs.declared.side.Side.{Side}
 use Rattle.ic_link_ops.specs.declared.side.Side.TheVariants.{Left, Right}
 use Rattle.ic_link_ops.specs.EntryLaws.{linked_in_range}
-use Rattle.ic_link_ops.specs.Trees.{Tree, leaf, fork, top, in_order}
 use Rattle.ic_link_ops.specs.Frames.{child_on}
-use Rattle.ic_link_ops.specs.PlainTables.{entry_at}
-use Rattle.ic_link_ops.specs.Times.{times, times_in}
-use Rattle.ic_link_ops.specs.RedBlackTree.{IsTree}
 use Rattle.ic_link_ops.specs.RedBlackTree as trees
-use Rattle.ic_link_ops.proofs.SequenceLemmas.{gap_not, none_not, absent_with, absent_both, absent_right}
-use Rattle.ic_link_ops.proofs.Times.{one_at_self, one_at_other, times_order, times_absent}
 use Rattle.ic_link_ops.proofs.RepresentedTrees.{no_members, no_root, root_member, holds_linked, holds_out, represents_kept}
-use Rattle.ic_rbtree.specs.Closed.{IsIn, IsClosed}
+use Rattle.ic_rbtree.specs.Prelude.{IsIn, IsClosed, Piece, ArePieces, Represented, IsBeside}
 use Rattle.ic_rbtree.specs.Insertion as insert_positions
-use Rattle.ic_rbtree.specs.Pieces.{Piece, ArePieces, Represented}
-use Rattle.ic_rbtree.specs.Sides.{IsBeside}
 use Rattle.ic_rbtree.proofs.Closed.{in_there}
 use Rattle.ic_rbtree.proofs.Removing.{represented_of, represents_of}
 use Rattle.ic_raw.specs.declared.words.RawThree.{RawThree}
 use Rattle.ic_raw.specs.declared.table.RawTable.{RawTable}
-use Rattle.ic_raw.specs.Gaps.{IsNoneOrLinked}
-use Rattle.ic_raw.specs.Words.{place_in, no_tree_words, is_linked_three}
-use Rattle.ic_raw.specs.Tables.{raw_entries}
+use Rattle.ic_raw.specs.Prelude.{IsNoneOrLinked, place_in, no_tree_words, is_linked_three, raw_entries}
 use Rattle.ic_raw.specs.Tree.{node, Represents, IsInsertPos, table_of, lent_table}
 use Rattle.ic_raw.specs.Seen.{named_within, seen_node, seen, has_place, IsWithin, KeepsMarks}
 use Rattle.ic_raw.proofs.Seen.{named_itself}

@@ -1,9 +1,6 @@
 -- If a statement holds of a view of a table, it holds of the words that the caller lent.
-use Rattle.std.proofs.Common.{◌≡◌, ◌↔◌, Bool, Option, List, [], inl, refl, ap, subst}
-use Rattle.std.specs.declared.cmp.Ordering.{Ordering}
-use Rattle.ic_link_ops.specs.Prelude.{Place, Cut, Table, ChangesOnlyIn, IsUnlinked}
-use Rattle.ic_link_ops.specs.PlainTables.{entry_at, table_of}
-use Rattle.ic_link_ops.specs.Edits.{Inserts, Removes, Replaces, Splices, Splits}
+use Rattle.std.proofs.Common.{◌≡◌, ◌↔◌, Bool, Option, List, [], inl, refl, ap, subst, Ordering}
+use Rattle.ic_link_ops.specs.Prelude.{Place, Cut, Table, ChangesOnlyIn, IsUnlinked, entry_at, table_of, Inserts, Removes, Replaces, Splices, Splits}
 use Rattle.ic_rbtree.specs.Ordered.{InsertsInOrder}
 use Rattle.ic_raw.specs.declared.table.RawTable.{RawTable}
 use Rattle.ic_raw.specs.Calls.{Clears, OnlyUnlinks}

@@ -1,11 +1,8 @@
 -- These lemmas say what the calls of an XOR list read from the words, if the words represent a list.
-use Rattle.std.proofs.Common.{◌≡◌, inl, inr, ℕ, nat_eq, true, Option, Some, None, List, [], ◌∷◌, ◌++◌, drop, reverse, refl, sym, ap, subst, ◌∙◌, append_assoc, append-nil}
-use Rattle.std.proofs.lemmas.Bool.{eq-eqb}
-use Rattle.ic_link_ops.specs.Prelude.{Place, word_of, first, last, but_last, Table, ChangesOnly, IsLinked}
-use Rattle.ic_unsafe_ref.proofs.PlaceLemmas.{same_or_not}
-use Rattle.ic_link_ops.specs.Chains.{Ends}
+use Rattle.std.proofs.Common.{◌≡◌, inl, inr, ℕ, nat_eq, true, Option, Some, None, List, [], ◌∷◌, ◌++◌, drop, reverse, refl, sym, ap, subst, ◌∙◌, append_assoc, append-nil, eq-eqb}
+use Rattle.ic_link_ops.specs.Prelude.{Place, word_of, first, last, but_last, Table, ChangesOnly, IsLinked, Ends}
+use Rattle.ic_link_ops.proofs.Prelude.{same_or_not, first_of_back, last_of_front, last_of_push, split_last, first_is}
 use Rattle.ic_link_ops.specs.XorLaws.{joins_symmetric, joins_finds_other}
-use Rattle.ic_link_ops.proofs.SequenceLemmas.{first_of_back, last_of_front, last_of_push, split_last, first_is}
 use Rattle.ic_link_ops.proofs.RepresentedLists.{represents_middle, represents_reversed, before_gap, after_gap, gap_linked, gap_after_linked}
 use Rattle.ic_link_ops.proofs.XorLists.{joined_linked, joined_symmetric}
 use Rattle.ic_raw.specs.declared.words.RawOne.{RawOne}

@@ -1,9 +1,7 @@
 -- The definitions of this file say how a call changes the words of a table and of a list, if these words represent a sequence. The definitions are
 -- the same for every kind of lists.
 use Rattle.std.specs.Prelude.{◌≡◌, ◌⊎◌, ℕ, Bool, ◌∷◌, ◌++◌, List, Option}
-use Rattle.ic_link_ops.specs.Prelude.{Place, Cut, join, IsDisjoint, IsMember, Table, IsLinked, IsUnlinked, ChangesOnlyIn}
-use Rattle.ic_link_ops.specs.PlainTables.{table_of}
-use Rattle.ic_link_ops.specs.Edits.{Inserts, Removes, Replaces, Splices, Splits}
+use Rattle.ic_link_ops.specs.Prelude.{Place, Cut, join, IsDisjoint, IsMember, Table, IsLinked, IsUnlinked, ChangesOnlyIn, table_of, Inserts, Removes, Replaces, Splices, Splits}
 use Rattle.ic_raw.specs.Answers.{IsAccepted}
 use Rattle.ic_raw.specs.Gaps.{before, IsNoneOrLinked}
 use Rattle.ic_raw.specs.Tables.{IsFree, member_fault, place_fault}

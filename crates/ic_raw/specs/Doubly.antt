@@ -1,11 +1,7 @@
 -- This file says when words that a caller lends represent a doubly linked list.
 use Rattle.std.specs.Prelude.{◌≡◌, ℕ, List, [], ◌∷◌, ◌++◌, Option, Some, None}
-use Rattle.ic_link_ops.specs.Prelude.{Place, word_of, Cut, Table}
-use Rattle.ic_link_ops.specs.Chains.{Ends}
-use Rattle.ic_link_ops.specs.Edits.{Inserts, Splits}
+use Rattle.ic_link_ops.specs.Prelude.{Place, word_of, Cut, Table, Ends, Inserts, Splits, neighbors_at, nameable}
 use Rattle.ic_link_ops.specs.LinkedList as doubly
-use Rattle.ic_link_ops.specs.LinkedList.{neighbors_at}
-use Rattle.ic_link_ops.specs.Widths.{nameable}
 use Rattle.ic_raw.specs.declared.words.RawEnds.{RawEnds}
 use Rattle.ic_raw.specs.declared.gap.Gap.{Gap}
 use Rattle.ic_raw.specs.declared.gap.GapSide.{GapSide}

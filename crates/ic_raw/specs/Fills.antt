@@ -1,9 +1,7 @@
 -- A run is a sequence of places with consecutive numbers. This file says what a call does that inserts a run. The definitions are the same for every
 -- kind of lists.
 use Rattle.std.specs.Prelude.{◌≡◌, ℕ, zero, suc, ◌+◌, ◌-◌, Bool, List, [], ◌∷◌, length, map, Option, Some}
-use Rattle.ic_link_ops.specs.Prelude.{Place, Cut, join, Table, acquires}
-use Rattle.ic_link_ops.specs.PlainTables.{table_of}
-use Rattle.ic_link_ops.specs.Edits.{Splices}
+use Rattle.ic_link_ops.specs.Prelude.{Place, Cut, join, Table, acquires, table_of, Splices}
 use Rattle.ic_raw.specs.declared.status.TheConstants.{OK}
 use Rattle.ic_raw.specs.Answers.{IsAccepted}
 use Rattle.ic_raw.specs.Calls.{RepresentsList}

@@ -1,7 +1,6 @@
 -- A gap is a position between two neighboring members, or at an end of a list. A call edits a list at a gap.
 use Rattle.std.specs.Prelude.{◌≡◌, ◌≢◌, ◌∷◌, List, Bool, Option, Some, None}
-use Rattle.ic_link_ops.specs.Prelude.{Place, Cut, at_front, at_back, first, last, IsAfter, IsBefore, Table, IsLinked}
-use Rattle.ic_link_ops.specs.Chains.{Ends, end_of}
+use Rattle.ic_link_ops.specs.Prelude.{Place, Cut, at_front, at_back, first, last, IsAfter, IsBefore, Table, IsLinked, Ends, end_of}
 use Rattle.ic_raw.specs.declared.gap.Gap.{Gap}
 use Rattle.ic_raw.specs.Tables.{IsFree}
 use Rattle.ic_raw.specs.declared.gap.GapSide.{GapSide}

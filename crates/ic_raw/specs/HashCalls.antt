@@ -1,9 +1,8 @@
 -- Each record of this file is the whole contract of one call of hash tables.
 use Rattle.std.specs.Prelude.{◌≡◌, ◌≢◌, ◌≤◌, ◌↔◌, ◌⊎◌, ◌++◌, ◌∷◌, ℕ, List, [], Option, Some, None, length}
-use Rattle.ic_link_ops.specs.Prelude.{Place, at_front, IsMember, acquires}
+use Rattle.ic_link_ops.specs.Prelude.{Place, at_front, IsMember, acquires, successor_at}
 use Rattle.ic_hash_table.specs.Searches.{Finds}
 use Rattle.ic_link_ops.specs.NumberedCollections.{with_at}
-use Rattle.ic_link_ops.specs.SinglyLinkedList.{successor_at}
 use Rattle.ic_raw.specs.declared.status.TheConstants.{OK, NULL}
 use Rattle.ic_raw.specs.declared.words.RawFront.{RawFront}
 use Rattle.ic_raw.specs.declared.words.RawOne.{RawOne}

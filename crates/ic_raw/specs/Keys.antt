@@ -6,10 +6,7 @@ use Rattle.ic_link_ops.specs.Prelude.{Place, index_of, at_indexes, Cut, first, l
 use Rattle.ic_link_ops.specs.Frames.{child_on}
 use Rattle.ic_link_ops.specs.declared.side.Side.{Side}
 use Rattle.ic_link_ops.specs.declared.side.Side.TheVariants.{Left, Right}
-use Rattle.ic_rbtree.specs.Borders.{Finds, IsLowerBorder, IsUpperBorder}
-use Rattle.ic_rbtree.specs.Comparing.{compared, goes_left}
-use Rattle.ic_rbtree.specs.Descents.{side_of}
-use Rattle.ic_rbtree.specs.Insertion.{IsInsertPos}
+use Rattle.ic_rbtree.specs.Prelude.{Finds, IsLowerBorder, IsUpperBorder, compared, goes_left, side_of, IsInsertPos}
 use Rattle.ic_rbtree.specs.Ordered as ordered
 use Rattle.ic_rbtree.specs.declared.keys.key_adapter.Bound.TheVariants.{Included}
 use Rattle.ic_raw.specs.declared.status.TheConstants.{OK, OUT_OF_RANGE}

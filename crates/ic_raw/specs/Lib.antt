@@ -27,3 +27,4 @@ pub mod TreeCalls
 pub mod SearchCalls
 pub mod HashCalls
 pub mod Surgery
+pub mod Prelude

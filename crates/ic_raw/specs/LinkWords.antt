@@ -1,9 +1,7 @@
 -- A place of a doubly linked list has two words, of 8 bytes or of 4 bytes each. This file says how a table of these words is read.
 use Rattle.std.specs.Prelude.{◌≡◌, ℕ, Bool, List, Option}
-use Rattle.ic_link_ops.specs.Prelude.{Place, Table}
-use Rattle.ic_link_ops.specs.LinkedList.{Neighbors}
+use Rattle.ic_link_ops.specs.Prelude.{Place, Table, Neighbors, Width, wide, narrow, nameable}
 use Rattle.ic_link_ops.specs.PlainTables as plain
-use Rattle.ic_link_ops.specs.Widths.{Width, wide, narrow, nameable}
 use Rattle.ic_raw.specs.declared.words.RawTwo.{RawTwo}
 use Rattle.ic_raw.specs.declared.words.RawNarrowTwo.{RawNarrowTwo}
 use Rattle.ic_raw.specs.declared.table.RawTable.{RawTable}

@@ -2,8 +2,7 @@
 -- represents. The other fields hold whatever the words contain. They say what an accepted call has tested before it edits, which entries it changes,
 -- and which ends the list then has. They also say what a refused call leaves as it was, and why it was refused.
 use Rattle.std.specs.Prelude.{◌≡◌, ◌≢◌, ◌↔◌, ◌++◌, ◌∷◌, ℕ, List, [], Option, Some, None}
-use Rattle.ic_link_ops.specs.Prelude.{Place, Cut, join, at_back, KeepsLinked, acquires, releases}
-use Rattle.ic_link_ops.specs.Chains.{no_members}
+use Rattle.ic_link_ops.specs.Prelude.{Place, Cut, join, at_back, KeepsLinked, acquires, releases, no_members}
 use Rattle.ic_raw.specs.declared.gap.GapSide.{GapSide}
 use Rattle.ic_raw.specs.declared.gap.GapSide.TheVariants.{After, Before}
 use Rattle.ic_raw.specs.declared.status.TheConstants.{OK, NULL, BROKEN}

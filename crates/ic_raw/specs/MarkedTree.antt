@@ -1,7 +1,6 @@
 -- A check of a tree reads the words of the tree as they are.
 use Rattle.std.specs.Prelude.{◌∷◌, [], List}
-use Rattle.ic_link_ops.specs.Tables.{Table}
-use Rattle.ic_link_ops.specs.PlainTables.{table_with}
+use Rattle.ic_link_ops.specs.Prelude.{Table, table_with}
 use Rattle.ic_raw.specs.declared.words.RawThree.{RawThree}
 use Rattle.ic_raw.specs.declared.marked_tree.MarkedTree.{MarkedTree}
 use Rattle.ic_raw.specs.Words.{no_tree_words}

@@ -1,7 +1,6 @@
 -- A ring is a circle of places in words that a caller lends. One of the places is the head, and all others are its members.
 use Rattle.std.specs.Prelude.{◌≡◌, List, [], ◌∷◌, ◌++◌, Option, Some, true}
-use Rattle.ic_link_ops.specs.Prelude.{Place, Table, ChangesOnlyIn}
-use Rattle.ic_link_ops.specs.LinkedList.{neighbors_at}
+use Rattle.ic_link_ops.specs.Prelude.{Place, Table, ChangesOnlyIn, neighbors_at}
 use Rattle.ic_ring.specs.Rings as rings
 use Rattle.ic_raw.specs.declared.gap.GapSide.{GapSide}
 use Rattle.ic_raw.specs.declared.gap.GapSide.TheVariants.{After, Before}

@@ -1,10 +1,8 @@
 -- An edit of a tree reads a caller's words as if every place of the table were linked. If a word names a place outside the table, the edit reads the
 -- word as if it named no place.
 use Rattle.std.specs.Prelude.{◌≡◌, ◌≢◌, ◌⊎◌, ℕ, Bool, true, cond, nat_lt, Option, Some, None, List}
-use Rattle.ic_link_ops.specs.Prelude.{Place, index_of, Table, IsLinked, KeepsLinked}
-use Rattle.ic_link_ops.specs.RedBlackTree.{Node}
+use Rattle.ic_link_ops.specs.Prelude.{Place, index_of, Table, IsLinked, KeepsLinked, Node, is_end}
 use Rattle.ic_link_ops.specs.declared.side.Side.{Side}
-use Rattle.ic_link_ops.specs.Walk.{is_end}
 use Rattle.ic_rbtree.specs.Closed.{IsIn, AreIn, IsClosed, IsClosedBut}
 use Rattle.ic_rbtree.specs.StepsTo.{StepEnds, StepsTo}
 use Rattle.ic_raw.specs.declared.words.RawThree.{RawThree}

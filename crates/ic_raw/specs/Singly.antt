@@ -1,9 +1,8 @@
 -- This file says when words that a caller lends represent a singly linked list.
 use Rattle.std.specs.Prelude.{◌≡◌, ◌≢◌, ◌∷◌, ℕ, List, [], Option, Some, None}
-use Rattle.ic_link_ops.specs.Prelude.{Place, word_of, Cut, first_or, Table, LinkStep, releases}
+use Rattle.ic_link_ops.specs.Prelude.{Place, word_of, Cut, first_or, Table, LinkStep, releases, Front, IsFollowed, list_from, Successor, successor_at}
 use Rattle.ic_link_ops.specs.SinglyLinkedList as singly
 use Rattle.ic_link_ops.specs.Chains.{IsChain}
-use Rattle.ic_link_ops.specs.SinglyLinkedList.{Front, IsFollowed, list_from, Successor, successor_at}
 use Rattle.ic_link_ops.specs.PlainTables as plain
 use Rattle.ic_raw.specs.declared.words.RawOne.{RawOne}
 use Rattle.ic_raw.specs.declared.words.RawFront.{RawFront}

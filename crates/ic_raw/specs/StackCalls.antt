@@ -2,8 +2,7 @@
 -- represents. The other fields hold whatever the words contain. They say what an accepted call has tested before it edits, what a refused call leaves
 -- as it was, and why it was refused.
 use Rattle.std.specs.Prelude.{◌≡◌, ◌≢◌, ◌↔◌, ◌∷◌, ℕ, List, [], Option, Some, None}
-use Rattle.ic_link_ops.specs.Prelude.{Place, Cut, at_front, last, IsAfter, acquires, releases}
-use Rattle.ic_link_ops.specs.Chains.{end_of}
+use Rattle.ic_link_ops.specs.Prelude.{Place, Cut, at_front, last, IsAfter, acquires, releases, end_of}
 use Rattle.ic_raw.specs.declared.status.TheConstants.{OK, NULL, BROKEN}
 use Rattle.ic_raw.specs.declared.words.RawFront.{RawFront}
 use Rattle.ic_raw.specs.declared.words.RawOne.{RawOne}

@@ -1,12 +1,7 @@
 -- A table has one entry for each place. The entries are words that a caller lends.
 use Rattle.std.specs.Prelude.{◌≡◌, ◌∷◌, [], List, ℕ, Bool, cond, nat_lt, Option, Some, None}
 use Rattle.std.specs.Borrow.{MutBor}
-use Rattle.ic_link_ops.specs.Prelude.{Place, index_of, Table, IsCovered, IsUnlinked}
-use Rattle.ic_link_ops.specs.PlainTables.{table_with}
-use Rattle.ic_link_ops.specs.Widths.{Width, wide, nameable}
-use Rattle.ic_link_ops.specs.Links.{link_of}
-use Rattle.ic_link_ops.specs.LinkedList.{Neighbors}
-use Rattle.ic_link_ops.specs.SinglyLinkedList.{Successor}
+use Rattle.ic_link_ops.specs.Prelude.{Place, index_of, Table, IsCovered, IsUnlinked, table_with, Width, wide, nameable, link_of, Neighbors, Successor}
 use Rattle.ic_link_ops.specs.Readings as readings
 use Rattle.ic_raw.specs.declared.status.TheConstants.{OK, OUT_OF_RANGE, LINKED, NOT_LINKED}
 use Rattle.ic_raw.specs.declared.table.RawTable.{RawTable}

@@ -1,10 +1,9 @@
 -- This file says when words that a caller lends represent a red-black tree.
 use Rattle.std.specs.Prelude.{◌≡◌, ℕ, List, Option, Some, None}
-use Rattle.ic_link_ops.specs.Prelude.{Place, word_of, Cut, Table}
+use Rattle.ic_link_ops.specs.Prelude.{Place, word_of, Cut, Table, Node}
 use Rattle.ic_link_ops.specs.declared.side.Side.{Side}
 use Rattle.ic_link_ops.specs.Frames.{child_on}
 use Rattle.ic_link_ops.specs.RedBlackTree as trees
-use Rattle.ic_link_ops.specs.RedBlackTree.{Node}
 use Rattle.ic_link_ops.specs.PlainTables as plain
 use Rattle.ic_rbtree.specs.Insertion as insert_positions
 use Rattle.ic_raw.specs.declared.words.RawThree.{RawThree}

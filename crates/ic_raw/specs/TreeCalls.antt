@@ -2,10 +2,9 @@
 -- represents. The other fields hold whatever the words contain. They say what an accepted call has tested before it edits, what a refused call leaves
 -- as it was, and why it was refused.
 use Rattle.std.specs.Prelude.{◌≡◌, ◌≢◌, ◌↔◌, ◌⊎◌, ◌∷◌, ℕ, List, [], Option, Some, None}
-use Rattle.ic_link_ops.specs.Prelude.{Place, Cut, join, LinksAlso, Unlinks, Exchanges}
+use Rattle.ic_link_ops.specs.Prelude.{Place, Cut, join, LinksAlso, Unlinks, Exchanges, node_at}
 use Rattle.ic_link_ops.specs.declared.side.Side.{Side}
 use Rattle.ic_link_ops.specs.Frames.{across}
-use Rattle.ic_link_ops.specs.RedBlackTree.{node_at}
 use Rattle.ic_rbtree.specs.Sides.{IsBeside}
 use Rattle.ic_raw.specs.declared.status.TheConstants.{OK, NULL, BROKEN}
 use Rattle.ic_raw.specs.declared.words.RawRoot.{RawRoot}

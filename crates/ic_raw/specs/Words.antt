@@ -74,10 +74,6 @@ next_of_narrow w = narrow_number_in w.next
 abbrev pub prev_of_narrow : RawNarrowTwo → Option Place
 prev_of_narrow w = narrow_place_in w.prev
 
--- the number of the next place in a word of 4 bytes is less than 2 ^ 32
-pub narrow_number_small : (w : RawNarrowTwo) → is_linked_narrow w ≡ true → next_of_narrow w < 4294967296
-narrow_number_small w linked = omega arith
-
 -- A link of three words: `no_tree_words` is the words of an unlinked place, `is_linked_three` says whether a place is linked, and `color_of` is the
 -- color of the place
 abbrev pub no_tree_words : RawThree

@@ -1,7 +1,6 @@
 -- This file says when words that a caller lends represent an XOR linked list.
 use Rattle.std.specs.Prelude.{◌≡◌, true, ℕ, List, [], ◌∷◌, Option, Some, None}
-use Rattle.ic_link_ops.specs.Prelude.{Place, Cut, Table}
-use Rattle.ic_link_ops.specs.Chains.{Ends}
+use Rattle.ic_link_ops.specs.Prelude.{Place, Cut, Table, Ends}
 use Rattle.ic_link_ops.specs.XorLinkedList as xor
 use Rattle.ic_raw.specs.declared.words.RawOne.{RawOne}
 use Rattle.ic_raw.specs.declared.words.RawEnds.{RawEnds}

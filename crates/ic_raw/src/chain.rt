@@ -6,8 +6,7 @@
 //! ```
 
 ghost use Rattle.std.specs.Prelude.{◌≡◌, ◌≢◌, ◌≤◌, ◌↔◌, ◌++◌, ◌∷◌, List, Option, Some, None, length, true};
-ghost use Rattle.ic_link_ops.specs.Prelude.{Place, last, IsMember, IsLinked};
-ghost use Rattle.ic_link_ops.specs.SinglyLinkedList.{list_from};
+ghost use Rattle.ic_link_ops.specs.Prelude.{Place, last, IsMember, IsLinked, list_from};
 ghost use Rattle.ic_hash_table.specs.Searches.{Finds};
 ghost use Rattle.ic_raw.specs.declared.status.TheConstants.{OK, NULL, BROKEN};
 ghost use Rattle.ic_raw.specs.Answers.{HandsOut};

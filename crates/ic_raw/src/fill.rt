@@ -5,9 +5,7 @@
 //! ```
 
 ghost use Rattle.std.specs.Prelude.{◌≡◌, ◌≢◌, Option, Some, None, List, true};
-ghost use Rattle.ic_link_ops.specs.Prelude.{Place, Cut, join, at_back};
-ghost use Rattle.ic_link_ops.specs.Chains.{RepresentsChain, TurnsEnds};
-ghost use Rattle.ic_link_ops.specs.Edits.{Splices};
+ghost use Rattle.ic_link_ops.specs.Prelude.{Place, Cut, join, at_back, RepresentsChain, TurnsEnds, Splices};
 ghost use Rattle.ic_raw.specs.declared.gap.Gap.{Gap};
 ghost use Rattle.ic_raw.specs.declared.status.TheConstants.{OK};
 ghost use Rattle.ic_raw.specs.Answers.{IsStatus, refusal};

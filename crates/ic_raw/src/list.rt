@@ -5,15 +5,12 @@
 //! ```
 
 ghost use Rattle.std.specs.Prelude.{◌≡◌, ◌≢◌, ◌++◌, ◌∷◌, [], List, Option, Some, None, true, false};
-ghost use Rattle.ic_link_ops.specs.Prelude.{Place, Cut, join, first, last, at_back, IsDisjoint, IsUnlinked, acquires, releases};
-ghost use Rattle.ic_link_ops.specs.Chains.{Ends};
-ghost use Rattle.ic_link_ops.specs.Edits.{Inserts, Removes, Replaces, Splices};
+ghost use Rattle.ic_link_ops.specs.Prelude.{Place, Cut, join, first, last, at_back, IsDisjoint, IsUnlinked, acquires, releases, Ends, Inserts, Removes, Replaces, Splices, neighbors_at};
 ghost use Rattle.ic_raw.specs.declared.gap.Gap.{Gap};
 ghost use Rattle.ic_raw.specs.declared.gap.GapSide.TheVariants.{After, Before};
 ghost use Rattle.ic_raw.specs.Gaps.{AllPutIn, IsBeside, IsCutBeside, PutIn, IsNoneOrLinked, StandBeside, TakenOut, before, gap_of, outermost};
 ghost use Rattle.ic_raw.specs.Tables.{IsFree};
 ghost use Rattle.ic_raw.specs.Touches.{Touches, sides};
-ghost use Rattle.ic_link_ops.specs.LinkedList.{neighbors_at};
 ghost use Rattle.ic_raw.specs.Doubly.{Represents, SplitsBeside, TellsGap, around, gap_from, IsEnd, end_on, next_from, prev_from};
 ghost use Rattle.ic_raw.specs.LinkWords.{lent_table, neighbors};
 

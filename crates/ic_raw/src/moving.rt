@@ -7,9 +7,7 @@
 //! ```
 
 ghost use Rattle.std.specs.Prelude.{◌≡◌, ◌++◌, ◌∷◌, [], List, Option, Some, None, true};
-ghost use Rattle.ic_link_ops.specs.Prelude.{Place, Cut, join, KeepsLinked};
-ghost use Rattle.ic_link_ops.specs.Chains.{Ends};
-ghost use Rattle.ic_link_ops.specs.Edits.{Inserts};
+ghost use Rattle.ic_link_ops.specs.Prelude.{Place, Cut, join, KeepsLinked, Ends, Inserts};
 ghost use Rattle.ic_raw.specs.declared.gap.Gap.{Gap};
 ghost use Rattle.ic_raw.specs.declared.gap.GapSide.TheVariants.{After, Before};
 ghost use Rattle.ic_raw.specs.Gaps.{IsBeside, IsMoved, IsNoneOrLinked, StandBeside, gap_of, toward};

@@ -8,11 +8,7 @@ ghost use Rattle.std.specs.Prelude.{◌≡◌, ◌≢◌, ◌⊎◌, ◌≤◌, 
 ghost use Rattle.ic_link_ops.specs.Prelude.{Place, is_placed, at_indexes, Cut, join, LinksAlso};
 ghost use Rattle.ic_link_ops.specs.Frames.{child_on};
 ghost use Rattle.ic_link_ops.specs.RedBlackTree as trees;
-ghost use Rattle.ic_rbtree.specs.Closed.{IsIn, AreIn, IsClosed};
-ghost use Rattle.ic_rbtree.specs.Comparing.{goes_left};
-ghost use Rattle.ic_rbtree.specs.Descents.{gap_in, side_of};
-ghost use Rattle.ic_rbtree.specs.Ordered.{InsertsInOrder};
-ghost use Rattle.ic_rbtree.specs.Tree.{root_of};
+ghost use Rattle.ic_rbtree.specs.Prelude.{IsIn, AreIn, IsClosed, goes_left, gap_in, side_of, InsertsInOrder, root_of};
 ghost use Rattle.ic_raw.specs.declared.status.TheConstants.{OK, NULL};
 ghost use Rattle.ic_raw.specs.Answers.{HandsOut, refusal};
 ghost use Rattle.ic_raw.specs.Gaps.{IsNoneOrLinked};

@@ -5,10 +5,7 @@
 //! ```
 
 ghost use Rattle.std.specs.Prelude.{◌≡◌, ◌≢◌, ◌↔◌, ◌++◌, ◌∷◌, [], List, Some, None, true, false};
-ghost use Rattle.ic_link_ops.specs.Prelude.{Place, Cut, join, last, IsDisjoint, IsAfter, IsLinked, IsUnlinked, acquires, releases};
-ghost use Rattle.ic_link_ops.specs.Chains.{end_of};
-ghost use Rattle.ic_link_ops.specs.Edits.{Inserts, Removes, Replaces, Splices, Splits};
-ghost use Rattle.ic_link_ops.specs.SinglyLinkedList.{list_from};
+ghost use Rattle.ic_link_ops.specs.Prelude.{Place, Cut, join, last, IsDisjoint, IsAfter, IsLinked, IsUnlinked, acquires, releases, end_of, Inserts, Removes, Replaces, Splices, Splits, list_from};
 ghost use Rattle.ic_raw.specs.declared.gap.Gap.{Gap};
 ghost use Rattle.ic_raw.specs.Gaps.{BeginApart, NamesFree, IsNoneOrLinked, before, gap_of};
 ghost use Rattle.ic_raw.specs.Tables.{IsFree};

@@ -8,9 +8,7 @@
 ghost use Rattle.std.specs.Prelude.{Some, [], ◌∷◌, Option};
 ghost use Rattle.ic_link_ops.specs.Prelude.{Place, Table};
 ghost use Rattle.ic_rbtree.specs.Closed.{ClosesAt, IsSafe, IsSafeBut, StaysClosed};
-ghost use Rattle.ic_rbtree.specs.Insertion.{Attaches};
-ghost use Rattle.ic_rbtree.specs.Transplants.{TakesAway};
-ghost use Rattle.ic_rbtree.specs.Tree.{root_of};
+ghost use Rattle.ic_rbtree.specs.Prelude.{Attaches, TakesAway, root_of};
 ghost use Rattle.ic_raw.specs.declared.words.RawThree.{RawThree};
 ghost use Rattle.ic_raw.specs.Seen.{seen, seen_node, KeepsMarks};
 ghost use Rattle.ic_raw.specs.Tree.{lent_table};

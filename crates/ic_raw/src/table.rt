@@ -6,9 +6,7 @@
 //! ```
 
 ghost use Rattle.std.specs.Prelude.{◌≡◌, ◌≢◌, ◌↔◌, ◌∷◌, ◌<◌, [], length, Some, None, true, IsTrue};
-ghost use Rattle.ic_link_ops.specs.Prelude.{Place, index_of, IsCovered, IsLinked, ChangesOnly};
-ghost use Rattle.ic_link_ops.specs.PlainTables.{table_of};
-ghost use Rattle.ic_link_ops.specs.Widths.{nameable};
+ghost use Rattle.ic_link_ops.specs.Prelude.{Place, index_of, IsCovered, IsLinked, ChangesOnly, table_of, nameable};
 ghost use Rattle.ic_raw.specs.declared.status.TheConstants.{OK, NULL};
 ghost use Rattle.ic_raw.specs.Tables.{IsView, IsFree, raw_entries, nameable_table, member_fault, place_fault};
 ghost use Rattle.ic_raw.specs.Gaps.{IsNoneOrLinked};
@@ -261,10 +259,9 @@ pub(crate) fn refusal_at_end<W: Words>(words: &mut [W], place: u32) -> u32
 
 impl<W: Words> LinkOps for RawTable<'_, W> {
     ghost use Rattle.ic_link_ops.specs.EntryLaws.{linked_in_range};
-    ghost use Rattle.ic_link_ops.specs.LinkSteps.{TraceIs};
+    ghost use Rattle.ic_link_ops.specs.Prelude.{TraceIs, HasRoom, nameable_has_room};
     ghost use Rattle.ic_link_ops.specs.StepLaws.{replays_on};
     ghost use Rattle.std.proofs.Common.{ap, refl};
-    ghost use Rattle.ic_link_ops.specs.Widths.{HasRoom, nameable_has_room};
 
     type Entry = W;
 

@@ -5,13 +5,9 @@
 //! ```
 
 ghost use Rattle.std.specs.Prelude.{◌≡◌, ◌≢◌, ◌↔◌, ◌⊎◌, ◌++◌, ◌∷◌, [], List, Option, Some, None, true, false};
-ghost use Rattle.ic_link_ops.specs.Prelude.{Place, Cut, join, IsLinked, IsUnlinked, ChangesOnly, LinksAlso, Unlinks, Exchanges};
-ghost use Rattle.ic_link_ops.specs.Edits.{Inserts, Removes, Replaces};
-ghost use Rattle.ic_link_ops.specs.RedBlackTree.{node_at};
+ghost use Rattle.ic_link_ops.specs.Prelude.{Place, Cut, join, IsLinked, IsUnlinked, ChangesOnly, LinksAlso, Unlinks, Exchanges, Inserts, Removes, Replaces, node_at};
 ghost use Rattle.ic_link_ops.specs.Frames.{across, child_on};
-ghost use Rattle.ic_rbtree.specs.Closed.{IsIn, AreIn};
-ghost use Rattle.ic_rbtree.specs.Sides.{IsBeside};
-ghost use Rattle.ic_rbtree.specs.Tree.{root_of};
+ghost use Rattle.ic_rbtree.specs.Prelude.{IsIn, AreIn, IsBeside, root_of};
 ghost use Rattle.ic_raw.specs.declared.status.TheConstants.{OK, NULL, BROKEN};
 ghost use Rattle.ic_raw.specs.Answers.{IsFound, refusal};
 ghost use Rattle.ic_raw.specs.Gaps.{IsNoneOrLinked, before};

@@ -7,9 +7,7 @@
 ghost use Rattle.std.specs.Prelude.{◌≡◌, ◌↔◌, ◌∷◌, [], List, Some, None, true, false};
 ghost use Rattle.ic_link_ops.specs.Prelude.{Place, Cut, join, IsAfter, IsBefore, IsCovered, IsUnlinked, ChangesOnly};
 ghost use Rattle.ic_link_ops.specs.declared.side.Side.TheVariants.{Right};
-ghost use Rattle.ic_rbtree.specs.Closed.{AreIn, IsIn};
-ghost use Rattle.ic_rbtree.specs.StepsTo.{StepsTo};
-ghost use Rattle.ic_rbtree.specs.Tree.{root_of};
+ghost use Rattle.ic_rbtree.specs.Prelude.{AreIn, IsIn, StepsTo, root_of};
 ghost use Rattle.ic_raw.specs.Calls.{Clears};
 ghost use Rattle.ic_raw.specs.Gaps.{IsNoneOrLinked};
 ghost use Rattle.ic_raw.specs.Seen.{seen, seen_node, has_place, StepEndsIn};

@@ -5,9 +5,7 @@
 //! ```
 
 ghost use Rattle.std.specs.Prelude.{◌≡◌, List, None, true, false};
-ghost use Rattle.ic_unsafe_ref.specs.declared.place.Place.{Place};
-ghost use Rattle.ic_link_ops.specs.Chains.{no_members};
-ghost use Rattle.ic_link_ops.specs.SinglyLinkedList.{list_from};
+ghost use Rattle.ic_link_ops.specs.Prelude.{Place, no_members, list_from};
 ghost use Rattle.ic_raw.specs.Calls.{Clears};
 ghost use Rattle.ic_raw.specs.LinkWords.{lent_table};
 ghost use Rattle.ic_raw.specs.Words.{is_linked_one};

@@ -13,16 +13,14 @@
 
 ghost use Rattle.std.specs.Prelude.{◌≡◌, ◌↔◌, Some, None, true};
 ghost use Rattle.ic_raw.specs.Words.{is_marked, narrow_place_in};
-ghost use Rattle.ic_unsafe_ref.specs.Places.{word_of};
-ghost use Rattle.ic_link_ops.specs.Chains.{no_members};
+ghost use Rattle.ic_link_ops.specs.Prelude.{word_of, no_members};
 ghost use Rattle.ic_raw.specs.Doubly.{ends_of, words_of};
 ghost use Rattle.ic_raw.specs.Singly.{front_of, word_of_front};
 ghost use Rattle.ic_raw.specs.Tree.{root_in, word_of_root};
 
 use crate::number::{narrow_place_in, place_in};
-use ic_link_ops::{NarrowWord, NextWord, PrevPlace, Word, Words};
+use ic_link_ops::{Bits, NextWord, PrevPlace, Word, Words};
 use ic_unsafe_ref::Place;
-use std::cmp::min;
 
 /// The words of a place in a table of singly linked lists or of XOR lists.
 ///
@@ -131,16 +129,6 @@ impl Words for RawOne {
     }
 
     #[inline]
-    fn most_places() -> usize {
-        Place::COUNT
-    }
-
-    #[inline]
-    fn count_nameable(places: usize) -> usize {
-        places
-    }
-
-    #[inline]
     fn is_linked(&self) -> bool {
         self.next % 2 == 1
     }
@@ -153,6 +141,11 @@ impl Words for RawOne {
     #[inline]
     fn unlink(&mut self) {
         self.next = 0;
+    }
+
+    #[inline]
+    fn most_places() -> usize {
+        Place::COUNT
     }
 
     ghost starts_unlinked = { refl };
@@ -176,8 +169,6 @@ impl NextWord for RawOne {
     fn set_next_word(&mut self, word: Word) {
         self.next = word.bits() + 1;
     }
-
-    ghost next_word_kept = { λ w linked. tt };
 }
 
 impl Words for RawTwo {
@@ -197,16 +188,6 @@ impl Words for RawTwo {
     }
 
     #[inline]
-    fn most_places() -> usize {
-        Place::COUNT
-    }
-
-    #[inline]
-    fn count_nameable(places: usize) -> usize {
-        places
-    }
-
-    #[inline]
     fn is_linked(&self) -> bool {
         self.next % 2 == 1
     }
@@ -219,6 +200,11 @@ impl Words for RawTwo {
     #[inline]
     fn unlink(&mut self) {
         self.next = 0;
+    }
+
+    #[inline]
+    fn most_places() -> usize {
+        Place::COUNT
     }
 
     ghost starts_unlinked = { refl };
@@ -241,8 +227,6 @@ impl NextWord for RawTwo {
     fn set_next_word(&mut self, word: Word) {
         self.next = word.bits() + 1;
     }
-
-    ghost next_word_kept = { λ w linked. tt };
 }
 
 impl PrevPlace for RawTwo {
@@ -298,16 +282,6 @@ impl Words for RawNarrowTwo {
     }
 
     #[inline]
-    fn most_places() -> usize {
-        NarrowWord::PLACES
-    }
-
-    #[inline]
-    fn count_nameable(places: usize) -> usize {
-        min(NarrowWord::PLACES, places)
-    }
-
-    #[inline]
     fn is_linked(&self) -> bool {
         self.next % 2 == 1
     }
@@ -322,11 +296,16 @@ impl Words for RawNarrowTwo {
         self.next = 0;
     }
 
+    #[inline]
+    fn most_places() -> usize {
+        u32::most_places()
+    }
+
     ghost starts_unlinked = { refl };
 }
 
 impl NextWord for RawNarrowTwo {
-    ghost use Rattle.ic_raw.specs.Words.{next_of_narrow, prev_of_narrow, narrow_number_small};
+    ghost use Rattle.ic_raw.specs.Words.{next_of_narrow, prev_of_narrow};
 
     ghost next_word = { next_of_narrow };
 
@@ -342,8 +321,6 @@ impl NextWord for RawNarrowTwo {
     fn set_next_word(&mut self, word: Word) {
         self.next = word.bits() as u32 + 1;
     }
-
-    ghost next_word_kept = { narrow_number_small };
 }
 
 impl PrevPlace for RawNarrowTwo {
@@ -420,16 +397,6 @@ impl Words for RawThree {
     }
 
     #[inline]
-    fn most_places() -> usize {
-        Place::COUNT
-    }
-
-    #[inline]
-    fn count_nameable(places: usize) -> usize {
-        places
-    }
-
-    #[inline]
     fn is_linked(&self) -> bool {
         self.left % 2 == 1
     }
@@ -442,6 +409,11 @@ impl Words for RawThree {
     #[inline]
     fn unlink(&mut self) {
         self.left = 0;
+    }
+
+    #[inline]
+    fn most_places() -> usize {
+        Place::COUNT
     }
 
     ghost starts_unlinked = { refl };

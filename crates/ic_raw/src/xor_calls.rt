@@ -8,8 +8,7 @@
 //! ```
 
 ghost use Rattle.std.specs.Prelude.{◌≡◌, ◌≢◌, ◌++◌, ◌∷◌, [], List, reverse, Some, None, true, false};
-ghost use Rattle.ic_link_ops.specs.Prelude.{Place, Cut, join, last, IsAfter, IsBefore, IsDisjoint, Table, acquires, releases};
-ghost use Rattle.ic_link_ops.specs.Chains.{no_members};
+ghost use Rattle.ic_link_ops.specs.Prelude.{Place, Cut, join, last, IsAfter, IsBefore, IsDisjoint, Table, acquires, releases, no_members};
 ghost use Rattle.ic_raw.specs.declared.gap.GapSide.TheVariants.{After, Before};
 ghost use Rattle.ic_raw.specs.declared.status.TheConstants.{OK, NULL};
 ghost use Rattle.ic_raw.specs.declared.words.RawOne.{RawOne};

@@ -5,8 +5,7 @@
 //! ```
 
 ghost use Rattle.std.specs.Prelude.{◌≡◌, ◌≢◌, ◌↔◌, ◌++◌, ◌∷◌, [], List, Option, Some, None, true, false};
-ghost use Rattle.ic_link_ops.specs.Prelude.{Place, Cut, join, first, last, IsDisjoint, IsAfter, IsBefore, ChangesOnly, IsLinked, IsUnlinked, acquires, releases};
-ghost use Rattle.ic_link_ops.specs.Edits.{Inserts, Removes, Replaces, Splices, Splits};
+ghost use Rattle.ic_link_ops.specs.Prelude.{Place, Cut, join, first, last, IsDisjoint, IsAfter, IsBefore, ChangesOnly, IsLinked, IsUnlinked, acquires, releases, Inserts, Removes, Replaces, Splices, Splits};
 ghost use Rattle.ic_raw.specs.Calls.{Clears};
 ghost use Rattle.ic_raw.specs.Gaps.{IsCutAt, PutIn, IsNoneOrLinked, TakenOut, Turns, gap_between};
 ghost use Rattle.ic_raw.specs.Gaps as gaps;

@@ -1,10 +1,7 @@
 -- Lemmas on the sums that stay right in an edit of a tree that records each place whose children it writes.
-use Rattle.std.proofs.Common.{◌≡◌, ◌≢◌, ◌≤◌, ℕ, Bool, true, false, cond, length, Option, Some, None, List, refl, sym, ap, ◌∙◌, subst}
-use Rattle.std.proofs.lemmas.Bool.{le-ltb}
-use Rattle.ic_link_ops.specs.Prelude.{Place, IsMember, Table, ChangesOnly}
-use Rattle.ic_link_ops.specs.Walk.{is_end}
-use Rattle.ic_link_ops.proofs.SequenceLemmas.{some_same}
-use Rattle.ic_link_ops.proofs.Walks.{is_end_not}
+use Rattle.std.proofs.Common.{◌≡◌, ◌≢◌, ◌≤◌, ℕ, Bool, true, false, cond, length, Option, Some, None, List, refl, sym, ap, ◌∙◌, subst, le-ltb}
+use Rattle.ic_link_ops.specs.Prelude.{Place, IsMember, Table, ChangesOnly, is_end}
+use Rattle.ic_link_ops.proofs.Prelude.{some_same, is_end_not}
 use Rattle.ic_raw.specs.declared.nodes.Seen.{Seen}
 use Rattle.ic_raw.specs.declared.words.RawThree.{RawThree}
 use Rattle.ic_raw.specs.Seen.{seen_node}

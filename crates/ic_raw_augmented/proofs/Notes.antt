@@ -1,12 +1,10 @@
 -- Lemmas on how a place is recorded, and on when a record stays complete while children are written.
 use Rattle.std.proofs.Common.{◌≡◌, ◌≢◌, ◌≤◌, ◌<◌, ◌||◌, ℕ, zero, suc, Bool, true, false, cond, Option, Some, None, List, [], ◌∷◌, length, drop, slice_index_or, slice_set, refl, sym, ap, ◌∙◌, subst, inl, inr, arith, eq-eqb}
-use Rattle.ic_link_ops.specs.Prelude.{Place, index_of, word_of, Table, ChangesOnly}
-use Rattle.ic_link_ops.specs.Walk.{is_end}
+use Rattle.ic_link_ops.specs.Prelude.{Place, index_of, word_of, Table, ChangesOnly, is_end}
 use Rattle.ic_unsafe_ref.proofs.PlaceLemmas.{same_or_not}
 use Rattle.ic_raw.specs.declared.nodes.Seen.{Seen}
 use Rattle.ic_raw.specs.declared.words.RawThree.{RawThree}
-use Rattle.ic_raw.specs.Seen.{also, seen, seen_node}
-use Rattle.ic_raw.specs.Words.{place_in}
+use Rattle.ic_raw.specs.Prelude.{also, seen, seen_node, place_in}
 use Rattle.ic_raw.proofs.Entries.{place_kept}
 use Rattle.ic_raw_augmented.specs.declared.written.Written.{Written}
 use Rattle.ic_raw_augmented.specs.Written.{KeepsChildren, Notes, is_among, is_noted}

@@ -1,13 +1,9 @@
 -- A search by sums finds the first interval that ends after `from`. If this interval starts before `to`, it is the first that overlaps [from, to), and
 -- otherwise no interval overlaps.
-use Rattle.std.proofs.Common.{◌≡◌, ◌≢◌, ◌≤◌, ◌<◌, ◌&&◌, nat_lt, ℕ, Bool, true, false, cond, Some, None, List, [], ◌∷◌, ◌++◌, map, max, refl, sym, ap, ◌∙◌, subst, arith, inl, inr}
+use Rattle.std.proofs.Common.{◌≡◌, ◌≢◌, ◌≤◌, ◌<◌, ◌&&◌, nat_lt, ℕ, Bool, true, false, cond, Some, None, List, [], ◌∷◌, ◌++◌, map, max, refl, sym, ap, ◌∙◌, subst, arith, inl, inr, lt-ltb, le-ltb, filter, nat_cmp, Greater}
 use Rattle.std.proofs.Math.Nat.{le-max_left, le-max_right, max-le}
-use Rattle.std.proofs.lemmas.Bool.{lt-ltb, le-ltb}
 use Rattle.std.proofs.lemmas.List.Elements.{filter-append}
 use Rattle.std.specs.Cmp.{nat_cmp_is}
-use Rattle.std.specs.List.{filter}
-use Rattle.std.specs.Ordering.{nat_cmp}
-use Rattle.std.specs.declared.cmp.Ordering.TheVariants.{Greater}
 use Rattle.ic_link_ops.specs.Prelude.{Place, first}
 use Rattle.ic_rbtree.specs.Borders.{IsSorted}
 use Rattle.ic_raw_augmented.specs.declared.sums.Kind.TheVariants.{Greatest}

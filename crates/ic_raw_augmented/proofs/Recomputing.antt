@@ -1,24 +1,15 @@
 -- Lemmas on sums that are computed again, first at a place, and then at each member above.
-use Rattle.std.proofs.Common.{◌≡◌, ◌≢◌, ◌≤◌, ◌<◌, ◌+◌, ◌-◌, ◌||◌, ℕ, suc, Bool, true, false, cond, Option, Some, None, List, ◌∷◌, refl, sym, ap, ◌∙◌, subst, inl, inr, arith}
-use Rattle.std.proofs.lemmas.Bool.{lt-ltb, le-ltb, ltb-false}
-use Rattle.ic_link_ops.specs.Prelude.{Place, index_of, place_at, word_of, IsMember, Table}
-use Rattle.ic_unsafe_ref.proofs.PlaceLemmas.{place_at_word, same_or_not}
+use Rattle.std.proofs.Common.{◌≡◌, ◌≢◌, ◌≤◌, ◌<◌, ◌+◌, ◌-◌, ◌||◌, ℕ, suc, Bool, true, false, cond, Option, Some, None, List, ◌∷◌, refl, sym, ap, ◌∙◌, subst, inl, inr, arith, lt-ltb, le-ltb, ltb-false}
+use Rattle.ic_link_ops.specs.Prelude.{Place, index_of, place_at, word_of, IsMember, Table, IsTree, Tree, leaf, fork, top, is_end}
+use Rattle.ic_link_ops.proofs.Prelude.{place_at_word, same_or_not, none_not, some_same, times_plug, is_end_not, is_end_yes, is_end_no}
 use Rattle.ic_link_ops.specs.declared.color.Color.{Color}
 use Rattle.ic_link_ops.specs.declared.side.Side.{Side}
 use Rattle.ic_link_ops.specs.declared.side.Side.TheVariants.{Left, Right}
 use Rattle.ic_link_ops.specs.Frames.{Frame, frame, child_on}
-use Rattle.ic_link_ops.specs.RedBlackTree.{IsTree}
-use Rattle.ic_link_ops.specs.Trees.{Tree, leaf, fork, top}
-use Rattle.ic_link_ops.specs.Walk.{is_end}
-use Rattle.ic_link_ops.proofs.SequenceLemmas.{none_not, some_same}
-use Rattle.ic_link_ops.proofs.Times.{times_plug}
-use Rattle.ic_link_ops.proofs.Walks.{is_end_not, is_end_yes, is_end_no}
 use Rattle.ic_raw_augmented.specs.Subtrees.{IsSubtree}
 use Rattle.ic_raw_augmented.proofs.Subtrees.{member_at, no_longer}
 use Rattle.ic_raw.specs.declared.words.RawThree.{RawThree}
-use Rattle.ic_raw.specs.Seen.{also, seen, seen_node}
-use Rattle.ic_raw.specs.TreeShape.{IsSeen}
-use Rattle.ic_raw.specs.Words.{number_in, place_in}
+use Rattle.ic_raw.specs.Prelude.{also, seen, seen_node, IsSeen, number_in, place_in}
 use Rattle.ic_raw_augmented.specs.declared.sums.Kind.{Kind}
 use Rattle.ic_raw_augmented.specs.declared.sums.RawSum.{RawSum}
 use Rattle.ic_raw_augmented.specs.Sums.{IsNear, IsRightAt, IsSummedBut, combined, is_child_of, is_from, joined_at, sum_at, sum_below, value_at}

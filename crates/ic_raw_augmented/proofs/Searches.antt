@@ -1,25 +1,17 @@
 -- Lemmas on searches by sums: in the subtree at a place, among the members after this subtree, and in a whole tree.
 use Rattle.std.proofs.Common.{◌≡◌, ◌≤◌, ◌<◌, ◌-◌, ℕ, Bool, true, false, Option, Some, None, List, [], ◌∷◌, ◌++◌, length, refl, sym, ap, ◌∙◌, subst, arith, append_assoc, append-nil}
 use Rattle.std.proofs.Math.Nat.{le-max_left, le-max_right}
-use Rattle.ic_link_ops.specs.Prelude.{Place, Cut, join, but_last, IsAfter, Table}
+use Rattle.ic_link_ops.specs.Prelude.{Place, Cut, join, but_last, IsAfter, Table, IsTree, Tree, leaf, fork, top, in_order, times_in, is_end}
 use Rattle.ic_link_ops.specs.declared.color.Color.{Color}
 use Rattle.ic_link_ops.specs.declared.side.Side.TheVariants.{Left, Right}
 use Rattle.ic_link_ops.specs.Frames.{Frame, frame, plug, before, after}
-use Rattle.ic_link_ops.specs.RedBlackTree.{IsTree}
-use Rattle.ic_link_ops.specs.Trees.{Tree, leaf, fork, top, in_order}
-use Rattle.ic_link_ops.specs.Times.{times_in}
-use Rattle.ic_link_ops.specs.Walk.{is_end}
-use Rattle.ic_link_ops.proofs.SequenceLemmas.{none_not, some_same, nothing_last, split_last}
-use Rattle.ic_link_ops.proofs.Times.{times_plug, times_order}
-use Rattle.ic_link_ops.proofs.Walks.{is_end_yes, is_end_no}
-use Rattle.ic_rbtree.specs.Closed.{IsClosed, IsIn}
-use Rattle.ic_rbtree.specs.Height.{height}
+use Rattle.ic_link_ops.proofs.Prelude.{none_not, some_same, nothing_last, split_last, times_plug, times_order, is_end_yes, is_end_no}
+use Rattle.ic_rbtree.specs.Prelude.{IsClosed, IsIn, height}
 use Rattle.ic_rbtree.proofs.Climbed.{path_few}
 use Rattle.ic_raw_augmented.specs.Subtrees.{IsSubtree}
 use Rattle.ic_raw_augmented.proofs.Subtrees.{MemberSubtree, lower, member_subtree, subtree_left, subtree_parent, subtree_right}
 use Rattle.ic_raw.specs.declared.words.RawThree.{RawThree}
-use Rattle.ic_raw.specs.Seen.{seen, seen_node}
-use Rattle.ic_raw.specs.TreeShape.{IsSeen}
+use Rattle.ic_raw.specs.Prelude.{seen, seen_node, IsSeen}
 use Rattle.ic_raw_augmented.specs.declared.sums.Kind.{Kind}
 use Rattle.ic_raw_augmented.specs.declared.sums.RawSum.{RawSum}
 use Rattle.ic_raw_augmented.specs.Find.{IsFirstBeyond}

@@ -1,18 +1,13 @@
 -- Lemmas on a subtree of a represented tree: the subtree at a member of the sequence, the entry of the subtree's root, and the next larger subtree.
 use Rattle.std.proofs.Common.{◌≡◌, ◌≤◌, ◌+◌, Option, Some, None, List, [], ◌∷◌, ◌++◌, length, sym, ap, ◌∙◌, subst, arith, append-nil}
 use Rattle.std.proofs.Math.Nat.{le-max_left, le-max_right}
-use Rattle.ic_link_ops.specs.Prelude.{Place, IsMember, Table}
+use Rattle.ic_link_ops.specs.Prelude.{Place, IsMember, Table, times, times_in, Tree, leaf, fork, top, in_order}
 use Rattle.ic_link_ops.specs.declared.color.Color.{Color}
 use Rattle.ic_link_ops.specs.declared.side.Side.TheVariants.{Left, Right}
 use Rattle.ic_link_ops.specs.Frames.{Frame, frame, plug, above, before, after, IsAround}
 use Rattle.ic_link_ops.specs.RedBlackTree.{Node, IsTree, Represents}
-use Rattle.ic_link_ops.specs.Times.{times, times_in}
-use Rattle.ic_link_ops.specs.Trees.{Tree, leaf, fork, top, in_order}
 use Rattle.ic_link_ops.proofs.Frames.{focus}
-use Rattle.ic_link_ops.proofs.SequenceLemmas.{none_not, some_same, member_split}
-use Rattle.ic_link_ops.proofs.RepresentedTrees.{holds_once}
-use Rattle.ic_link_ops.proofs.Times.{times_order}
-use Rattle.ic_link_ops.proofs.Walks.{few_places}
+use Rattle.ic_link_ops.proofs.Prelude.{none_not, some_same, member_split, holds_once, times_order, few_places}
 use Rattle.ic_rbtree.specs.Height.{height}
 use Rattle.ic_rbtree.proofs.Climbed.{path_few}
 use Rattle.ic_raw_augmented.specs.Subtrees.{IsSubtree}

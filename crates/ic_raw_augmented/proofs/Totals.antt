@@ -1,16 +1,11 @@
 -- Lemmas on combined values: of parts of a list, and of the subtrees of a tree with sums.
-use Rattle.std.proofs.Common.{◌≡◌, ◌≢◌, ◌≤◌, ◌<◌, ◌+◌, ◌-◌, ◌^◌, ◌⊎◌, ℕ, Bool, true, false, nat_lt, Option, Some, List, [], ◌∷◌, ◌++◌, min, max, refl, sym, ap, ◌∙◌, inl, inr, arith}
+use Rattle.std.proofs.Common.{◌≡◌, ◌≢◌, ◌≤◌, ◌<◌, ◌+◌, ◌-◌, ◌^◌, ◌⊎◌, ℕ, Bool, true, false, nat_lt, Option, Some, List, [], ◌∷◌, ◌++◌, min, max, refl, sym, ap, ◌∙◌, inl, inr, arith, ltb-true, ltb-false}
 use Rattle.std.proofs.Math.Nat.{min-eq_left, min-eq_right, min-le_right, le-max_left, le-max_right, max-le, max-zero, zero-max}
-use Rattle.std.proofs.lemmas.Bool.{ltb-true, ltb-false}
-use Rattle.ic_link_ops.specs.Prelude.{Place, Table}
+use Rattle.ic_link_ops.specs.Prelude.{Place, Table, IsTree, one_at, times, times_in, Tree, leaf, fork, top, in_order}
 use Rattle.ic_link_ops.specs.declared.color.Color.{Color}
 use Rattle.ic_link_ops.specs.Frames.{Frame, frame, plug}
 use Rattle.ic_link_ops.specs.declared.side.Side.TheVariants.{Left, Right}
-use Rattle.ic_link_ops.specs.RedBlackTree.{IsTree}
-use Rattle.ic_link_ops.specs.Times.{one_at, times, times_in}
-use Rattle.ic_link_ops.specs.Trees.{Tree, leaf, fork, top, in_order}
-use Rattle.ic_link_ops.proofs.SequenceLemmas.{none_not, some_same}
-use Rattle.ic_link_ops.proofs.Times.{one_at_self, absent_times}
+use Rattle.ic_link_ops.proofs.Prelude.{none_not, some_same, one_at_self, absent_times}
 use Rattle.ic_raw.specs.declared.words.RawThree.{RawThree}
 use Rattle.ic_raw.specs.Seen.{seen, seen_node}
 use Rattle.ic_raw_augmented.specs.declared.sums.Kind.{Kind}

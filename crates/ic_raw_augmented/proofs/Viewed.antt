@@ -1,15 +1,11 @@
 -- Statements about sums hold for the words exactly if they hold for a view of the words. A place that a search finds is linked.
-use Rattle.std.proofs.Common.{◌≡◌, ℕ, true, false, cond, List, [], ◌∷◌, ◌++◌, Bool, Option, Some, refl, sym, ap, ◌∙◌, subst, append_assoc}
-use Rattle.std.specs.List.{filter}
+use Rattle.std.proofs.Common.{◌≡◌, ℕ, true, false, cond, List, [], ◌∷◌, ◌++◌, Bool, Option, Some, refl, sym, ap, ◌∙◌, subst, append_assoc, filter}
 use Rattle.ic_link_ops.specs.Prelude.{Place, Cut, join, first, IsMember}
-use Rattle.ic_link_ops.proofs.SequenceLemmas.{none_not, some_same, split_member}
-use Rattle.ic_link_ops.proofs.RepresentedTrees.{holds_linked}
+use Rattle.ic_link_ops.proofs.Prelude.{none_not, some_same, split_member, holds_linked}
 use Rattle.ic_raw.specs.declared.table.RawTable.{RawTable}
 use Rattle.ic_raw.specs.declared.words.RawThree.{RawThree}
-use Rattle.ic_raw.specs.Gaps.{IsNoneOrLinked}
-use Rattle.ic_raw.specs.Tables.{raw_entries}
+use Rattle.ic_raw.specs.Prelude.{IsNoneOrLinked, raw_entries, is_linked_three}
 use Rattle.ic_raw.specs.Tree.{Represents, lent_table, table_of}
-use Rattle.ic_raw.specs.Words.{is_linked_three}
 use Rattle.ic_raw_augmented.specs.declared.sums.Kind.{Kind}
 use Rattle.ic_raw_augmented.specs.declared.sums.RawSum.{RawSum}
 use Rattle.ic_raw_augmented.specs.Find.{IsFirstBeyond}

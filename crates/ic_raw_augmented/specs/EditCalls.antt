@@ -1,14 +1,12 @@
 -- The contracts of the calls that edit a tree and keep its sums right. Each record is the whole contract of a call. The field `call` says that the call edits
 -- the words as the call for trees without sums does, if there is a sum for each place. The other fields say what becomes of the sums.
 use Rattle.std.specs.Prelude.{◌≡◌, ◌≢◌, ◌⊎◌, ◌≤◌, ◌∷◌, ℕ, List, [], Option, None, length}
-use Rattle.ic_link_ops.specs.Prelude.{Place}
-use Rattle.ic_link_ops.specs.Walk.{is_end}
+use Rattle.ic_link_ops.specs.Prelude.{Place, is_end}
 use Rattle.ic_link_ops.specs.declared.side.Side.{Side}
 use Rattle.ic_raw.specs.declared.status.TheConstants.{OK, NULL}
 use Rattle.ic_raw.specs.declared.words.RawRoot.{RawRoot}
 use Rattle.ic_raw.specs.declared.words.RawThree.{RawThree}
-use Rattle.ic_raw.specs.Answers.{refusal}
-use Rattle.ic_raw.specs.Keys.{keys_fault}
+use Rattle.ic_raw.specs.Prelude.{refusal, keys_fault}
 use Rattle.ic_raw.specs.SearchCalls.{PutCall}
 use Rattle.ic_raw.specs.Tree.{Represents, fault_at, fault_of, table_of}
 use Rattle.ic_raw.specs.TreeCalls.{InsertCall, RemoveCall}

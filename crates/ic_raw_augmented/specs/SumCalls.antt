@@ -8,8 +8,7 @@ use Rattle.ic_raw.specs.declared.status.TheConstants.{OK, NULL}
 use Rattle.ic_raw.specs.declared.words.RawRoot.{RawRoot}
 use Rattle.ic_raw.specs.declared.words.RawThree.{RawThree}
 use Rattle.ic_raw.specs.Answers.{IsAccepted, IsStatus, HandsOut, IsFound, refusal}
-use Rattle.ic_raw.specs.Keys.{key_of, keys_fault}
-use Rattle.ic_raw.specs.Seen.{HandsOutReached}
+use Rattle.ic_raw.specs.Prelude.{key_of, keys_fault, HandsOutReached}
 use Rattle.ic_raw.specs.Tree.{Represents, RepresentsTree, IsNoneOrLinkedIn, fault_at, root_in, table_of}
 use Rattle.ic_raw_augmented.specs.declared.sums.Kind.{Kind}
 use Rattle.ic_raw_augmented.specs.declared.sums.Kind.TheVariants.{Greatest}

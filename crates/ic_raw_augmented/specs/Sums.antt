@@ -1,9 +1,7 @@
 -- The combined values of a tree's members, and the sums that a caller keeps beside the table.
 use Rattle.std.specs.Prelude.{◌≡◌, ◌+◌, ◌-◌, ◌^◌, ◌<◌, ◌||◌, ℕ, suc, Bool, true, false, cond, nat_eq, nat_lt, min, max, Option, Some, None, List, [], ◌∷◌, length, slice_index_or}
-use Rattle.ic_link_ops.specs.Prelude.{Place, index_of, IsMember, Table}
-use Rattle.ic_link_ops.specs.Walk.{is_end}
+use Rattle.ic_link_ops.specs.Prelude.{Place, index_of, IsMember, Table, is_end, Tree, leaf, fork, top}
 use Rattle.ic_link_ops.specs.Frames.{Frame}
-use Rattle.ic_link_ops.specs.Trees.{Tree, leaf, fork, top}
 use Rattle.ic_rbtree.specs.Closed.{IsClosed}
 use Rattle.ic_raw_augmented.specs.Subtrees.{IsSubtree}
 use Rattle.ic_raw.specs.declared.status.TheConstants.{OK, OUT_OF_RANGE}

@@ -2,8 +2,7 @@
 use Rattle.std.specs.Prelude.{◌≡◌, ◌||◌, Bool, ℕ, true, false, List, [], ◌∷◌}
 use Rattle.ic_link_ops.specs.Prelude.{Place, Table}
 use Rattle.ic_raw.specs.declared.words.RawThree.{RawThree}
-use Rattle.ic_raw.specs.Seen.{also, seen, seen_node}
-use Rattle.ic_raw.specs.Words.{place_in}
+use Rattle.ic_raw.specs.Prelude.{also, seen, seen_node, place_in}
 use Rattle.ic_raw_augmented.specs.declared.written.Written.{Written}
 
 -- whether one of the words `ws` names the place q

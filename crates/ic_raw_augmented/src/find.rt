@@ -7,18 +7,12 @@
 
 ghost use Rattle.std.specs.Prelude.{◌≡◌, ◌≢◌, ◌≤◌, ◌<◌, ◌∷◌, ◌++◌, [], true, Bool, Option, Some, None, IfSome, List, length, map, filter};
 ghost use Rattle.std.specs.Ordering.{nat_cmp};
-ghost use Rattle.ic_link_ops.specs.Prelude.{Place, Cut, join, first, IsAfter, Table};
+ghost use Rattle.ic_link_ops.specs.Prelude.{Place, Cut, join, first, IsAfter, Table, IsTree, Tree, top, in_order};
 ghost use Rattle.ic_link_ops.specs.Frames.{Frame, plug, before, after};
-ghost use Rattle.ic_link_ops.specs.RedBlackTree.{IsTree};
-ghost use Rattle.ic_link_ops.specs.Trees.{Tree, top, in_order};
-ghost use Rattle.ic_rbtree.specs.Borders.{IsSorted};
-ghost use Rattle.ic_rbtree.specs.Closed.{IsClosed, IsIn};
-ghost use Rattle.ic_rbtree.specs.Height.{height};
+ghost use Rattle.ic_rbtree.specs.Prelude.{IsSorted, IsClosed, IsIn, height};
 ghost use Rattle.ic_raw_augmented.specs.Subtrees.{IsSubtree};
-ghost use Rattle.ic_raw.specs.Keys.{key_of};
-ghost use Rattle.ic_raw.specs.Seen.{has_place, seen, seen_node};
+ghost use Rattle.ic_raw.specs.Prelude.{key_of, has_place, seen, seen_node, IsSeen};
 ghost use Rattle.ic_raw.specs.Tree.{lent_table};
-ghost use Rattle.ic_raw.specs.TreeShape.{IsSeen};
 ghost use Rattle.ic_raw_augmented.specs.declared.sums.Kind.TheVariants.{Greatest};
 ghost use Rattle.ic_raw_augmented.specs.Ends.{EndsAbove, FindEnds, OverlapEnds};
 ghost use Rattle.ic_raw_augmented.specs.Find.{IsFirstBeyond, overlaps};

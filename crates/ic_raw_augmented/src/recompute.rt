@@ -7,9 +7,8 @@
 
 ghost use Rattle.std.specs.Prelude.{◌≡◌, ◌≤◌, ◌+◌, Bool, true, Option, Some, List, length};
 ghost use Rattle.ic_link_ops.specs.Prelude.{Place, index_of};
-ghost use Rattle.ic_raw.specs.Seen.{also, has_place};
+ghost use Rattle.ic_raw.specs.Prelude.{also, has_place, IsSeen};
 ghost use Rattle.ic_raw.specs.Tree.{lent_table};
-ghost use Rattle.ic_raw.specs.TreeShape.{IsSeen};
 ghost use Rattle.ic_raw_augmented.specs.Written.{is_noted};
 ghost use Rattle.ic_raw_augmented.specs.Sums.{IsSummed, IsSummedBut, KeepsValues, StaysBeside, is_child_of, is_from};
 

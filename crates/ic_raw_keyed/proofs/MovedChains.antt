@@ -1,25 +1,19 @@
 -- Lemmas on the members of a chain that are reversed and then moved to other buckets.
-use Rattle.std.proofs.Common.{◌≡◌, ◌<◌, ◌≤◌, ◌-◌, ◌%◌, ℕ, true, inl, inr, Option, Some, None, List, [], ◌∷◌, ◌++◌, drop, reverse, length, slice_set, refl, sym, ap, ◌∙◌, subst, arith, append_assoc, append-nil}
+use Rattle.std.proofs.Common.{◌≡◌, ◌<◌, ◌≤◌, ◌-◌, ◌%◌, ℕ, true, inl, inr, Option, Some, None, List, [], ◌∷◌, ◌++◌, drop, reverse, length, slice_set, refl, sym, ap, ◌∙◌, subst, arith, append_assoc, append-nil, mod-lt}
 use Rattle.std.specs.List.{AllByRecursion}
-use Rattle.std.proofs.Math.Nat.{mod-lt}
 use Rattle.std.proofs.lemmas.Bool.Decides.{eqb_tells}
 use Rattle.std.proofs.lemmas.List.{reverse-reverse, get_or-set_same, get_or-set_other}
-use Rattle.ic_link_ops.specs.Prelude.{Place, first, IsAbsent, IsDisjoint, IsDistinct, IsMember, Table, ChangesOnly, ChangesOnlyIn}
+use Rattle.ic_link_ops.specs.Prelude.{Place, first, IsAbsent, IsDisjoint, IsDistinct, IsMember, Table, ChangesOnly, ChangesOnlyIn, Front, IsFollowed, Successor, list_from, successor_at}
 use Rattle.ic_link_ops.specs.Chains.{IsChain}
 use Rattle.ic_link_ops.specs.NumberedCollections.{with_at}
-use Rattle.ic_link_ops.specs.SinglyLinkedList.{Front, IsFollowed, Successor, list_from, successor_at}
 use Rattle.ic_link_ops.proofs.Chains.{chain_kept}
 use Rattle.ic_link_ops.proofs.SequenceLemmas.{absent_left, absent_reverse, absent_right, absent_swap, disjoint_cons, disjoint_nothing, disjoint_sym, distinct_middle, fewer, first_is, none_not, nothing_first, reverse_cons, some_same, split_member}
 use Rattle.ic_link_ops.proofs.RepresentedLists.{represents_frame}
 use Rattle.ic_raw.specs.declared.table.RawTable.{RawTable}
 use Rattle.ic_raw.specs.declared.words.RawFront.{RawFront}
 use Rattle.ic_raw.specs.declared.words.RawOne.{RawOne}
-use Rattle.ic_raw.specs.Gaps.{IsNoneOrLinked}
-use Rattle.ic_raw.specs.Hash.{HoldsChains, bucket_at, chain_of, slot_of}
-use Rattle.ic_raw.specs.Keys.{key_of}
+use Rattle.ic_raw.specs.Prelude.{IsNoneOrLinked, HoldsChains, bucket_at, chain_of, slot_of, key_of, raw_entries, is_linked_one, no_word}
 use Rattle.ic_raw.specs.Singly.{Represents, RepresentsList, front_of, lent_table, successor, table_of, word_of_front}
-use Rattle.ic_raw.specs.Tables.{raw_entries}
-use Rattle.ic_raw.specs.Words.{is_linked_one, no_word}
 use Rattle.ic_raw.proofs.Entries.{place_kept}
 use Rattle.ic_raw.proofs.HashTables.{changes_chain, chain_written, holds_again}
 use Rattle.ic_raw.proofs.HashWalks.{represented_after}

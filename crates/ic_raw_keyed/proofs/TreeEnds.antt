@@ -5,22 +5,16 @@ use Rattle.ic_link_ops.specs.declared.side.Side.{Side}
 use Rattle.ic_link_ops.specs.declared.side.Side.TheVariants.{Left, Right}
 use Rattle.ic_link_ops.specs.Frames.{across}
 use Rattle.ic_link_ops.proofs.SequenceLemmas.{absent_left, distinct_middle, distinct_right, first_not, last_not, last_of_push, last_or-append, none_not, nothing_first, nothing_last, some_same}
-use Rattle.ic_rbtree.specs.Ends.{end_on}
+use Rattle.ic_rbtree.specs.Prelude.{end_on, IsBeside, AreIn, IsIn, StepsTo}
 use Rattle.ic_rbtree.specs.Kept.{end_with, end_for, IsBelow}
-use Rattle.ic_rbtree.specs.Sides.{IsBeside}
 use Rattle.ic_rbtree.proofs.EndsKept.{comes_first, comes_last, first_replaced, last_replaced}
 use Rattle.ic_raw.specs.declared.words.RawThree.{RawThree}
 use Rattle.ic_link_ops.specs.EntryLaws.{linked_in_range}
-use Rattle.ic_rbtree.specs.Closed.{AreIn, IsIn}
-use Rattle.ic_rbtree.specs.StepsTo.{StepsTo}
 use Rattle.ic_raw.specs.declared.table.RawTable.{RawTable}
-use Rattle.ic_raw.specs.Gaps.{IsNoneOrLinked}
-use Rattle.ic_raw.specs.Seen.{has_place, seen, seen_node, StepEndsIn}
-use Rattle.ic_raw.specs.Tables.{raw_entries}
+use Rattle.ic_raw.specs.Prelude.{IsNoneOrLinked, has_place, seen, seen_node, StepEndsIn, raw_entries, is_linked_three, no_tree_words}
 use Rattle.ic_raw.specs.SearchCalls.{PutCall}
 use Rattle.ic_raw.specs.declared.words.RawRoot.{RawRoot}
 use Rattle.ic_raw.specs.Tree.{IsInsertPos, IsNoneOrLinkedIn, lent_table, root_in, table_of}
-use Rattle.ic_raw.specs.Words.{is_linked_three, no_tree_words}
 use Rattle.ic_raw.proofs.Trees.{end_in}
 use Rattle.ic_raw_keyed.specs.Ends.{IsNextEnd}
 

@@ -4,11 +4,9 @@ use Rattle.ic_link_ops.specs.Prelude.{Place, word_of, Table, IsLinked}
 use Rattle.ic_link_ops.specs.Frames.{across}
 use Rattle.ic_link_ops.specs.declared.side.Side.{Side}
 use Rattle.ic_link_ops.specs.declared.side.Side.TheVariants.{Left, Right}
-use Rattle.ic_rbtree.specs.Ends.{end_on}
-use Rattle.ic_rbtree.specs.StepsTo.{StepsTo}
+use Rattle.ic_rbtree.specs.Prelude.{end_on, StepsTo}
 use Rattle.ic_raw.specs.declared.words.RawThree.{RawThree}
-use Rattle.ic_raw.specs.Seen.{seen, seen_node, StepEndsIn}
-use Rattle.ic_raw.specs.Words.{place_in, is_linked_three}
+use Rattle.ic_raw.specs.Prelude.{seen, seen_node, StepEndsIn, place_in, is_linked_three}
 use Rattle.ic_raw_keyed.specs.declared.ends.RawTreeEnds.{RawTreeEnds}
 
 -- the member that the word of an end names: the first member for the left side, the last member for the right side

@@ -9,11 +9,10 @@ use Rattle.ic_rbtree.specs.Kept.{end_for, end_with}
 use Rattle.ic_raw.specs.declared.status.TheConstants.{OK, NULL, BROKEN}
 use Rattle.ic_raw.specs.declared.words.RawRoot.{RawRoot}
 use Rattle.ic_raw.specs.declared.words.RawThree.{RawThree}
-use Rattle.ic_raw.specs.Answers.{IsAccepted, IsStatus}
+use Rattle.ic_raw.specs.Prelude.{IsAccepted, IsStatus, HasNumber}
 use Rattle.ic_raw.specs.SearchCalls as keyed
 use Rattle.ic_raw.specs.Tree.{RepresentsTree, FreeIn, IsInsertPos, root_in, table_of}
 use Rattle.ic_raw.specs.TreeCalls as trees
-use Rattle.ic_raw.specs.Words.{HasNumber}
 use Rattle.ic_raw_keyed.specs.declared.ends.RawTreeEnds.{RawTreeEnds}
 use Rattle.ic_raw_keyed.specs.Ends.{SaysEnds, IsWritten, EndWith, LosesEnd, end_in}
 

@@ -3,11 +3,7 @@ use Rattle.std.specs.Prelude.{◌≡◌, ◌⊎◌, ℕ, ◌%◌, eqb, cond, Som
 use Rattle.ic_link_ops.specs.Prelude.{Place, IsMember, Table}
 use Rattle.ic_raw.specs.declared.words.RawFront.{RawFront}
 use Rattle.ic_raw.specs.declared.words.RawOne.{RawOne}
-use Rattle.ic_raw.specs.Gaps.{IsNoneOrLinked}
-use Rattle.ic_raw.specs.Hash.{bucket_at}
-use Rattle.ic_raw.specs.Keys.{key_of}
-use Rattle.ic_raw.specs.Singly.{front_of, word_of_front}
-use Rattle.ic_raw.specs.Words.{is_linked_one}
+use Rattle.ic_raw.specs.Prelude.{IsNoneOrLinked, bucket_at, key_of, front_of, word_of_front, is_linked_one}
 
 -- the number of the bucket to which the hash of a place leads, among `count` buckets
 abbrev pub slot_for : (hashes : List ℕ) → (count : ℕ) → Place → ℕ

@@ -5,11 +5,9 @@ use Rattle.ic_link_ops.specs.Prelude.{Place, IsDisjoint, ChangesOnlyIn, KeepsLin
 use Rattle.ic_raw.specs.declared.status.TheConstants.{OK}
 use Rattle.ic_raw.specs.declared.words.RawFront.{RawFront}
 use Rattle.ic_raw.specs.declared.words.RawOne.{RawOne}
-use Rattle.ic_raw.specs.Answers.{IsAccepted, IsStatus, refusal}
+use Rattle.ic_raw.specs.Prelude.{IsAccepted, IsStatus, refusal, keys_fault, is_linked_one}
 use Rattle.ic_raw.specs.Hash.{HoldsChains, buckets_fault}
-use Rattle.ic_raw.specs.Keys.{keys_fault}
 use Rattle.ic_raw.specs.Singly.{RepresentsList, table_of, word_of_front}
-use Rattle.ic_raw.specs.Words.{is_linked_one}
 use Rattle.ic_raw_keyed.specs.Growth.{LeadsToLinked, StaysOrGets, leading_to}
 
 -- `hashes` has the hash of each place. `old` and `new` are the words of the table before and after the call. `chain` and `chain'` are the words of the chain

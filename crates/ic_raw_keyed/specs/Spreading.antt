@@ -5,9 +5,8 @@ use Rattle.ic_link_ops.specs.NumberedCollections.{with_at}
 use Rattle.ic_raw.specs.declared.table.RawTable.{RawTable}
 use Rattle.ic_raw.specs.declared.words.RawFront.{RawFront}
 use Rattle.ic_raw.specs.declared.words.RawOne.{RawOne}
-use Rattle.ic_raw.specs.Hash.{HoldsChains}
+use Rattle.ic_raw.specs.Prelude.{HoldsChains, raw_entries}
 use Rattle.ic_raw.specs.Singly.{lent_table}
-use Rattle.ic_raw.specs.Tables.{raw_entries}
 use Rattle.ic_raw_keyed.specs.Growth.{StaysOrGets, slot_for}
 
 -- the chains after each member of r, one after the other, was moved to the front of the chain to which the hash of the member leads

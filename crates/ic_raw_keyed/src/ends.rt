@@ -5,8 +5,7 @@
 //! ```
 
 ghost use Rattle.std.specs.Prelude.{◌≡◌, Some};
-ghost use Rattle.ic_unsafe_ref.specs.declared.place.Place.{Place};
-ghost use Rattle.ic_link_ops.specs.Walk.{is_end};
+ghost use Rattle.ic_link_ops.specs.Prelude.{Place, is_end};
 ghost use Rattle.ic_link_ops.specs.declared.side.Side.{Side};
 ghost use Rattle.ic_link_ops.specs.declared.side.Side.TheVariants.{Left, Right};
 ghost use Rattle.ic_rbtree.specs.Kept.{end_for, end_with};

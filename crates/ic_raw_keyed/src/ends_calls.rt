@@ -9,13 +9,9 @@ ghost use Rattle.std.specs.Prelude.{◌≡◌, ◌≢◌, ◌↔◌, ◌++◌, �
 ghost use Rattle.ic_link_ops.specs.declared.side.Side.{Side};
 ghost use Rattle.ic_link_ops.specs.Prelude.{Place, Cut, join, insert};
 ghost use Rattle.ic_link_ops.specs.Frames.{across};
-ghost use Rattle.ic_rbtree.specs.Closed.{AreIn, IsIn};
-ghost use Rattle.ic_rbtree.specs.Ends.{end_on};
-ghost use Rattle.ic_rbtree.specs.Sides.{IsBeside};
-ghost use Rattle.ic_rbtree.specs.StepsTo.{StepsTo};
-ghost use Rattle.ic_raw.specs.Seen.{has_place, seen, seen_node, StepEndsIn};
+ghost use Rattle.ic_rbtree.specs.Prelude.{AreIn, IsIn, end_on, IsBeside, StepsTo};
+ghost use Rattle.ic_raw.specs.Prelude.{has_place, seen, seen_node, StepEndsIn, place_of};
 ghost use Rattle.ic_raw.specs.Tree.{RepresentsTree, IsNoneOrLinkedIn, lent_table, root_in, table_of};
-ghost use Rattle.ic_raw.specs.Words.{place_of};
 ghost use Rattle.ic_raw_keyed.specs.declared.ends.RawTreeEnds.{RawTreeEnds};
 ghost use Rattle.ic_raw_keyed.specs.Ends.{SaysEnds, IsWritten, EndWith, LosesEnd, end_in};
 ghost use Rattle.ic_raw_keyed.specs.EndsCalls.{InsertCall, PopFirstCall, PutCall, RemoveCall, ReplaceCall};

@@ -7,11 +7,9 @@
 
 ghost use Rattle.std.specs.Prelude.{◌≡◌, ◌<◌, ◌≤◌, ◌%◌, ℕ, List, Option, Some, length, reverse, slice_set, true};
 ghost use Rattle.std.specs.List.{AllByRecursion};
-ghost use Rattle.ic_link_ops.specs.Prelude.{Place, index_of, ChangesOnly, IsLinked, ChangesOnlyIn, KeepsLinked};
-ghost use Rattle.ic_link_ops.specs.SinglyLinkedList.{list_from, successor_at};
-ghost use Rattle.ic_raw.specs.Hash.{bucket_at};
+ghost use Rattle.ic_link_ops.specs.Prelude.{Place, index_of, ChangesOnly, IsLinked, ChangesOnlyIn, KeepsLinked, list_from, successor_at};
+ghost use Rattle.ic_raw.specs.Prelude.{bucket_at, is_linked_one};
 ghost use Rattle.ic_raw.specs.Singly.{Represents, front_of, lent_table, successor, word_of_front};
-ghost use Rattle.ic_raw.specs.Words.{is_linked_one};
 ghost use Rattle.ic_raw_keyed.specs.Growth.{LeadsToLinked, slot_for};
 ghost use Rattle.ic_raw_keyed.specs.Spreading.{Spreads};
 

@@ -3,9 +3,7 @@
 use Rattle.std.proofs.Common.{◌≡◌, ◌≢◌, ℕ, ◌+◌, ◌<◌, Option, Some, None, List, [], ◌∷◌, ◌++◌, length, length-append, append_assoc, append-nil, true, refl, sym, ap, subst, ◌∙◌, arith}
 use Rattle.ic_link_ops.specs.Prelude.{Place, IsAbsent, IsDistinct, first_or, last_or, last, Table, IsCovered}
 use Rattle.ic_link_ops.specs.LinkedList.{Neighbors, neighbors_at, IsBetween, IsChain}
-use Rattle.ic_link_ops.proofs.SequenceLemmas.{absent_both, absent_right, distinct_insert, first_or-append, last_not, last_or-append, some_same}
-use Rattle.ic_link_ops.proofs.Chains.{chain_cut, chain_glue}
-use Rattle.ic_link_ops.proofs.Walks.{stretch_length}
+use Rattle.ic_link_ops.proofs.Prelude.{absent_both, absent_right, distinct_insert, first_or-append, last_not, last_or-append, some_same, chain_cut, chain_glue, stretch_length}
 use Rattle.ic_ring.specs.Rings.{IsCircle}
 use Rattle.ic_raw_lists.specs.RingOrders.{IsNotAmong}
 

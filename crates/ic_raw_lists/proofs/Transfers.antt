@@ -1,7 +1,6 @@
 -- Lemmas on a member that moves from one list into another. Of the other members, only the old and the new neighbors of this member change.
 use Rattle.std.proofs.Common.{◌≡◌, ◌≢◌, Option, Some, List, [], ◌∷◌, ◌++◌, refl, ◌∙◌}
-use Rattle.ic_link_ops.specs.Prelude.{Place, Cut, join, insert, first, last, IsAbsent, IsAfter, IsBefore, IsDisjoint, Table}
-use Rattle.ic_link_ops.specs.Chains.{Ends}
+use Rattle.ic_link_ops.specs.Prelude.{Place, Cut, join, insert, first, last, IsAbsent, IsAfter, IsBefore, IsDisjoint, Table, Ends}
 use Rattle.ic_link_ops.proofs.SequenceLemmas.{absent_left, absent_right, absent_without, disjoint_cons, disjoint_remove, disjoint_sym, distinct_middle, gap_not}
 use Rattle.ic_link_ops.proofs.RepresentedLists.{represents_frame}
 use Rattle.ic_raw.specs.declared.table.RawTable.{RawTable}

@@ -1,16 +1,13 @@
 -- The contract of the call that moves a member of one doubly linked list into another list. The record `TransferCall` is the whole contract of the call.
 use Rattle.std.specs.Prelude.{◌≡◌, ◌≢◌, ◌↔◌, ◌++◌, ◌∷◌, ℕ, List, [], Option, Some, None}
-use Rattle.ic_link_ops.specs.Prelude.{Place, Cut, join, insert, IsDisjoint, Table, ChangesOnlyIn, KeepsLinked}
-use Rattle.ic_link_ops.specs.Chains.{Ends}
+use Rattle.ic_link_ops.specs.Prelude.{Place, Cut, join, insert, IsDisjoint, Table, ChangesOnlyIn, KeepsLinked, Ends}
 use Rattle.ic_raw.specs.declared.gap.GapSide.{GapSide}
 use Rattle.ic_raw.specs.declared.gap.GapSide.TheVariants.{After, Before}
 use Rattle.ic_raw.specs.declared.status.TheConstants.{OK, NULL}
 use Rattle.ic_raw.specs.declared.words.RawEnds.{RawEnds}
-use Rattle.ic_raw.specs.Answers.{IsAccepted, IsStatus, refusal}
+use Rattle.ic_raw.specs.Prelude.{IsAccepted, IsStatus, refusal, IsApart, IsBeside, PutIn, TakenOut, Touches, sides}
 use Rattle.ic_raw.specs.Doubly.{Represents, RepresentsList, IsNoneOrLinkedIn, TellsGap, IsWritten, around, gap_from, ends_of}
-use Rattle.ic_raw.specs.Gaps.{IsApart, IsBeside, PutIn, TakenOut}
 use Rattle.ic_raw.specs.LinkWords.{LinkWords, table_of, fault_at}
-use Rattle.ic_raw.specs.Touches.{Touches, sides}
 
 -- In the table `new`, `list` has p at the position where `cut` divides it, and `given` has the members that were before and after p. Only entries of members of
 -- the two lists have changed

@@ -1,9 +1,7 @@
 -- Lemmas on what the results of the checks say about the words.
 use Rattle.std.proofs.Common.{◌≡◌, ℕ, Bool, true, false, not, is_some, IsTrue, MatchOption, Option, Some, None, List, refl, sym, ◌∙◌, subst, true≢false}
-use Rattle.ic_link_ops.specs.Prelude.{Place, IsMember, Table, HasMember}
-use Rattle.ic_link_ops.specs.Walk.{is_end}
-use Rattle.ic_link_ops.proofs.SequenceLemmas.{member_split}
-use Rattle.ic_link_ops.proofs.Walks.{is_end_no, is_end_yes}
+use Rattle.ic_link_ops.specs.Prelude.{Place, IsMember, Table, HasMember, is_end}
+use Rattle.ic_link_ops.proofs.Prelude.{member_split, is_end_no, is_end_yes}
 use Rattle.ic_check.specs.Checked.{IsRepresented, RepresentsNone}
 use Rattle.ic_check.specs.Subtrees.{AreApart}
 use Rattle.ic_raw.specs.declared.words.RawThree.{RawThree}

@@ -1,19 +1,14 @@
 -- If a statement holds of a view of a tree's words, it holds of the words that the caller lent.
 use Rattle.std.proofs.Common.{◌≡◌, true, false, cond, is_some, nat_lt, List, [], ◌∷◌, ◌++◌, Option, Some, None, refl, sym, ap, ◌∙◌}
-use Rattle.ic_link_ops.specs.Prelude.{Place, index_of, Cut, ChangesOnlyIn, HasMember, LinkStep, TraceIs}
-use Rattle.ic_link_ops.specs.Edits.{Inserts, Splits}
-use Rattle.ic_link_ops.specs.PlainTables.{entry_at}
+use Rattle.ic_link_ops.specs.Prelude.{Place, index_of, Cut, ChangesOnlyIn, HasMember, LinkStep, TraceIs, Inserts, Splits, entry_at}
 use Rattle.ic_link_ops.specs.StepLaws.{trace_within}
-use Rattle.ic_link_ops.proofs.SequenceLemmas.{some_same, split_member}
-use Rattle.ic_link_ops.proofs.RepresentedTrees.{holds_linked}
+use Rattle.ic_link_ops.proofs.Prelude.{some_same, split_member, holds_linked}
 use Rattle.ic_rbtree.specs.Join.{Appends, RepresentsParts}
 use Rattle.ic_raw.specs.declared.marked_tree.MarkedTree.{MarkedTree}
 use Rattle.ic_raw.specs.declared.table.RawTable.{RawTable}
 use Rattle.ic_raw.specs.declared.words.RawThree.{RawThree}
-use Rattle.ic_raw.specs.MarkedTree.{marked_entries, marked_table}
-use Rattle.ic_raw.specs.Tables.{member_fault, place_fault, raw_entries}
+use Rattle.ic_raw.specs.Prelude.{marked_entries, marked_table, member_fault, place_fault, raw_entries, is_linked_three, no_tree_words}
 use Rattle.ic_raw.specs.Tree.{FreeIn, Represents, fault_at, fault_of, lent_table, table_of}
-use Rattle.ic_raw.specs.Words.{is_linked_three, no_tree_words}
 use Rattle.ic_raw.proofs.Runs.{free_of}
 use Rattle.ic_raw.proofs.Trees.{kept}
 

@@ -1,10 +1,8 @@
 -- Two trees of one table share no member if their roots differ. If they share a member, they are one tree.
 use Rattle.std.proofs.Common.{◌≡◌, ℕ, zero, suc, ◌+◌, ◌≤◌, Option, Some, None, List, [], ◌∷◌, ◌++◌, refl, sym, ◌∙◌, subst, inl, inr, arith}
 use Rattle.ic_link_ops.specs.Prelude.{Place, IsAbsent, IsDisjoint, IsDistinct, IsMember, Table}
-use Rattle.ic_unsafe_ref.proofs.PlaceLemmas.{same_or_not}
+use Rattle.ic_link_ops.proofs.Prelude.{same_or_not, distinct_disjoint, distinct_splice, no_root, root_member}
 use Rattle.ic_link_ops.specs.RedBlackTree.{Node, Represents}
-use Rattle.ic_link_ops.proofs.SequenceLemmas.{distinct_disjoint, distinct_splice}
-use Rattle.ic_link_ops.proofs.RepresentedTrees.{no_root, root_member}
 use Rattle.ic_check.specs.Subtrees.{AreApart}
 use Rattle.ic_rbtree.proofs.Climbed.{Climbs, at_root, climbs, starts}
 

@@ -2,15 +2,13 @@
 -- accepted exactly if the table represents the trees of the call, and the place that the caller names has no fault. So a call never edits links that represent
 -- no tree.
 use Rattle.std.specs.Prelude.{◌≡◌, ◌≢◌, ◌↔◌, ◌++◌, ◌∷◌, ℕ, List, [], Option, Some, None}
-use Rattle.ic_link_ops.specs.Prelude.{Place, Cut, KeepsLinked, LinksAlso, HasMember}
-use Rattle.ic_link_ops.specs.Edits.{Inserts, Splits}
+use Rattle.ic_link_ops.specs.Prelude.{Place, Cut, KeepsLinked, LinksAlso, HasMember, Inserts, Splits}
 use Rattle.ic_rbtree.specs.Join.{Appends, RepresentsParts}
 use Rattle.ic_raw.specs.declared.status.TheConstants.{OK, NULL, BROKEN}
 use Rattle.ic_raw.specs.declared.words.RawRoot.{RawRoot}
 use Rattle.ic_raw.specs.declared.words.RawThree.{RawThree}
-use Rattle.ic_raw.specs.Answers.{IsStatus, IsAccepted, refusal}
+use Rattle.ic_raw.specs.Prelude.{IsStatus, IsAccepted, refusal, is_linked_three}
 use Rattle.ic_raw.specs.Tree.{Represents, RepresentsTree, FreeIn, IsWritten, root_in, word_of_root, table_of, fault_at, fault_of}
-use Rattle.ic_raw.specs.Words.{is_linked_three}
 
 -- the words represent two trees that share no member: the tree `tree` has the members before the cut, and the tree `given` has the members after the cut
 abbrev pub RepresentsBoth : List RawThree → (tree given : RawRoot) → Cut → Type 0

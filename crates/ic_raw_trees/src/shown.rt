@@ -7,15 +7,13 @@
 
 ghost use Rattle.std.specs.Prelude.{◌≡◌, ◌↔◌, IsTrue};
 ghost use Rattle.ic_check.specs.Subtrees.{AreApart};
-ghost use Rattle.ic_link_ops.specs.Prelude.{IsLinked, HasMember};
+ghost use Rattle.ic_link_ops.specs.Prelude.{IsLinked, HasMember, is_end};
 ghost use Rattle.ic_link_ops.specs.RedBlackTree.{RepresentsSome};
-ghost use Rattle.ic_link_ops.specs.Walk.{is_end};
 ghost use Rattle.ic_rbtree.specs.Join.{RepresentsPartsSome};
 ghost use Rattle.ic_rbtree.specs.Members.{HasChild};
 ghost use Rattle.ic_rbtree.specs.Tree.{root_of};
-ghost use Rattle.ic_raw.specs.MarkedTree.{marked_table};
+ghost use Rattle.ic_raw.specs.Prelude.{marked_table, is_linked_three};
 ghost use Rattle.ic_raw.specs.Tree.{Represents, IsWritten, node, root_in};
-ghost use Rattle.ic_raw.specs.Words.{is_linked_three};
 
 use ic_check::{TellsLinks, check_tree};
 use ic_link_ops::rbtree::RBTreeOps;

@@ -1,25 +1,17 @@
 -- A new member is inserted into an insert position, which is a missing child.
 use Rattle.std.proofs.Common.{◌≡◌, ◌≢◌, ◌+◌, ◌≤◌, Bool, true, false, Option, Some, None, List, [], ◌∷◌, ◌++◌, refl, sym, ap, ◌∙◌, subst, arith, append-nil, append_assoc, inl, inr}
-use Rattle.ic_link_ops.specs.Prelude.{Place, Cut, join, first, last_or, IsAbsent, Table, ChangesOnly, IsLinked, IsUnlinked}
-use Rattle.ic_unsafe_ref.proofs.PlaceLemmas.{same_or_not}
+use Rattle.ic_link_ops.specs.Prelude.{Place, Cut, join, first, last_or, IsAbsent, Table, ChangesOnly, IsLinked, IsUnlinked, Inserts, Tree, leaf, fork, top, in_order, IsRight, one_at, times, times_in}
+use Rattle.ic_link_ops.proofs.Prelude.{same_or_not, none_not, some_same, one_at_self, one_at_other, times_order, absent_times, times_append, holds_once, holds_out}
 use Rattle.ic_link_ops.specs.declared.color.Color.{Color}
 use Rattle.ic_link_ops.specs.declared.color.Color.TheVariants.{Red, Black}
 use Rattle.ic_link_ops.specs.declared.side.Side.{Side}
 use Rattle.ic_link_ops.specs.declared.side.Side.TheVariants.{Left, Right}
-use Rattle.ic_link_ops.specs.Edits.{Inserts}
-use Rattle.ic_link_ops.specs.Trees.{Tree, leaf, fork, top, in_order}
-use Rattle.ic_link_ops.specs.Shape.{IsRight}
 use Rattle.ic_link_ops.specs.RedBlackTree.{Node, Holds, Represents}
 use Rattle.ic_link_ops.specs.Frames.{child_on, Frame, frame, with_child, plug, above, before, after}
-use Rattle.ic_link_ops.proofs.SequenceLemmas.{none_not, some_same}
 use Rattle.ic_link_ops.proofs.Frames.{in_order_parts}
-use Rattle.ic_link_ops.specs.Times.{one_at, times, times_in}
-use Rattle.ic_link_ops.proofs.Times.{one_at_self, one_at_other, times_order, absent_times, times_append}
-use Rattle.ic_link_ops.proofs.RepresentedTrees.{holds_once, holds_out}
 use Rattle.ic_link_ops.proofs.RepresentedTrees.{free_absent, represents_beside}
 use Rattle.ic_link_ops.proofs.Trees.{leaf_is}
-use Rattle.ic_rbtree.specs.Pieces.{Piece, cell, loose, below, around, ClimbState, Represented}
-use Rattle.ic_rbtree.specs.Insertion.{RedAt, IsInsertPos}
+use Rattle.ic_rbtree.specs.Prelude.{Piece, cell, loose, below, around, ClimbState, Represented, RedAt, IsInsertPos}
 use Rattle.ic_rbtree.proofs.Branches.{side_linked, top_leaf}
 use Rattle.ic_rbtree.proofs.Pieces.{regroup, node_set}
 use Rattle.ic_rbtree.proofs.Rotations.{changes_child_side, close_below}

@@ -1,18 +1,14 @@
 -- Lemmas about the step from a position in a represented tree to the member beside the position, and about the insert position between them.
 use Rattle.std.proofs.Common.{◌≡◌, ◌<◌, Option, Some, None, List, [], ◌∷◌, refl, sym, ap, ◌∙◌, subst}
-use Rattle.ic_link_ops.specs.Prelude.{Place, Cut, join, Table, HasMember}
+use Rattle.ic_link_ops.specs.Prelude.{Place, Cut, join, Table, HasMember, Tree, leaf, fork, top, in_order, IsRight}
 use Rattle.ic_link_ops.specs.declared.color.Color.{Color}
 use Rattle.ic_link_ops.specs.declared.side.Side.{Side}
 use Rattle.ic_link_ops.specs.declared.side.Side.TheVariants.{Left, Right}
-use Rattle.ic_link_ops.specs.Trees.{Tree, leaf, fork, top, in_order}
 use Rattle.ic_link_ops.specs.RedBlackTree.{Node, Represents}
-use Rattle.ic_link_ops.specs.Shape.{IsRight}
 use Rattle.ic_link_ops.specs.Frames.{frame, across, child_on, branch, plug}
 use Rattle.ic_link_ops.proofs.RepresentedTrees.{no_root}
-use Rattle.ic_rbtree.specs.Height.{height, turns}
-use Rattle.ic_rbtree.specs.Pieces.{ClimbState}
+use Rattle.ic_rbtree.specs.Prelude.{height, turns, ClimbState, IsInsertPos}
 use Rattle.ic_rbtree.specs.Sides.{IsBeside, beyond, nearest, IsInTree, IsOutermost, IsNearestAbove, IsOutermostWithin, IsNearestAboveWithin}
-use Rattle.ic_rbtree.specs.Insertion.{IsInsertPos}
 use Rattle.ic_rbtree.proofs.Nearest.{nearest_or, choose, is_beside, nearest_there, nearest_plain, nearest_around, beside_member, beside_null, nearest_nothing, nothing_both}
 use Rattle.ic_rbtree.proofs.Low.{represented_low}
 use Rattle.ic_rbtree.proofs.Zipper.{go_down}

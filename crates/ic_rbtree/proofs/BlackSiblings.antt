@@ -1,18 +1,14 @@
 -- Lemmas about the cases 2, 3 and 4 of the repair after a removal, in which the sibling of the short subtree is black.
 use Rattle.std.proofs.Common.{◌≡◌, ◌⊎◌, inl, inr, Bool, true, false, ◌||◌, Option, Some, List, ◌∷◌, refl, sym, ap, ◌∙◌, subst}
-use Rattle.ic_link_ops.specs.Prelude.{Place, Table, ChangesOnly}
+use Rattle.ic_link_ops.specs.Prelude.{Place, Table, ChangesOnly, Tree, leaf, fork, top, in_order, top_color, Node, IsTree}
 use Rattle.ic_link_ops.specs.declared.color.Color.{Color}
 use Rattle.ic_link_ops.specs.declared.color.Color.TheVariants.{Red, Black}
 use Rattle.ic_link_ops.specs.declared.side.Side.{Side}
 use Rattle.ic_link_ops.specs.declared.side.Side.TheVariants.{Left, Right}
-use Rattle.ic_link_ops.specs.Trees.{Tree, leaf, fork, top, in_order}
-use Rattle.ic_link_ops.specs.Shape.{top_color}
-use Rattle.ic_link_ops.specs.RedBlackTree.{Node, IsTree}
 use Rattle.ic_link_ops.specs.Frames.{Frame, frame, branch, plug, above, IsAtSide, across, child_on}
 use Rattle.ic_link_ops.proofs.SequenceLemmas.{none_not, some_same}
-use Rattle.ic_rbtree.specs.Pieces.{ClimbState}
+use Rattle.ic_rbtree.specs.Prelude.{ClimbState, Rotates}
 use Rattle.ic_rbtree.specs.Focus.{Focus, IsRestored}
-use Rattle.ic_rbtree.specs.Steps.{Rotates}
 use Rattle.ic_rbtree.specs.Shortage.{IsShort}
 use Rattle.ic_rbtree.specs.Removal.{is_red, red_child, red_at, red_below, AreRead, ShortAt, Beside, HasRedFarNephew, Rises}
 use Rattle.ic_rbtree.proofs.Branches.{branch_across, across_twice, top_branch, as_branch, branch_open, order_plug, order_branch, order_rotated, side_near, side_far, side_tint}

@@ -1,11 +1,9 @@
 -- A branch is a tree whose parts are listed from one side: the subtree on this side, the root, and the other subtree.
 use Rattle.std.proofs.Common.{◌≡◌, true, Option, Some, None, List, [], ◌∷◌, ◌++◌, refl, sym, ap, ◌∙◌, append_assoc}
-use Rattle.ic_unsafe_ref.specs.declared.place.Place.{Place}
+use Rattle.ic_link_ops.specs.Prelude.{Place, Tree, leaf, fork, top, in_order, top_color}
 use Rattle.ic_link_ops.specs.declared.color.Color.{Color}
 use Rattle.ic_link_ops.specs.declared.side.Side.{Side}
 use Rattle.ic_link_ops.specs.declared.side.Side.TheVariants.{Left, Right}
-use Rattle.ic_link_ops.specs.Trees.{Tree, leaf, fork, top, in_order}
-use Rattle.ic_link_ops.specs.Shape.{top_color}
 use Rattle.ic_link_ops.specs.RedBlackTree.{Node, IsAt, IsTree}
 use Rattle.ic_link_ops.specs.Frames.{Frame, frame, branch, plug, IsAtSide, across, child_on}
 use Rattle.ic_link_ops.proofs.Trees.{at_parent, at_color, at_loose}

@@ -1,24 +1,16 @@
 -- A builder stores the two ends of a vine. Lemmas state how a place is appended to the vine, how the vine becomes a tree, and how a tree becomes a vine.
 use Rattle.std.proofs.Common.{◌≡◌, ℕ, zero, suc, ◌+◌, ◌*◌, ◌^◌, ◌≤◌, ◌<◌, Bool, Option, Some, None, List, [], ◌∷◌, ◌++◌, length, refl, sym, ap, ◌∙◌, subst, arith, append-nil}
 use Rattle.std.proofs.lemmas.Nat.{pow-add}
-use Rattle.ic_link_ops.specs.Prelude.{Place, Cut, join, IsAbsent, IsDistinct, first, last, at_front, at_back, Table, ChangesOnly, IsUnlinked}
+use Rattle.ic_link_ops.specs.Prelude.{Place, Cut, join, IsAbsent, IsDistinct, first, last, at_front, at_back, Table, ChangesOnly, IsUnlinked, Ends, list_head, end_of, Inserts, Removes, top_color, Tree, in_order}
 use Rattle.ic_link_ops.specs.declared.color.Color.TheVariants.{Black}
 use Rattle.ic_link_ops.specs.declared.side.Side.TheVariants.{Left, Right}
-use Rattle.ic_link_ops.specs.Chains.{Ends, list_head, end_of}
-use Rattle.ic_link_ops.specs.Edits.{Inserts, Removes}
 use Rattle.ic_link_ops.specs.RedBlackTree.{Node, Represents}
-use Rattle.ic_link_ops.specs.Shape.{top_color}
 use Rattle.ic_link_ops.specs.SinglyLinkedList.{IsFollowed, IsWalk}
-use Rattle.ic_link_ops.specs.Trees.{Tree, in_order}
 use Rattle.ic_link_ops.specs.Turns.{TurnsAfter}
-use Rattle.ic_link_ops.proofs.Chains.{chain_absent, chain_last, last_between}
-use Rattle.ic_link_ops.proofs.SequenceLemmas.{absent_left, absent_both, distinct_insert, disjoint_sym, last_not, last_of_push, none_not, nothing_last, some_same}
+use Rattle.ic_link_ops.proofs.Prelude.{chain_absent, chain_last, last_between, absent_left, absent_both, distinct_insert, disjoint_sym, last_not, last_of_push, none_not, nothing_last, some_same, few_places}
 use Rattle.ic_link_ops.proofs.SinglyLists.{successor_turns}
 use Rattle.ic_link_ops.proofs.Trees.{one_tree}
-use Rattle.ic_link_ops.proofs.Walks.{few_places}
-use Rattle.ic_rbtree.specs.Closed.{IsNode}
-use Rattle.ic_rbtree.specs.Height.{height, turns, IsLowest}
-use Rattle.ic_rbtree.specs.Sides.{IsBeside}
+use Rattle.ic_rbtree.specs.Prelude.{IsNode, height, turns, IsLowest, IsBeside}
 use Rattle.ic_rbtree.specs.Vines.{along, IsVine, RepresentsVine, IsVineOf, IsTreeOf, BecomesTree, BecomesVine, Rearranges}
 use Rattle.ic_rbtree.proofs.Low.{represented_low}
 use Rattle.ic_rbtree.proofs.Members.{stands_of}

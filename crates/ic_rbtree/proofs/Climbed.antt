@@ -1,22 +1,17 @@
 -- Lemmas about the climb along the parents that tests whether a place is a member. A path down a tree is short, and the parent and the children of a member are
 -- members.
 use Rattle.std.proofs.Common.{◌≡◌, ℕ, ◌+◌, ◌^◌, ◌≤◌, true, Option, Some, None, List, [], ◌∷◌, length, refl, sym, ap, ◌∙◌, subst, arith, inl, inr, ◌⊎◌, eq-eqb}
-use Rattle.ic_link_ops.specs.Prelude.{Place, index_of, IsMember, Table, IsCovered}
+use Rattle.ic_link_ops.specs.Prelude.{Place, index_of, IsMember, Table, IsCovered, is_end, Tree, fork, top, in_order, IsRight}
 use Rattle.ic_link_ops.specs.declared.color.Color.{Color}
-use Rattle.ic_link_ops.specs.Walk.{is_end}
-use Rattle.ic_link_ops.specs.Trees.{Tree, fork, top, in_order}
-use Rattle.ic_link_ops.specs.Shape.{IsRight}
 use Rattle.ic_link_ops.specs.RedBlackTree.{Node, Represents}
 use Rattle.ic_link_ops.specs.Frames.{Frame, frame, branch, plug, above, child_on}
 use Rattle.ic_link_ops.specs.declared.side.Side.{Side}
 use Rattle.ic_link_ops.specs.declared.side.Side.TheVariants.{Left, Right}
-use Rattle.ic_link_ops.proofs.SequenceLemmas.{none_not, member_split}
+use Rattle.ic_link_ops.proofs.Prelude.{none_not, member_split, few_places}
 use Rattle.ic_link_ops.proofs.RepresentedTrees.{left_member, right_member}
 use Rattle.ic_link_ops.proofs.Trees.{top_parent}
-use Rattle.ic_link_ops.proofs.Walks.{few_places}
-use Rattle.ic_rbtree.specs.Height.{height}
+use Rattle.ic_rbtree.specs.Prelude.{height, ClimbState}
 use Rattle.ic_rbtree.specs.Members.{HasChild}
-use Rattle.ic_rbtree.specs.Pieces.{ClimbState}
 use Rattle.ic_rbtree.proofs.Heights.{looks_few, exponent_small}
 use Rattle.ic_rbtree.proofs.Outermost.{framed}
 use Rattle.ic_rbtree.proofs.Branches.{top_branch}

@@ -1,13 +1,11 @@
 -- A closed set is a set of places out of which no link leads. These lemmas state which writes keep a set closed.
 use Rattle.std.proofs.Common.{◌≡◌, Bool, true, Option, Some, None, refl, sym, ap, ◌∙◌, subst, inl, inr}
-use Rattle.ic_link_ops.specs.Prelude.{Place, Table, ChangesOnly}
-use Rattle.ic_unsafe_ref.proofs.PlaceLemmas.{same_or_not}
+use Rattle.ic_link_ops.specs.Prelude.{Place, Table, ChangesOnly, Node}
+use Rattle.ic_link_ops.proofs.Prelude.{same_or_not, none_not, some_same}
 use Rattle.ic_link_ops.specs.declared.color.Color.{Color}
 use Rattle.ic_link_ops.specs.declared.side.Side.{Side}
 use Rattle.ic_link_ops.specs.declared.side.Side.TheVariants.{Left, Right}
-use Rattle.ic_link_ops.specs.RedBlackTree.{Node}
 use Rattle.ic_link_ops.specs.Frames.{child_on}
-use Rattle.ic_link_ops.proofs.SequenceLemmas.{none_not, some_same}
 use Rattle.ic_rbtree.specs.Removal.{AreRead}
 use Rattle.ic_rbtree.specs.Transplants.{or_else, both_of}
 use Rattle.ic_rbtree.specs.Closed.{IsIn, IsNode, IsNamed, IsClosedBut, IsClosed}

@@ -1,28 +1,19 @@
 -- A tree is split at an insert position, which is a missing child. The split goes from the insert position up to the root.
 use Rattle.std.proofs.Common.{◌≡◌, ℕ, ◌+◌, ◌-◌, ◌<◌, Option, Some, None, List, [], ◌∷◌, ◌++◌, refl, sym, ap, ◌∙◌, subst, arith, append-nil, append_assoc}
-use Rattle.ic_link_ops.specs.Prelude.{Place, Cut, join, Table, ChangesOnly}
+use Rattle.ic_link_ops.specs.Prelude.{Place, Cut, join, Table, ChangesOnly, Splits, weight, NoRedPair, IsEven, IsRight, times, times_in, times_around, Tree, leaf, fork, top, in_order}
 use Rattle.ic_link_ops.specs.declared.color.Color.{Color}
 use Rattle.ic_link_ops.specs.declared.color.Color.TheVariants.{Black}
 use Rattle.ic_link_ops.specs.declared.side.Side.{Side}
 use Rattle.ic_link_ops.specs.declared.side.Side.TheVariants.{Left, Right}
-use Rattle.ic_link_ops.specs.Edits.{Splits}
 use Rattle.ic_link_ops.specs.Frames.{Frame, frame, above, before, after, across, child_on, IsAround}
 use Rattle.ic_link_ops.specs.RedBlackTree.{Node, Represents}
-use Rattle.ic_link_ops.specs.Shape.{weight, NoRedPair, IsEven, IsRight}
-use Rattle.ic_link_ops.specs.Times.{times, times_in, times_around}
-use Rattle.ic_link_ops.specs.Trees.{Tree, leaf, fork, top, in_order}
-use Rattle.ic_link_ops.proofs.SequenceLemmas.{none_not, some_same}
-use Rattle.ic_link_ops.proofs.Times.{times_order, absent_times, times_append, one_at_self}
+use Rattle.ic_link_ops.proofs.Prelude.{none_not, some_same, times_order, absent_times, times_append, one_at_self}
 use Rattle.ic_link_ops.proofs.Trees.{leaf_is}
-use Rattle.ic_rbtree.specs.Closed.{IsNode, IsNamed}
+use Rattle.ic_rbtree.specs.Prelude.{IsNode, IsNamed, turns, Piece, loose, below, around, Held, ClimbState, Represented, IsOn, IsSideOf}
 use Rattle.ic_rbtree.specs.Cuts.{CutUp, IsCutUp, IsCutBelow, IsCutting, Detaches, AreCutApart}
-use Rattle.ic_rbtree.specs.Height.{turns}
 use Rattle.ic_rbtree.specs.Insertion.{blackened, IsInsertPos}
 use Rattle.ic_rbtree.specs.declared.join.roots.Measured.{Measured}
 use Rattle.ic_rbtree.specs.Join.{IsMeasured, Pair, AreMeasured, IsJoined}
-use Rattle.ic_rbtree.specs.Pieces.{Piece, loose, below, around, Held, ClimbState, Represented}
-use Rattle.ic_rbtree.specs.Removal.{IsOn}
-use Rattle.ic_rbtree.specs.Steps.{IsSideOf}
 use Rattle.ic_rbtree.proofs.Attaching.{insert_pos}
 use Rattle.ic_rbtree.proofs.Branches.{side_near, side_far, side_tint, side_up, side_linked}
 use Rattle.ic_rbtree.proofs.Low.{frames_low, blacks_low}

@@ -1,18 +1,12 @@
 -- Laws for callers: after each kind of step, a tree still has each of the objects.
-use Rattle.std.proofs.Common.{◌≡◌, ◌≢◌, ℕ, Option, Some, None, IsSome, is_some, List, [], ◌∷◌, ◌++◌, map, sym, ap, ◌∙◌, subst, true≢false}
+use Rattle.std.proofs.Common.{◌≡◌, ◌≢◌, ℕ, Option, Some, None, IsSome, is_some, List, [], ◌∷◌, ◌++◌, map, sym, ap, ◌∙◌, subst, true≢false, nat_cmp}
 use Rattle.std.proofs.lemmas.Cmp.{nat_cmp_total}
 use Rattle.std.proofs.lemmas.List.Elements.{filter_map-append}
 use Rattle.std.specs.List.{AllByRecursion, cons_option}
-use Rattle.std.specs.Ordering.{nat_cmp}
 use Rattle.ic_link_ops.specs.Prelude.{Place, Objects, Places, Frees, object_at, is_placed, IsAbsent, IsLinked, IsUnlinked, LinksAlso, Unlinks, ArePlaced, RepresentsPlaced, StandAt, values_at}
-use Rattle.ic_unsafe_ref.proofs.Placing.{placed_there, others_placed, gone_there, others_left}
-use Rattle.ic_link_ops.proofs.Each.{all_back, all_without}
+use Rattle.ic_link_ops.proofs.Prelude.{placed_there, others_placed, gone_there, others_left, all_back, all_without, all_beside, values_beside, stand_put, absent_left, absent_right, absent_with, distinct_middle, member_split}
 use Rattle.ic_link_ops.proofs.LinkedSets.{everywhere}
-use Rattle.ic_link_ops.proofs.PlacedValues.{all_beside, values_beside, stand_put}
-use Rattle.ic_link_ops.proofs.SequenceLemmas.{absent_left, absent_right, absent_with, distinct_middle, member_split}
-use Rattle.ic_rbtree.specs.Borders.{IsSorted}
-use Rattle.ic_rbtree.specs.Comparing.{compared, own_order}
-use Rattle.ic_rbtree.specs.Ordered.{InsertsInOrder}
+use Rattle.ic_rbtree.specs.Prelude.{IsSorted, compared, own_order, InsertsInOrder}
 use Rattle.ic_rbtree.specs.PlainTrees.{TreeLinkOps, RepresentsTree, PlainRepresents, is_linked, plain_table}
 use Rattle.ic_rbtree.specs.SortedValues.{HasSorted, InsertsValue}
 use Rattle.ic_rbtree.proofs.PlainTrees.{plain_trees}

@@ -1,24 +1,19 @@
 -- A tree is given by its two ends. The member at one end is removed, and the child of this member takes its position.
 use Rattle.std.proofs.Common.{◌≡◌, ◌+◌, true, Option, Some, None, List, [], ◌∷◌, ◌++◌, drop, refl, sym, ap, ◌∙◌, subst, arith, append-nil}
 use Rattle.std.specs.Option.{option_and}
-use Rattle.ic_link_ops.specs.Prelude.{Place, first, last, but_last, IsAbsent, Table, ChangesOnly, ChangesOnlyIn}
+use Rattle.ic_link_ops.specs.Prelude.{Place, first, last, but_last, IsAbsent, Table, ChangesOnly, ChangesOnlyIn, Tree, leaf, fork, top, in_order, Node, Holds, one_at, times, times_in, times_around}
 use Rattle.ic_link_ops.specs.declared.color.Color.{Color}
 use Rattle.ic_link_ops.specs.declared.side.Side.{Side}
 use Rattle.ic_link_ops.specs.declared.side.Side.TheVariants.{Left, Right}
-use Rattle.ic_link_ops.specs.Trees.{Tree, leaf, fork, top, in_order}
-use Rattle.ic_link_ops.specs.RedBlackTree.{Node, Holds}
 use Rattle.ic_link_ops.specs.Frames.{Frame, frame, with_child, branch, plug, above, topmost, across, child_on, before, after}
-use Rattle.ic_link_ops.specs.Times.{one_at, times, times_in, times_around}
 use Rattle.ic_link_ops.proofs.Times.{one_at_self, apart, times_order, times_distinct, times_absent, absent_times, times_plug, times_branch}
 use Rattle.ic_link_ops.proofs.Frames.{focus, in_order_parts}
 use Rattle.ic_link_ops.proofs.SequenceLemmas.{none_not, some_same, first_is, split_last, last_some, but_last_of_none, first_or-append, last_or-append}
 use Rattle.ic_link_ops.proofs.RepresentedTrees.{holds_beside}
 use Rattle.ic_link_ops.proofs.Trees.{leaf_is}
 use Rattle.ic_rbtree.specs.Ends.{end_on, others_on, RepresentsFrom, Hangs, CanDescend, IsOuter}
-use Rattle.ic_rbtree.specs.Pieces.{cell, loose, below, around, Held, ClimbState}
-use Rattle.ic_rbtree.specs.Removal.{IsOn}
+use Rattle.ic_rbtree.specs.Prelude.{cell, loose, below, around, Held, ClimbState, IsOn, Adopts}
 use Rattle.ic_rbtree.specs.Sides.{IsOutermost, beyond, nearest}
-use Rattle.ic_rbtree.specs.Steps.{Adopts}
 use Rattle.ic_rbtree.proofs.Branches.{side_far, side_up, side_linked, top_leaf}
 use Rattle.ic_rbtree.proofs.Members.{stands_of}
 use Rattle.ic_rbtree.proofs.Nearest.{nearest_or, nearest_there, nearest_plain, nearest_frame, beyond_nothing, nearest_nothing, nothing_both}

@@ -1,18 +1,14 @@
 -- Lemmas about the first and the last member of a sequence from which a member is removed, or into which a member is inserted.
 use Rattle.std.proofs.Common.{◌≡◌, ◌≢◌, true, false, cond, Option, Some, None, List, [], ◌∷◌, ◌++◌, refl, sym, ap, ◌∙◌, subst, append-nil, append_assoc, eqb-true, drop}
 use Rattle.std.specs.Option.{option_or, option_and}
-use Rattle.ic_link_ops.specs.Prelude.{Place, index_of, Cut, join, insert, first, last, but_last, IsAbsent, IsDistinct, Table}
-use Rattle.ic_unsafe_ref.proofs.PlaceLemmas.{same_index}
+use Rattle.ic_link_ops.specs.Prelude.{Place, index_of, Cut, join, insert, first, last, but_last, IsAbsent, IsDistinct, Table, is_end}
+use Rattle.ic_link_ops.proofs.Prelude.{same_index, none_not, some_same, absent_right, distinct_right, first_is, split_last, last_not, last_or-append, last_of_push, last_some, is_end_not}
 use Rattle.ic_link_ops.specs.declared.side.Side.{Side}
 use Rattle.ic_link_ops.specs.declared.side.Side.TheVariants.{Left, Right}
 use Rattle.ic_link_ops.specs.Frames.{across}
 use Rattle.ic_link_ops.specs.RedBlackTree.{Node, Represents}
-use Rattle.ic_link_ops.specs.Walk.{is_end}
-use Rattle.ic_link_ops.proofs.SequenceLemmas.{none_not, some_same, absent_right, distinct_right, first_is, split_last, last_not, last_or-append, last_of_push, last_some}
-use Rattle.ic_link_ops.proofs.Walks.{is_end_not}
-use Rattle.ic_rbtree.specs.Ends.{end_on}
+use Rattle.ic_rbtree.specs.Prelude.{end_on, IsBeside}
 use Rattle.ic_rbtree.specs.Kept.{end_with, end_for, IsBelow}
-use Rattle.ic_rbtree.specs.Sides.{IsBeside}
 use Rattle.ic_rbtree.proofs.Climbed.{is_end_there}
 
 -- if the comparison of an end with p is true, the end is p

@@ -1,7 +1,6 @@
 -- A test at each member leads a descent to a gap of the tree. This gap is a border of the test.
 use Rattle.std.proofs.Common.{◌≡◌, Bool, true, false, cond, Some, None, List, [], ◌∷◌, ◌++◌, refl, sym, ap, ◌∙◌, subst, append_assoc}
-use Rattle.ic_link_ops.specs.Prelude.{Place, Cut, join, first, last}
-use Rattle.ic_link_ops.specs.Trees.{Tree, leaf, fork, in_order}
+use Rattle.ic_link_ops.specs.Prelude.{Place, Cut, join, first, last, Tree, leaf, fork, in_order}
 use Rattle.ic_link_ops.proofs.SequenceLemmas.{none_not, some_same, last_or-append}
 use Rattle.ic_rbtree.specs.Borders.{IsBorder}
 use Rattle.ic_rbtree.specs.Descents.{left_of, right_of, gap_in}

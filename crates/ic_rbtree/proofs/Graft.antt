@@ -1,23 +1,15 @@
 -- A place is inserted into a tree together with a second tree, which becomes a subtree of the place. The lemmas follow the order of the writes.
 use Rattle.std.proofs.Common.{◌≡◌, ◌+◌, Bool, true, Option, Some, None, List, [], ◌∷◌, ◌++◌, refl, sym, ap, ◌∙◌, subst, arith}
-use Rattle.ic_link_ops.specs.Prelude.{Place, Table, ChangesOnly}
+use Rattle.ic_link_ops.specs.Prelude.{Place, Table, ChangesOnly, Tree, top, in_order, blacks, IsRight, Node}
 use Rattle.ic_link_ops.specs.declared.color.Color.{Color}
 use Rattle.ic_link_ops.specs.declared.color.Color.TheVariants.{Red, Black}
 use Rattle.ic_link_ops.specs.declared.side.Side.{Side}
 use Rattle.ic_link_ops.specs.declared.side.Side.TheVariants.{Left, Right}
-use Rattle.ic_link_ops.specs.Trees.{Tree, top, in_order}
-use Rattle.ic_link_ops.specs.Shape.{blacks, IsRight}
-use Rattle.ic_link_ops.specs.RedBlackTree.{Node}
 use Rattle.ic_link_ops.specs.Frames.{Frame, frame, with_child, branch, plug, above, before, after, across, child_on}
 use Rattle.ic_link_ops.proofs.SequenceLemmas.{none_not, some_same}
 use Rattle.ic_link_ops.proofs.Trees.{top_parent}
-use Rattle.ic_rbtree.specs.Closed.{IsNode, IsNamed, IsSafe}
-use Rattle.ic_rbtree.specs.Insertion.{RedAt}
+use Rattle.ic_rbtree.specs.Prelude.{IsNode, IsNamed, IsSafe, RedAt, Piece, cell, loose, below, around, Held, ClimbState, Represented, IsOn, EvenAround, Adopts}
 use Rattle.ic_rbtree.specs.Join.{Graft, IsGraft}
-use Rattle.ic_rbtree.specs.Pieces.{Piece, cell, loose, below, around, Held, ClimbState, Represented}
-use Rattle.ic_rbtree.specs.Removal.{IsOn}
-use Rattle.ic_rbtree.specs.Shortage.{EvenAround}
-use Rattle.ic_rbtree.specs.Steps.{Adopts}
 use Rattle.ic_rbtree.proofs.Branches.{top_branch, side_loose}
 use Rattle.ic_rbtree.proofs.Closed.{read_in}
 use Rattle.ic_rbtree.proofs.Pieces.{regroup, set_near, set_far, set_up, set_tint}

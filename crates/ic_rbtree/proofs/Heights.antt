@@ -3,14 +3,12 @@ use Rattle.std.proofs.Common.{◌≡◌, ℕ, suc, max, ◌+◌, ◌*◌, ◌^�
 use Rattle.std.proofs.Math.Nat.{pow-le-pow_left, max-le, le-max_left, le-max_right, pow-le-pow_right, pow-suc, pow-zero, one-mul, mul-le-mul, mul-add, add-mul}
 use Rattle.std.proofs.lemmas.Nat.{pow-add, pow_below}
 use Rattle.std.proofs.lemmas.Bool.{cases_lt}
-use Rattle.ic_unsafe_ref.specs.declared.place.Place.{Place}
+use Rattle.ic_link_ops.specs.Prelude.{Place, Tree, leaf, fork, in_order, top_color, blacks, IsEven, NoRedPair, IsRight}
 use Rattle.ic_link_ops.specs.declared.color.Color.{Color}
 use Rattle.ic_link_ops.specs.declared.color.Color.TheVariants.{Red, Black}
 use Rattle.ic_link_ops.specs.declared.side.Side.{Side}
 use Rattle.ic_link_ops.specs.declared.side.Side.TheVariants.{Left, Right}
-use Rattle.ic_link_ops.specs.Trees.{Tree, leaf, fork, in_order}
 use Rattle.ic_link_ops.specs.Frames.{Frame, frame, branch, plug}
-use Rattle.ic_link_ops.specs.Shape.{top_color, blacks, IsEven, NoRedPair, IsRight}
 use Rattle.ic_rbtree.specs.Height.{height}
 
 pub blacks_few : (t : Tree) → IsEven t → 2 ^ blacks t ≤ length (in_order t) + 1

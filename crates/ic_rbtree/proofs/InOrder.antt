@@ -1,6 +1,5 @@
 -- A place that has just been linked is inserted at the gap where a descent ends.
-use Rattle.std.proofs.Common.{◌≡◌, Option, Some, None, Result, Bool, true, false, List, [], ◌∷◌, ◌++◌, refl, sym, ap, ◌∙◌, subst}
-use Rattle.std.specs.declared.cmp.Ordering.{Ordering}
+use Rattle.std.proofs.Common.{◌≡◌, Option, Some, None, Result, Bool, true, false, List, [], ◌∷◌, ◌++◌, refl, sym, ap, ◌∙◌, subst, Ordering}
 use Rattle.std.specs.Bool.{OnTrue, OnFalse}
 use Rattle.ic_link_ops.specs.Prelude.{Place, Objects, object_at, Cut, join, insert, IsAbsent, IsMember, IsDistinct, Table, IsLinked, IsUnlinked, ChangesOnly, CursorState, RepresentsAt, LinkStep, acquires}
 use Rattle.ic_link_ops.specs.declared.side.Side.{Side}
@@ -14,15 +13,10 @@ use Rattle.ic_link_ops.proofs.SequenceLemmas.{absent_without, split_member}
 use Rattle.ic_link_ops.proofs.RepresentedTrees.{represents_beside, free_absent}
 use Rattle.ic_cursors.specs.Answers.{inserted}
 use Rattle.ic_rbtree.specs.declared.keys.descent.Descent.{Descent}
-use Rattle.ic_rbtree.specs.Borders.{less_at}
-use Rattle.ic_rbtree.specs.Closed.{IsSafeBut}
-use Rattle.ic_rbtree.specs.Comparing.{answer_at, compared, order_of, own_order}
-use Rattle.ic_rbtree.specs.Descents.{gap_in, EndsAt}
+use Rattle.ic_rbtree.specs.Prelude.{less_at, IsSafeBut, answer_at, compared, order_of, own_order, gap_in, EndsAt, IsInsertPos, Attaches, loose, Represented}
 use Rattle.ic_rbtree.specs.InsertPositions.{IsInOrder}
-use Rattle.ic_rbtree.specs.Insertion.{IsInsertPos, Attaches}
 use Rattle.ic_rbtree.specs.Kept.{Kept, root_kept, RepresentsFor, RepresentsKept, TellsEnds, IsBelow}
 use Rattle.ic_rbtree.specs.Ordered.{InsertsInOrder, InsertsAmong}
-use Rattle.ic_rbtree.specs.Pieces.{loose, Represented}
 use Rattle.ic_rbtree.proofs.Attaching.{acquired_represented, inserts}
 use Rattle.ic_rbtree.proofs.Gaps.{gap_join, gap_border}
 use Rattle.ic_rbtree.proofs.KeptHeads.{shown, printed, shows, inserts_kept, insert_pos_below}

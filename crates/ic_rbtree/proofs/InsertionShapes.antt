@@ -1,12 +1,10 @@
 -- Lemmas about the cases of a repair after an insert, as statements about trees alone, without a table.
 use Rattle.std.proofs.Common.{◌≡◌, ℕ, ◌+◌, List, [], ◌∷◌, refl, sym, ap, ◌∙◌, subst, arith}
-use Rattle.ic_unsafe_ref.specs.declared.place.Place.{Place}
+use Rattle.ic_link_ops.specs.Prelude.{Place, Tree, fork, top_color, weight, blacks, IsEven, NoRedPair, IsRight}
 use Rattle.ic_link_ops.specs.declared.color.Color.{Color}
 use Rattle.ic_link_ops.specs.declared.color.Color.TheVariants.{Red, Black}
 use Rattle.ic_link_ops.specs.declared.side.Side.{Side}
 use Rattle.ic_link_ops.specs.declared.side.Side.TheVariants.{Left, Right}
-use Rattle.ic_link_ops.specs.Trees.{Tree, fork}
-use Rattle.ic_link_ops.specs.Shape.{top_color, weight, blacks, IsEven, NoRedPair, IsRight}
 use Rattle.ic_link_ops.specs.Frames.{Frame, frame, branch, plug, across}
 use Rattle.ic_rbtree.specs.Shortage.{color_above, EvenAround, PairsAround, wanted, IsNearlyRight}
 

@@ -1,15 +1,11 @@
 -- Lemmas about the two kinds of heads: the table represents the members for the root, and if the head stores the ends, they are right.
 use Rattle.std.proofs.Common.{◌≡◌, ℕ, Option, Some, None, List, [], sym, ap, ◌∙◌, arith}
-use Rattle.ic_link_ops.specs.Prelude.{Place, Objects, Cut, join, insert, remove, replace, Table, site, IsValidCursor, HasMember, RepresentsPlaced}
+use Rattle.ic_link_ops.specs.Prelude.{Place, Objects, Cut, join, insert, remove, replace, Table, site, IsValidCursor, HasMember, RepresentsPlaced, Inserts, Removes, Replaces, Splits}
 use Rattle.ic_link_ops.specs.declared.side.Side.{Side}
 use Rattle.ic_link_ops.specs.declared.side.Side.TheVariants.{Left, Right}
-use Rattle.ic_link_ops.specs.Edits.{Inserts, Removes, Replaces, Splits}
 use Rattle.ic_link_ops.specs.RedBlackTree.{Node, Represents, RepresentsSome}
-use Rattle.ic_rbtree.specs.Comparing.{HasRoom}
-use Rattle.ic_rbtree.specs.Ends.{end_on}
-use Rattle.ic_rbtree.specs.Insertion.{IsInsertPos}
+use Rattle.ic_rbtree.specs.Prelude.{HasRoom, end_on, IsInsertPos, RepresentsParts, Appends}
 use Rattle.ic_rbtree.specs.Kept.{Kept, alone, ended, root_kept, RepresentsFor, RepresentsKept, TellsEnds, IsEmptied, IsBelow, EndIs, HasEnds, HasRoomFor}
-use Rattle.ic_rbtree.specs.Join.{RepresentsParts, Appends}
 
 module _ {E : Type 0} {n : E → Node} {v : Table E} where
   -- THE TABLE REPRESENTS THE MEMBERS FOR THE ROOT, if it represents them for the head

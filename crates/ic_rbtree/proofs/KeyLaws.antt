@@ -1,17 +1,13 @@
 -- Laws for callers: in a sorted sequence, the border of a key or of a bound is the first or the last of the members that a filter keeps.
-use Rattle.std.proofs.Common.{◌≡◌, ◌≢◌, Bool, true, false, cond, Option, Some, None, List, [], ◌∷◌, ◌++◌, map, IsSome, refl, sym, ap, ◌∙◌, subst, append_assoc, append-nil, true≢false}
+use Rattle.std.proofs.Common.{◌≡◌, ◌≢◌, Bool, true, false, cond, Option, Some, None, List, [], ◌∷◌, ◌++◌, map, IsSome, refl, sym, ap, ◌∙◌, subst, append_assoc, append-nil, true≢false, Ordering, Less, Equal, Greater}
 use Rattle.std.proofs.lemmas.Bool.{not-true, not-false}
 use Rattle.std.specs.Cmp.{IsTotalOrder, alike_right, upto}
 use Rattle.std.specs.List.{AllByRecursion, filter, cons_option}
-use Rattle.std.specs.declared.cmp.Ordering.{Ordering}
-use Rattle.std.specs.declared.cmp.Ordering.TheVariants.{Less, Equal, Greater}
 use Rattle.std.specs.Ordering.{is_eq, is_lt, is_le, is_gt, ordering_reverse}
 use Rattle.ic_link_ops.specs.Prelude.{Place, Objects, object_at, Cut, join, insert, first, last, ArePlaced, values_at}
-use Rattle.ic_link_ops.proofs.SequenceLemmas.{none_not}
-use Rattle.ic_link_ops.proofs.Each.{all_both, all_map}
+use Rattle.ic_link_ops.proofs.Prelude.{none_not, all_both, all_map}
 use Rattle.ic_rbtree.specs.declared.keys.key_adapter.Bound.{Bound}
-use Rattle.ic_rbtree.specs.Borders.{IsBorder, IsLowerBorder, IsUpperBorder, Finds, IsSorted, IsSortedFor, equal_at, at_most_at, less_at, if_passes}
-use Rattle.ic_rbtree.specs.Comparing.{answer_at, compared, order_of, meets_lower, meets_upper, is_beyond}
+use Rattle.ic_rbtree.specs.Prelude.{IsBorder, IsLowerBorder, IsUpperBorder, Finds, IsSorted, IsSortedFor, equal_at, at_most_at, less_at, if_passes, answer_at, compared, order_of, meets_lower, meets_upper, is_beyond}
 
 -- a test cuts the sequence s if all members before some gap fail the test, and all members after this gap pass
 pub record Cuts (test : Place → Bool) (s : List Place) : Type 0 where

@@ -1,10 +1,8 @@
 -- Laws for callers about the shape of a represented tree and about the length of its paths.
 use Rattle.std.proofs.Common.{◌≡◌, ◌+◌, ◌^◌, ◌≤◌, Option, Some, None, List, [], ◌∷◌, length, sym, ◌∙◌, subst, arith, inl, inr}
 use Rattle.std.proofs.Math.Nat.{le_trans, le-max_left, le-max_right, pow-le-pow_right}
-use Rattle.ic_link_ops.specs.Prelude.{Place, Table}
+use Rattle.ic_link_ops.specs.Prelude.{Place, Table, Tree, leaf, fork, top, top_color, IsEven, NoRedPair}
 use Rattle.ic_link_ops.specs.declared.color.Color.TheVariants.{Black}
-use Rattle.ic_link_ops.specs.Trees.{Tree, leaf, fork, top}
-use Rattle.ic_link_ops.specs.Shape.{top_color, IsEven, NoRedPair}
 use Rattle.ic_link_ops.specs.RedBlackTree.{Node, IsTree, Holds, Represents}
 use Rattle.ic_link_ops.proofs.SequenceLemmas.{none_not, some_same}
 use Rattle.ic_rbtree.specs.Height.{height}

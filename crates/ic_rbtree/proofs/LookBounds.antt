@@ -1,14 +1,10 @@
 -- Lemmas about the number of comparisons that an insert makes to find where an object goes.
-use Rattle.std.proofs.Common.{◌≡◌, ℕ, ◌+◌, ◌*◌, ◌^◌, ◌≤◌, ◌<◌, Bool, true, false, suc, Option, Some, None, List, [], ◌∷◌, ◌++◌, length, refl, sym, ◌∙◌, subst, arith, ap, true≢false}
+use Rattle.std.proofs.Common.{◌≡◌, ℕ, ◌+◌, ◌*◌, ◌^◌, ◌≤◌, ◌<◌, Bool, true, false, suc, Option, Some, None, List, [], ◌∷◌, ◌++◌, length, refl, sym, ◌∙◌, subst, arith, ap, true≢false, Ordering, IfSome, not}
 use Rattle.std.proofs.Math.Nat.{pow-le-pow_left, pow-suc}
 use Rattle.std.proofs.Math.Pow.{pow_mono}
-use Rattle.std.specs.declared.cmp.Ordering.{Ordering}
-use Rattle.std.specs.Prelude.{IfSome, not}
 use Rattle.ic_link_ops.specs.Prelude.{Place, Objects, is_placed, last, ArePlaced}
-use Rattle.ic_link_ops.proofs.PlacedEnds.{last_placed}
-use Rattle.ic_link_ops.proofs.SequenceLemmas.{none_not, nothing_last}
-use Rattle.ic_rbtree.specs.Borders.{less_at}
-use Rattle.ic_rbtree.specs.Comparing.{HasRoom, WithinComparisonBound, Looks, compared}
+use Rattle.ic_link_ops.proofs.Prelude.{last_placed, none_not, nothing_last}
+use Rattle.ic_rbtree.specs.Prelude.{less_at, HasRoom, WithinComparisonBound, Looks, compared}
 use Rattle.ic_rbtree.specs.InsertPositions.{after_there, looks_there}
 use Rattle.ic_rbtree.specs.Kept.{Kept, alone, ended, last_kept, TellsEnds, HasRoomFor, InsertLooks}
 

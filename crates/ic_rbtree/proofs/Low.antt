@@ -1,14 +1,9 @@
 -- The height of a tree of places is less than the number of turns that a repair may make.
 use Rattle.std.proofs.Common.{◌+◌, ◌<◌, ◌≤◌, Option, List, ◌∷◌, length, arith}
-use Rattle.ic_link_ops.specs.Prelude.{Place, Table}
-use Rattle.ic_link_ops.specs.Trees.{Tree, in_order}
-use Rattle.ic_link_ops.specs.Shape.{blacks, IsEven, IsRight}
-use Rattle.ic_link_ops.specs.RedBlackTree.{Node}
+use Rattle.ic_link_ops.specs.Prelude.{Place, Table, Tree, in_order, blacks, IsEven, IsRight, Node}
 use Rattle.ic_link_ops.specs.Frames.{Frame, plug}
-use Rattle.ic_link_ops.proofs.Times.{times_order, times_distinct}
-use Rattle.ic_link_ops.proofs.Walks.{few_places}
-use Rattle.ic_rbtree.specs.Height.{height, turns}
-use Rattle.ic_rbtree.specs.Pieces.{Piece, below, Held, ClimbState}
+use Rattle.ic_link_ops.proofs.Prelude.{times_order, times_distinct, few_places}
+use Rattle.ic_rbtree.specs.Prelude.{height, turns, Piece, below, Held, ClimbState}
 use Rattle.ic_rbtree.proofs.Heights.{blacks_few, height_few, length_frames_height, exponent_small, exponent_smaller}
 use Rattle.ic_rbtree.proofs.Zipper.{go_top}
 

@@ -1,7 +1,6 @@
 -- The members that are reached along the entries of a tree are the sequence that the table represents for it.
 use Rattle.std.proofs.Common.{◌≡◌, ℕ, suc, zero, ◌+◌, ◌≤◌, Bool, true, Option, Some, None, List, [], ◌∷◌, ◌++◌, length, refl, sym, ap, ◌∙◌, subst, arith, length-append}
-use Rattle.ic_link_ops.specs.Prelude.{Place, first, Table, IsCovered, IsLinked}
-use Rattle.ic_link_ops.specs.Trees.{Tree, leaf, fork, top, in_order}
+use Rattle.ic_link_ops.specs.Prelude.{Place, first, Table, IsCovered, IsLinked, Tree, leaf, fork, top, in_order}
 use Rattle.ic_link_ops.specs.RedBlackTree.{Node, IsTree, Holds, Represents, RepresentsEnds}
 use Rattle.ic_link_ops.specs.Frames.{Frame, frame, plug, above, topmost, IsAround}
 use Rattle.ic_link_ops.proofs.Frames.{focus}

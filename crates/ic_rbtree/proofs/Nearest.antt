@@ -1,10 +1,9 @@
 -- Lemmas about the member nearest to a gap on either side.
 use Rattle.std.proofs.Common.{◌≡◌, Option, Some, None, List, [], ◌∷◌, ◌++◌, drop, refl, sym, ap, ◌∙◌, append_assoc, append-nil}
-use Rattle.ic_link_ops.specs.Prelude.{Place, Cut, join, first, first_or, last, last_or, but_last}
+use Rattle.ic_link_ops.specs.Prelude.{Place, Cut, join, first, first_or, last, last_or, but_last, Tree, leaf, fork, top, in_order}
 use Rattle.ic_link_ops.specs.declared.color.Color.{Color}
 use Rattle.ic_link_ops.specs.declared.side.Side.{Side}
 use Rattle.ic_link_ops.specs.declared.side.Side.TheVariants.{Left, Right}
-use Rattle.ic_link_ops.specs.Trees.{Tree, leaf, fork, top, in_order}
 use Rattle.ic_link_ops.specs.Frames.{Frame, frame, across, branch, before, after}
 use Rattle.ic_link_ops.proofs.SequenceLemmas.{none_not, first_or-append, last_or-append, split_last, first_is, nothing_first, nothing_last}
 use Rattle.ic_rbtree.specs.Sides.{IsBeside, beyond, nearest}

@@ -1,14 +1,12 @@
 -- Lemmas about the insert position between two neighboring members, and about the insert position after the last member.
 use Rattle.std.proofs.Common.{◌≡◌, Option, Some, None, List, [], ◌∷◌, refl, sym, ap, ◌∙◌, subst}
-use Rattle.ic_link_ops.specs.Prelude.{Place, Cut, join, first, last, at_back, Table}
+use Rattle.ic_link_ops.specs.Prelude.{Place, Cut, join, first, last, at_back, Table, Tree, leaf, fork, top, in_order}
 use Rattle.ic_link_ops.specs.declared.side.Side.TheVariants.{Left, Right}
 use Rattle.ic_link_ops.specs.Frames.{Frame, frame, before}
 use Rattle.ic_link_ops.specs.RedBlackTree.{Node, Represents}
-use Rattle.ic_link_ops.specs.Trees.{Tree, leaf, fork, top, in_order}
 use Rattle.ic_link_ops.proofs.SequenceLemmas.{none_not, some_same, last_or-append, last_of_push, nothing_last}
 use Rattle.ic_link_ops.proofs.Trees.{leaf_is}
-use Rattle.ic_rbtree.specs.Insertion.{IsInsertPos}
-use Rattle.ic_rbtree.specs.Pieces.{Piece, ClimbState}
+use Rattle.ic_rbtree.specs.Prelude.{IsInsertPos, Piece, ClimbState}
 use Rattle.ic_rbtree.proofs.Nearest.{nearest_there}
 use Rattle.ic_rbtree.proofs.Removing.{spot, front_represented, represented_of}
 use Rattle.ic_rbtree.proofs.Zipper.{go_down}

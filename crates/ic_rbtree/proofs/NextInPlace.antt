@@ -1,22 +1,14 @@
 -- The next member z takes the position of a member p with two children. The paths through the old position of z may have one black member too few.
 use Rattle.std.proofs.Common.{◌≡◌, ℕ, ◌+◌, ◌≤◌, suc, Option, Some, List, [], ◌∷◌, ◌++◌, length, refl, sym, ap, ◌∙◌, subst, arith, append_assoc}
 use Rattle.std.proofs.lemmas.List.{append_cancel_right}
-use Rattle.ic_link_ops.specs.Prelude.{Place, last, Table}
+use Rattle.ic_link_ops.specs.Prelude.{Place, last, Table, Tree, in_order, weight, Node, one_at, times_around}
 use Rattle.ic_link_ops.specs.declared.color.Color.{Color}
 use Rattle.ic_link_ops.specs.declared.side.Side.{Side}
 use Rattle.ic_link_ops.specs.declared.side.Side.TheVariants.{Left, Right}
-use Rattle.ic_link_ops.specs.Trees.{Tree, in_order}
-use Rattle.ic_link_ops.specs.Shape.{weight}
-use Rattle.ic_link_ops.specs.RedBlackTree.{Node}
 use Rattle.ic_link_ops.specs.Frames.{Frame, frame, branch, plug, above, before, after}
-use Rattle.ic_link_ops.specs.Times.{one_at, times_around}
-use Rattle.ic_link_ops.proofs.SequenceLemmas.{none_not, some_same, last_of_push}
+use Rattle.ic_link_ops.proofs.Prelude.{none_not, some_same, last_of_push, one_at_self}
 use Rattle.ic_link_ops.proofs.Frames.{in_order_parts}
-use Rattle.ic_link_ops.proofs.Times.{one_at_self}
-use Rattle.ic_rbtree.specs.Pieces.{Piece, loose, ClimbState}
-use Rattle.ic_rbtree.specs.Shortage.{color_above, EvenAround, PairsAround}
-use Rattle.ic_rbtree.specs.Removal.{IsOn, Short}
-use Rattle.ic_rbtree.specs.Transplants.{TakesPlace}
+use Rattle.ic_rbtree.specs.Prelude.{Piece, loose, ClimbState, color_above, EvenAround, PairsAround, IsOn, Short, TakesPlace}
 use Rattle.ic_rbtree.proofs.Zipper.{go_up, go_down}
 
 -- THE FRAMES of the next member: the frames below the right child of p, then the frame of p, and then the frames above p

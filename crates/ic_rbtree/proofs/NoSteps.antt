@@ -1,7 +1,6 @@
 -- Lemmas about calls that take no step: they link and unlink no place.
 use Rattle.std.proofs.Common.{◌≡◌, Bool, List, [], ◌++◌, append-nil, subst, sym, ◌∙◌}
-use Rattle.ic_link_ops.specs.Prelude.{Table, KeepsLinked, LinkStep}
-use Rattle.ic_link_ops.specs.RedBlackTree.{Node}
+use Rattle.ic_link_ops.specs.Prelude.{Table, KeepsLinked, LinkStep, Node}
 use Rattle.ic_rbtree.specs.Closed.{KeepsNodes}
 use Rattle.ic_rbtree.specs.Steps.{TraceStays}
 

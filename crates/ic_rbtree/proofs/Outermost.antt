@@ -1,12 +1,9 @@
 -- Lemmas about a descent to the outermost member below a place, and about a climb to the nearest member above a place.
 use Rattle.std.proofs.Common.{◌≡◌, ◌≢◌, ◌-◌, ◌<◌, true, suc, Option, Some, None, List, [], ◌∷◌, length, refl, sym, ap, ◌∙◌, subst, arith}
-use Rattle.ic_link_ops.specs.Prelude.{Place, Table, IsCovered}
+use Rattle.ic_link_ops.specs.Prelude.{Place, Table, IsCovered, Tree, leaf, top, in_order, top_color, Node}
 use Rattle.ic_link_ops.specs.declared.color.Color.{Color}
 use Rattle.ic_link_ops.specs.declared.side.Side.{Side}
 use Rattle.ic_link_ops.specs.declared.side.Side.TheVariants.{Left, Right}
-use Rattle.ic_link_ops.specs.Trees.{Tree, leaf, top, in_order}
-use Rattle.ic_link_ops.specs.Shape.{top_color}
-use Rattle.ic_link_ops.specs.RedBlackTree.{Node}
 use Rattle.ic_link_ops.specs.Frames.{Frame, frame, across, child_on, branch, plug, above}
 use Rattle.ic_link_ops.proofs.SequenceLemmas.{none_not, some_same}
 use Rattle.ic_link_ops.proofs.Trees.{top_parent}

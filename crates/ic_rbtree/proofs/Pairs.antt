@@ -1,24 +1,18 @@
 -- Lemmas about two trees that are joined with a place between them.
 use Rattle.std.specs.Int.{from_bool}
 use Rattle.std.proofs.Common.{◌≡◌, Bool, true, false, cond, ◌+◌, ◌≤◌, ◌<◌, Option, Some, None, List, [], ◌∷◌, ◌++◌, refl, sym, ap, ◌∙◌, subst, arith, append-nil, append_assoc, drop}
-use Rattle.ic_link_ops.specs.Prelude.{Place, Cut, join, insert, at_front, Table, ChangesOnly, IsLinked, IsUnlinked}
+use Rattle.ic_link_ops.specs.Prelude.{Place, Cut, join, insert, at_front, Table, ChangesOnly, IsLinked, IsUnlinked, one_at, times, times_in, Tree, top, in_order, top_color, IsRight}
 use Rattle.ic_link_ops.specs.declared.color.Color.TheVariants.{Red, Black}
 use Rattle.ic_link_ops.specs.declared.side.Side.{Side}
 use Rattle.ic_link_ops.specs.declared.side.Side.TheVariants.{Left, Right}
-use Rattle.ic_link_ops.specs.Times.{one_at, times, times_in}
-use Rattle.ic_link_ops.proofs.Times.{times_order, absent_times, distinct_times, times_append}
+use Rattle.ic_link_ops.proofs.Prelude.{times_order, absent_times, distinct_times, times_append, first_is, nothing_first, absent_both, distinct_insert}
 use Rattle.ic_rbtree.proofs.Removing.{represents_of}
-use Rattle.ic_link_ops.specs.Trees.{Tree, top, in_order}
-use Rattle.ic_link_ops.specs.Shape.{top_color, IsRight}
 use Rattle.ic_link_ops.specs.RedBlackTree.{Node, Represents}
 use Rattle.ic_link_ops.specs.Frames.{Frame, branch, plug, above, before, after}
 use Rattle.ic_link_ops.proofs.Frames.{in_order_parts}
-use Rattle.ic_rbtree.specs.Height.{height, turns}
+use Rattle.ic_rbtree.specs.Prelude.{height, turns, Piece, loose, below, around, ClimbState, Represented, beyond, IsBeside}
 use Rattle.ic_rbtree.specs.declared.join.roots.Measured.{Measured}
 use Rattle.ic_rbtree.specs.Join.{IsGraft, IsRootOf, IsSpine, Pair, ArePair, AreMeasured, AreHigh, CanJoin, RepresentsParts, Appends}
-use Rattle.ic_rbtree.specs.Pieces.{Piece, loose, below, around, ClimbState, Represented}
-use Rattle.ic_rbtree.specs.Sides.{beyond, IsBeside}
-use Rattle.ic_link_ops.proofs.SequenceLemmas.{first_is, nothing_first, absent_both, distinct_insert}
 use Rattle.ic_link_ops.proofs.RepresentedTrees.{free_absent, represents_beside}
 use Rattle.ic_link_ops.proofs.Trees.{leaf_is}
 use Rattle.ic_rbtree.proofs.Low.{represented_low, blacks_low}

@@ -1,20 +1,15 @@
 -- Lemmas about a climb along the parents, and about the steps of the repair after a removal, which climbs along the parents.
 use Rattle.std.proofs.Common.{◌≡◌, ℕ, suc, zero, ◌+◌, ◌-◌, ◌≤◌, Bool, true, false, Option, Some, None, List, [], ◌∷◌, length, refl, sym, ap, ◌∙◌, subst, arith, length-append}
-use Rattle.ic_link_ops.specs.Prelude.{Place, Table, IsCovered}
+use Rattle.ic_link_ops.specs.Prelude.{Place, Table, IsCovered, Tree, leaf, fork, top, in_order, Node, Holds}
 use Rattle.ic_link_ops.specs.declared.color.Color.{Color}
 use Rattle.ic_link_ops.specs.declared.side.Side.{Side}
 use Rattle.ic_link_ops.specs.declared.side.Side.TheVariants.{Left, Right}
-use Rattle.ic_link_ops.specs.Trees.{Tree, leaf, fork, top, in_order}
-use Rattle.ic_link_ops.specs.RedBlackTree.{Node, Holds}
 use Rattle.ic_link_ops.specs.Frames.{Frame, frame, branch, plug, above, IsAround}
-use Rattle.ic_link_ops.proofs.SequenceLemmas.{none_not, some_same}
-use Rattle.ic_link_ops.proofs.Times.{times_order, times_distinct}
+use Rattle.ic_link_ops.proofs.Prelude.{none_not, some_same, times_order, times_distinct, holds_length}
 use Rattle.ic_link_ops.proofs.Trees.{top_parent}
-use Rattle.ic_link_ops.proofs.RepresentedTrees.{holds_length}
 use Rattle.ic_rbtree.specs.Climb.{steps_up, depth}
-use Rattle.ic_rbtree.specs.Pieces.{Piece, ClimbState}
+use Rattle.ic_rbtree.specs.Prelude.{Piece, ClimbState, IsSideOf}
 use Rattle.ic_rbtree.specs.Focus.{Focus, IsRestored}
-use Rattle.ic_rbtree.specs.Steps.{IsSideOf}
 use Rattle.ic_rbtree.specs.Removal.{IsOn, Short, ShortAt, Rises, FixesDeletionStep}
 use Rattle.ic_rbtree.proofs.Branches.{side_near, side_far, side_up}
 use Rattle.ic_rbtree.proofs.Rotations.{times_top}

@@ -1,14 +1,11 @@
 -- A table that consists of pieces is divided into other pieces, or one of its entries is written.
 use Rattle.std.proofs.Common.{◌≡◌, ◌≢◌, true, Option, List, [], ◌∷◌, refl, sym, ap, ◌∙◌, subst, arith, inl, inr}
-use Rattle.ic_link_ops.specs.Prelude.{Place, Table, ChangesOnly}
-use Rattle.ic_unsafe_ref.proofs.PlaceLemmas.{same_or_not}
+use Rattle.ic_link_ops.specs.Prelude.{Place, Table, ChangesOnly, Node, one_at}
+use Rattle.ic_link_ops.proofs.Prelude.{same_or_not, one_at_self, apart}
 use Rattle.ic_link_ops.specs.declared.color.Color.{Color}
 use Rattle.ic_link_ops.specs.declared.side.Side.{Side}
 use Rattle.ic_link_ops.specs.declared.side.Side.TheVariants.{Left}
-use Rattle.ic_link_ops.specs.RedBlackTree.{Node}
 use Rattle.ic_link_ops.specs.Frames.{with_child, IsAtSide, across}
-use Rattle.ic_link_ops.specs.Times.{one_at}
-use Rattle.ic_link_ops.proofs.Times.{one_at_self, apart}
 use Rattle.ic_link_ops.proofs.Frames.{side_same, side_set, tree_apart, around_apart}
 use Rattle.ic_rbtree.specs.Pieces.{Piece, cell, loose, below, around, times_piece, times_all, IsPiece, ArePieces, Held}
 use Rattle.ic_rbtree.proofs.Branches.{side_across, side_of_across, side_parent, side_color, side_upper, side_linked}

@@ -1,14 +1,10 @@
 -- Each member of a tree has an object: in a table that stores values beside its links, and also after an insert.
-use Rattle.std.proofs.Common.{◌≡◌, Bool, true, Option, Result, Ok, Err, OnOk, OnErr, IfErr, sym, ap, ◌∙◌, subst}
-use Rattle.std.specs.Prelude.{IsSome, List}
-use Rattle.std.specs.declared.cmp.Ordering.{Ordering}
+use Rattle.std.proofs.Common.{◌≡◌, Bool, true, Option, Result, Ok, Err, OnOk, OnErr, IfErr, sym, ap, ◌∙◌, subst, IsSome, List, Ordering}
 use Rattle.ic_link_ops.specs.Prelude.{Place, Objects, object_at, is_placed, insert, Table, IsCovered, IsLinked, ArePlaced, RepresentsPlaced}
 use Rattle.ic_link_ops.specs.declared.errors.AlreadyLinked.{AlreadyLinked}
 use Rattle.ic_link_ops.specs.RedBlackTree.{Node, Represents}
-use Rattle.ic_link_ops.proofs.Each.{all_with, all_members}
-use Rattle.ic_link_ops.proofs.RepresentedTrees.{holds_linked}
-use Rattle.ic_rbtree.specs.Kept.{Kept, RepresentsFor}
-use Rattle.ic_rbtree.specs.Ordered.{InsertsInOrder}
+use Rattle.ic_link_ops.proofs.Prelude.{all_with, all_members, holds_linked}
+use Rattle.ic_rbtree.specs.Prelude.{Kept, RepresentsFor, InsertsInOrder}
 use Rattle.ic_rbtree.proofs.KeptHeads as kept
 
 -- A TABLE THAT STORES VALUES has a value at each member. `law` states that each linked place is covered, and `has_value` that each covered place has a value

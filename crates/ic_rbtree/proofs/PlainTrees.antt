@@ -1,12 +1,9 @@
 -- Laws for callers about trees over the plain table of tree links.
 use Rattle.std.proofs.Common.{◌≡◌, Option, None, List, refl}
-use Rattle.ic_link_ops.specs.Prelude.{Place, index_of, IsCovered, IsLinked}
+use Rattle.ic_link_ops.specs.Prelude.{Place, index_of, IsCovered, IsLinked, link_of, entries}
 use Rattle.ic_link_ops.specs.EntryLaws.{linked_in_range}
-use Rattle.ic_link_ops.specs.Links.{link_of}
-use Rattle.ic_link_ops.specs.PlainTables.{entries}
 use Rattle.ic_link_ops.specs.ThreeWords.{no_words}
-use Rattle.ic_link_ops.proofs.CollectionLaws.{IsKind}
-use Rattle.ic_link_ops.proofs.RepresentedTrees.{red_black_trees}
+use Rattle.ic_link_ops.proofs.Prelude.{IsKind, red_black_trees}
 use Rattle.ic_rbtree.specs.PlainTrees.{TreeLinkOps, is_linked, plain_table, RepresentsTree, PlainRepresents, members_of}
 use Rattle.ic_rbtree.proofs.Members.{members_represented}
 

@@ -1,19 +1,13 @@
 -- Laws for callers: in a sorted sequence, a range consists of the members that a filter by both bounds keeps.
-use Rattle.std.proofs.Common.{◌≡◌, ◌⊎◌, Bool, true, false, ◌&&◌, Option, Some, None, IsSome, List, [], ◌∷◌, ◌++◌, map, refl, sym, ap, ◌∙◌, subst, append-nil, inl, inr, true≢false}
+use Rattle.std.proofs.Common.{◌≡◌, ◌⊎◌, Bool, true, false, ◌&&◌, Option, Some, None, IsSome, List, [], ◌∷◌, ◌++◌, map, refl, sym, ap, ◌∙◌, subst, append-nil, inl, inr, true≢false, option_map, Ordering, Less, Equal, Greater}
 use Rattle.std.proofs.lemmas.Bool.{not-true, not-false}
 use Rattle.std.specs.Cmp.{IsTotalOrder, tied_itself}
 use Rattle.std.specs.List.{AllByRecursion, filter}
-use Rattle.std.specs.Option.{option_map}
-use Rattle.std.specs.declared.cmp.Ordering.{Ordering}
-use Rattle.std.specs.declared.cmp.Ordering.TheVariants.{Less, Equal, Greater}
 use Rattle.std.specs.Ordering.{is_gt, is_ge, ordering_reverse}
 use Rattle.ic_link_ops.specs.Prelude.{Place, Objects, object_at, first, last, IsDistinct, ArePlaced, values_at}
-use Rattle.ic_link_ops.proofs.SequenceLemmas.{none_not, some_same, last_or-append}
-use Rattle.ic_link_ops.proofs.Each.{all_front, all_back, all_map}
+use Rattle.ic_link_ops.proofs.Prelude.{none_not, some_same, last_or-append, all_front, all_back, all_map}
 use Rattle.ic_rbtree.specs.declared.keys.key_adapter.Bound.{Bound}
-use Rattle.ic_rbtree.specs.Borders.{IsSorted}
-use Rattle.ic_rbtree.specs.Comparing.{answer_at, compared, order_of, meets_lower, meets_upper, is_beyond}
-use Rattle.ic_rbtree.specs.Members.{between}
+use Rattle.ic_rbtree.specs.Prelude.{IsSorted, answer_at, compared, order_of, meets_lower, meets_upper, is_beyond, between}
 use Rattle.ic_rbtree.specs.Ranges.{not_less, runs_up, IsSegment, IsRange}
 use Rattle.ic_rbtree.proofs.KeyLaws.{keys_more, value_there, none_less, sorted_tail, Cuts, cons_head, one_border, filter_fail, filter_front, last_all}
 use Rattle.ic_rbtree.proofs.Ranges.{Rises, ends}

@@ -1,14 +1,9 @@
 -- Lemmas about two descents in one tree, and about the members between the two gaps where they end.
-use Rattle.std.proofs.Common.{◌≡◌, ◌⊎◌, Bool, true, false, cond, Option, Some, None, List, [], ◌∷◌, ◌++◌, refl, sym, ap, ◌∙◌, subst, append_assoc, append-nil, inl, inr, true≢false}
+use Rattle.std.proofs.Common.{◌≡◌, ◌⊎◌, Bool, true, false, cond, Option, Some, None, List, [], ◌∷◌, ◌++◌, refl, sym, ap, ◌∙◌, subst, append_assoc, append-nil, inl, inr, true≢false, option_map, is_some, IfSome, drop, Ordering, Less, Equal, Greater}
 use Rattle.std.specs.Cmp.{IsTotalOrder, alike_right}
-use Rattle.std.specs.Option.{option_map}
-use Rattle.std.specs.Prelude.{is_some, IfSome, drop}
-use Rattle.std.specs.declared.cmp.Ordering.{Ordering}
-use Rattle.std.specs.declared.cmp.Ordering.TheVariants.{Less, Equal, Greater}
 use Rattle.std.specs.Ordering.{is_lt, is_le, is_ge, ordering_reverse}
-use Rattle.ic_link_ops.specs.Prelude.{Place, Objects, object_at, is_placed, Cut, join, first, last, but_last, Table, IsCovered, ArePlaced}
+use Rattle.ic_link_ops.specs.Prelude.{Place, Objects, object_at, is_placed, Cut, join, first, last, but_last, Table, IsCovered, ArePlaced, Tree, leaf, fork, in_order}
 use Rattle.ic_link_ops.specs.RedBlackTree.{Node, Represents}
-use Rattle.ic_link_ops.specs.Trees.{Tree, leaf, fork, in_order}
 use Rattle.ic_link_ops.proofs.SequenceLemmas.{first_is, split_last, last_or-append}
 use Rattle.ic_rbtree.specs.declared.keys.key_adapter.Bound.{Bound}
 use Rattle.ic_rbtree.specs.declared.keys.key_adapter.Bound.TheVariants.{Included, Excluded, Unbounded}

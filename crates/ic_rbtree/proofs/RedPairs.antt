@@ -1,22 +1,16 @@
 -- A red pair is a red member below a red parent. The repair recolors a red pair, or rotates the upper member of the pair above the grandparent.
-use Rattle.std.proofs.Common.{◌≡◌, ℕ, ◌+◌, ◌<◌, Bool, true, false, cond, not, is_some, Option, Some, None, List, [], ◌∷◌, length, refl, sym, ap, ◌∙◌, subst, arith}
-use Rattle.std.specs.Option.{IsSome}
-use Rattle.ic_link_ops.specs.Prelude.{Place, Table, ChangesOnly}
+use Rattle.std.proofs.Common.{◌≡◌, ℕ, ◌+◌, ◌<◌, Bool, true, false, cond, not, is_some, Option, Some, None, List, [], ◌∷◌, length, refl, sym, ap, ◌∙◌, subst, arith, IsSome}
+use Rattle.ic_link_ops.specs.Prelude.{Place, Table, ChangesOnly, Tree, leaf, fork, top, in_order, top_color, weight, blacks, IsRight, Node, IsTree}
 use Rattle.ic_link_ops.specs.declared.color.Color.{Color}
 use Rattle.ic_link_ops.specs.declared.color.Color.TheVariants.{Red, Black}
 use Rattle.ic_link_ops.specs.declared.side.Side.{Side}
 use Rattle.ic_link_ops.specs.declared.side.Side.TheVariants.{Left, Right}
-use Rattle.ic_link_ops.specs.Trees.{Tree, leaf, fork, top, in_order}
-use Rattle.ic_link_ops.specs.Shape.{top_color, weight, blacks, IsRight}
-use Rattle.ic_link_ops.specs.RedBlackTree.{Node, IsTree}
 use Rattle.ic_link_ops.specs.Frames.{Frame, frame, branch, plug, above, across, child_on}
 use Rattle.ic_link_ops.proofs.SequenceLemmas.{none_not, some_same}
 use Rattle.ic_link_ops.proofs.Trees.{top_parent}
-use Rattle.ic_rbtree.specs.Pieces.{ClimbState}
+use Rattle.ic_rbtree.specs.Prelude.{ClimbState, Rotates, IsSideOf, is_red, red_at}
 use Rattle.ic_rbtree.specs.Focus.{Focus}
-use Rattle.ic_rbtree.specs.Steps.{Rotates, IsSideOf}
 use Rattle.ic_rbtree.specs.Shortage.{wanted, color_above, IsNearlyRight}
-use Rattle.ic_rbtree.specs.Removal.{is_red, red_at}
 use Rattle.ic_rbtree.specs.Insertion.{color_below, are_across, RedPair, above_pair, blackened, RedAt, IsRestoredWith, IsFixedOrHigher, PairAt, Recolors, HasOuterGrandchild}
 use Rattle.ic_rbtree.proofs.Branches.{branch_across, top_branch, as_branch, order_plug, order_branch, order_rotated, side_far, side_tint, side_up}
 use Rattle.ic_rbtree.proofs.Rotations.{turn}

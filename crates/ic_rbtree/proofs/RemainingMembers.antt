@@ -1,7 +1,6 @@
 -- The members that remain for a walk are removed one after the other, from the first to the last.
 use Rattle.std.proofs.Common.{◌≡◌, ◌<◌, true, Option, Some, None, List, [], ◌∷◌, ◌++◌, drop, length, refl, sym, ap, ◌∙◌, subst, arith, append_assoc, append-nil}
-use Rattle.ic_link_ops.specs.Prelude.{Place, first, IsAbsent, Table, IsCovered, ChangesOnlyIn}
-use Rattle.ic_link_ops.specs.RedBlackTree.{Node, RepresentsEnds}
+use Rattle.ic_link_ops.specs.Prelude.{Place, first, IsAbsent, Table, IsCovered, ChangesOnlyIn, Node, RepresentsEnds}
 use Rattle.ic_link_ops.proofs.SequenceLemmas.{absent_right, first_is, fewer, nothing_first}
 use Rattle.ic_rbtree.specs.Members.{members_around}
 use Rattle.ic_rbtree.proofs.Members.{members_between_ends}

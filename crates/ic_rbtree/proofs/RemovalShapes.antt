@@ -1,12 +1,10 @@
 -- Lemmas about the cases of a repair after a removal, as statements about trees alone: which subtree is one black member short before each case and after
 -- it.
 use Rattle.std.proofs.Common.{◌≡◌, ℕ, suc, ◌+◌, List, [], ◌∷◌, refl, sym, ap, ◌∙◌, subst, arith}
-use Rattle.ic_unsafe_ref.specs.declared.place.Place.{Place}
+use Rattle.ic_link_ops.specs.Prelude.{Place, Tree, leaf, fork, top_color, weight, blacks, IsEven, NoRedPair, IsRight}
 use Rattle.ic_link_ops.specs.declared.color.Color.{Color}
 use Rattle.ic_link_ops.specs.declared.color.Color.TheVariants.{Red, Black}
 use Rattle.ic_link_ops.specs.declared.side.Side.{Side}
-use Rattle.ic_link_ops.specs.Trees.{Tree, leaf, fork}
-use Rattle.ic_link_ops.specs.Shape.{top_color, weight, blacks, IsEven, NoRedPair, IsRight}
 use Rattle.ic_link_ops.specs.Frames.{Frame, frame, branch, plug}
 use Rattle.ic_rbtree.specs.Shortage.{color_above, EvenAround, PairsAround, IsShort}
 use Rattle.ic_rbtree.proofs.InsertionShapes.{top_color_branch, blacks_branch, even_branch, pairs_branch, of_pairs, of_even, right_plug, not_red, red_not_black}

@@ -1,23 +1,16 @@
 -- A member is removed from a tree: it is found in the sequence, taken out of the tree, and unlinked.
 use Rattle.std.proofs.Common.{◌≡◌, ◌<◌, Bool, inl, inr, true, false, Option, Some, None, List, [], ◌∷◌, ◌++◌, refl, sym, ap, ◌∙◌, subst, arith, append-nil, append_assoc, drop, length}
 use Rattle.std.proofs.lemmas.List.{append_cancel_left}
-use Rattle.ic_link_ops.specs.Prelude.{Place, Cut, join, first, IsAbsent, IsDistinct, Table, ChangesOnly}
+use Rattle.ic_link_ops.specs.Prelude.{Place, Cut, join, first, IsAbsent, IsDistinct, Table, ChangesOnly, Removes, Tree, leaf, fork, top, in_order, IsRight, one_at, times, times_in}
 use Rattle.ic_link_ops.specs.declared.color.Color.{Color}
 use Rattle.ic_link_ops.specs.declared.side.Side.{Side}
 use Rattle.ic_link_ops.specs.declared.side.Side.TheVariants.{Left, Right}
-use Rattle.ic_link_ops.specs.Edits.{Removes}
-use Rattle.ic_link_ops.specs.Trees.{Tree, leaf, fork, top, in_order}
-use Rattle.ic_link_ops.specs.Shape.{IsRight}
 use Rattle.ic_link_ops.specs.RedBlackTree.{Node, Represents}
 use Rattle.ic_link_ops.specs.Frames.{Frame, frame, branch, plug, before, after}
-use Rattle.ic_link_ops.proofs.SequenceLemmas.{none_not, some_same}
+use Rattle.ic_link_ops.proofs.Prelude.{none_not, some_same, one_at_self, apart, times_order, times_distinct, times_absent, absent_times, times_append, holds_once}
 use Rattle.ic_link_ops.proofs.Frames.{focus, in_order_parts}
-use Rattle.ic_link_ops.specs.Times.{one_at, times, times_in}
-use Rattle.ic_link_ops.proofs.Times.{one_at_self, apart, times_order, times_distinct, times_absent, absent_times, times_append}
-use Rattle.ic_link_ops.proofs.RepresentedTrees.{holds_once}
 use Rattle.ic_link_ops.proofs.RepresentedTrees.{represents_beside}
-use Rattle.ic_rbtree.specs.Height.{turns}
-use Rattle.ic_rbtree.specs.Pieces.{Piece, loose, ClimbState, Represented}
+use Rattle.ic_rbtree.specs.Prelude.{turns, Piece, loose, ClimbState, Represented}
 use Rattle.ic_rbtree.specs.Sides.{IsOutermostWithin}
 use Rattle.ic_rbtree.specs.Transplants.{Parts, only, IsLone, both_of, IsRightOrShort, SplicesOut, TakesPlace}
 use Rattle.ic_rbtree.proofs.Zipper.{go_down, go_top}

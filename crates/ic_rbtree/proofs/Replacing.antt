@@ -1,13 +1,10 @@
 -- A member of a tree is replaced by another place.
 use Rattle.std.proofs.Common.{◌≡◌, ◌≢◌, Bool, Option, Some, List, [], ◌∷◌, ◌++◌, sym, ap, ◌∙◌, subst, arith, drop}
-use Rattle.ic_link_ops.specs.Prelude.{Place, Cut, join, first, IsAbsent, Table, ChangesOnly, IsLinked, IsUnlinked}
-use Rattle.ic_link_ops.specs.Edits.{Replaces}
+use Rattle.ic_link_ops.specs.Prelude.{Place, Cut, join, first, IsAbsent, Table, ChangesOnly, IsLinked, IsUnlinked, Replaces, one_at, times, times_in}
 use Rattle.ic_link_ops.specs.RedBlackTree.{Node, Represents}
-use Rattle.ic_link_ops.specs.Times.{one_at, times, times_in}
 use Rattle.ic_link_ops.proofs.Times.{one_at_other, apart, times_order, absent_times, times_append}
 use Rattle.ic_link_ops.proofs.RepresentedTrees.{represents_beside}
-use Rattle.ic_rbtree.specs.Pieces.{loose, Represented}
-use Rattle.ic_rbtree.specs.Transplants.{TakesPlace}
+use Rattle.ic_rbtree.specs.Prelude.{loose, Represented, TakesPlace}
 use Rattle.ic_rbtree.proofs.Removing.{placed, PositionWithNext, represents_of, loose_absent, front_represented}
 use Rattle.ic_rbtree.proofs.Attaching.{acquired_represented}
 

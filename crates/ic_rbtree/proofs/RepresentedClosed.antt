@@ -1,15 +1,10 @@
 -- The members of a represented tree are a closed set, out of which no link leads.
 use Rattle.std.proofs.Common.{◌≡◌, ◌≢◌, ◌||◌, ◌⊎◌, Bool, true, false, nat_eq, Option, Some, None, List, [], ◌∷◌, ◌++◌, refl, sym, ap, subst, inl, inr, eq-eqb, eqb-true}
-use Rattle.ic_link_ops.specs.Prelude.{Place, index_of, Cut, first, last_or, Table}
-use Rattle.ic_unsafe_ref.proofs.PlaceLemmas.{same_index}
+use Rattle.ic_link_ops.specs.Prelude.{Place, index_of, Cut, first, last_or, Table, Tree, leaf, fork, top, in_order, Node, IsTree}
+use Rattle.ic_link_ops.proofs.Prelude.{same_index, none_not, some_same, absent_right}
 use Rattle.ic_link_ops.specs.declared.side.Side.{Side}
 use Rattle.ic_link_ops.specs.declared.side.Side.TheVariants.{Left, Right}
-use Rattle.ic_link_ops.specs.Trees.{Tree, leaf, fork, top, in_order}
-use Rattle.ic_link_ops.specs.RedBlackTree.{Node, IsTree}
-use Rattle.ic_link_ops.proofs.SequenceLemmas.{none_not, some_same, absent_right}
-use Rattle.ic_rbtree.specs.Closed.{IsIn, IsNode, IsClosedBut, IsClosed}
-use Rattle.ic_rbtree.specs.Insertion.{IsInsertPos}
-use Rattle.ic_rbtree.specs.Pieces.{Piece, loose, ClimbState, Represented}
+use Rattle.ic_rbtree.specs.Prelude.{IsIn, IsNode, IsClosedBut, IsClosed, IsInsertPos, Piece, loose, ClimbState, Represented}
 use Rattle.ic_rbtree.proofs.Closed.{read_in}
 use Rattle.ic_rbtree.proofs.Removing.{loose_absent}
 

@@ -1,16 +1,11 @@
 -- A branch is divided into pieces and put together again. The lemmas state what `adopt`, `change_child` and `rotate` do to the pieces.
 use Rattle.std.proofs.Common.{◌≡◌, ◌≤◌, Option, Some, None, List, [], ◌∷◌, true, false, Bool, refl, sym, ap, ◌∙◌, subst, arith, eq-eqb, eqb-true}
-use Rattle.ic_link_ops.specs.Prelude.{Place, index_of, Table, ChangesOnly}
-use Rattle.ic_unsafe_ref.proofs.PlaceLemmas.{same_index}
+use Rattle.ic_link_ops.specs.Prelude.{Place, index_of, Table, ChangesOnly, is_end, Tree, leaf, fork, top, Node, IsTree, one_at, times, times_around}
+use Rattle.ic_link_ops.proofs.Prelude.{same_index, none_not, some_same}
 use Rattle.ic_link_ops.specs.declared.color.Color.{Color}
 use Rattle.ic_link_ops.specs.declared.side.Side.{Side}
 use Rattle.ic_link_ops.specs.declared.side.Side.TheVariants.{Left, Right}
-use Rattle.ic_link_ops.specs.Walk.{is_end}
-use Rattle.ic_link_ops.specs.Trees.{Tree, leaf, fork, top}
-use Rattle.ic_link_ops.specs.RedBlackTree.{Node, IsTree}
 use Rattle.ic_link_ops.specs.Frames.{Frame, frame, with_child, branch, above, IsAround, across, child_on, topmost}
-use Rattle.ic_link_ops.proofs.SequenceLemmas.{none_not, some_same}
-use Rattle.ic_link_ops.specs.Times.{one_at, times, times_around}
 use Rattle.ic_link_ops.proofs.Times.{one_at_self, times_branch}
 use Rattle.ic_rbtree.specs.Pieces.{Piece, cell, below, around, Held, ClimbState}
 use Rattle.ic_rbtree.specs.Steps.{Turn, Adopts, ChangesChild, Rotates, IsSideOf}

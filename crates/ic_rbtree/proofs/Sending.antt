@@ -1,33 +1,20 @@
 -- Lemmas about a descent from the root of a represented tree to the gap to which the comparisons lead.
-use Rattle.std.proofs.Common.{◌≡◌, ℕ, ◌+◌, ◌^◌, ◌≤◌, ◌<◌, Bool, true, false, not, cond, Option, Some, None, IsSome, List, [], ◌∷◌, ◌++◌, length, refl, sym, ap, ◌∙◌, subst, arith, append_assoc, append-nil}
-use Rattle.std.specs.declared.cmp.Ordering.{Ordering}
-use Rattle.std.specs.declared.cmp.Ordering.TheVariants.{Less, Equal, Greater}
-use Rattle.std.specs.Ordering.{is_eq, is_lt, is_le, is_gt, is_ge}
+use Rattle.std.proofs.Common.{◌≡◌, ℕ, ◌+◌, ◌^◌, ◌≤◌, ◌<◌, Bool, true, false, not, cond, Option, Some, None, IsSome, List, [], ◌∷◌, ◌++◌, length, refl, sym, ap, ◌∙◌, subst, arith, append_assoc, append-nil, Ordering, Less, Equal, Greater, is_eq, is_lt, is_le, is_gt, is_ge}
 use Rattle.ic_link_ops.specs.Prelude.{Place, Objects, object_at, Cut, first, last, Table, CursorState, RepresentsAt, IsValidCursor as PositionStands, ArePlaced}
 use Rattle.ic_link_ops.specs.declared.color.Color.{Color}
 use Rattle.ic_link_ops.specs.declared.side.Side.{Side}
 use Rattle.ic_link_ops.specs.declared.side.Side.TheVariants.{Left, Right}
-use Rattle.ic_link_ops.specs.Trees.{Tree, leaf, fork, top, in_order}
-use Rattle.ic_link_ops.specs.Shape.{IsRight}
+use Rattle.ic_link_ops.specs.Prelude.{Tree, leaf, fork, top, in_order, IsRight, is_end}
 use Rattle.ic_link_ops.specs.RedBlackTree.{Node, Represents}
 use Rattle.ic_link_ops.specs.Frames.{Frame, frame, plug, above, before, after, child_on}
-use Rattle.ic_link_ops.specs.Walk.{is_end}
-use Rattle.ic_link_ops.proofs.Positions.{stands_by_gap, stands_null}
-use Rattle.ic_link_ops.proofs.SequenceLemmas.{none_not, some_same}
-use Rattle.ic_link_ops.proofs.Walks.{is_end_not}
+use Rattle.ic_link_ops.proofs.Prelude.{stands_by_gap, stands_null, none_not, some_same, is_end_not}
 use Rattle.ic_rbtree.specs.declared.keys.descent.Descent.{Descent}
 use Rattle.ic_rbtree.specs.declared.keys.key_adapter.Bound.{Bound}
 use Rattle.ic_rbtree.specs.declared.keys.key_adapter.Bound.TheVariants.{Included, Excluded, Unbounded}
-use Rattle.ic_rbtree.specs.Borders.{IsBorder, equal_at, at_most_at, if_passes, Finds, IsLowerBorder, IsUpperBorder}
-use Rattle.ic_rbtree.specs.Comparing.{Looks, compared, goes_left, meets_lower, is_beyond, order_of}
+use Rattle.ic_rbtree.specs.Prelude.{IsBorder, equal_at, at_most_at, if_passes, Finds, IsLowerBorder, IsUpperBorder, Looks, compared, goes_left, meets_lower, is_beyond, order_of, height, IsInsertPos, ClimbState, IsOn, IsBeside}
 use Rattle.ic_rbtree.specs.Descents.{side_of, gap_in, SendsPast, passed, at_root, last_equal, is_last, is_equal, equal_there, EndsAt}
 use Rattle.ic_rbtree.specs.declared.keys.entry.InsertCursor.{InsertCursor}
 use Rattle.ic_rbtree.specs.Entry.{IsVacantFor}
-use Rattle.ic_rbtree.specs.Height.{height}
-use Rattle.ic_rbtree.specs.Insertion.{IsInsertPos}
-use Rattle.ic_rbtree.specs.Pieces.{ClimbState}
-use Rattle.ic_rbtree.specs.Removal.{IsOn}
-use Rattle.ic_rbtree.specs.Sides.{IsBeside}
 use Rattle.ic_rbtree.proofs.Branches.{side_near, top_leaf}
 use Rattle.ic_rbtree.proofs.Climbed.{path_few, is_end_there}
 use Rattle.ic_rbtree.proofs.Outermost.{opened}

@@ -1,11 +1,9 @@
 -- Lemmas about an insert beside a position, for either side.
 use Rattle.std.proofs.Common.{◌≡◌, List, [], ◌∷◌, Bool}
 use Rattle.std.specs.Bool.{OnTrue, OnFalse}
-use Rattle.ic_link_ops.specs.Prelude.{Place, Cut, join, Table, CursorState, RepresentsAt, IsValidCursor, LinkStep, acquires}
+use Rattle.ic_link_ops.specs.Prelude.{Place, Cut, join, Table, CursorState, RepresentsAt, IsValidCursor, LinkStep, acquires, Inserts, InsertsBeside}
 use Rattle.ic_link_ops.specs.declared.side.Side.{Side}
 use Rattle.ic_link_ops.specs.declared.side.Side.TheVariants.{Left, Right}
-use Rattle.ic_link_ops.specs.Edits.{Inserts}
-use Rattle.ic_link_ops.specs.EditsAt.{InsertsBeside}
 use Rattle.ic_link_ops.proofs.Positions.{gap_there}
 use Rattle.ic_cursors.specs.Answers.{inserted}
 use Rattle.ic_cursors.proofs.Placed.{put_after, put_before}

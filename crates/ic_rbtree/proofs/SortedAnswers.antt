@@ -1,17 +1,12 @@
 -- Laws for callers: in a sorted sequence, calls that search by keys return the members that filters of the sequence keep, whatever the bounds are.
-use Rattle.std.proofs.Common.{◌≡◌, Bool, true, false, not, cond, ◌&&◌, Option, Some, None, List, [], ◌∷◌, ◌++◌, map, refl, sym, ap, ◌∙◌, append-nil, true≢false}
+use Rattle.std.proofs.Common.{◌≡◌, Bool, true, false, not, cond, ◌&&◌, Option, Some, None, List, [], ◌∷◌, ◌++◌, map, refl, sym, ap, ◌∙◌, append-nil, true≢false, Ordering, Less, Equal, Greater, is_eq, is_lt, is_le}
 use Rattle.std.specs.Cmp.{IsTotalOrder}
 use Rattle.std.specs.List.{AllByRecursion, filter}
-use Rattle.std.specs.declared.cmp.Ordering.{Ordering}
-use Rattle.std.specs.declared.cmp.Ordering.TheVariants.{Less, Equal, Greater}
-use Rattle.std.specs.Ordering.{is_eq, is_lt, is_le}
 use Rattle.ic_link_ops.specs.Prelude.{Place, Objects, object_at, Cut, join, insert, first, last, IsDistinct, ArePlaced, values_at}
 use Rattle.ic_link_ops.proofs.Each.{all_map}
 use Rattle.ic_rbtree.specs.declared.keys.key_adapter.Bound.{Bound}
 use Rattle.ic_rbtree.specs.declared.keys.key_adapter.Bound.TheVariants.{Included, Excluded, Unbounded}
-use Rattle.ic_rbtree.specs.Borders.{IsBorder, IsLowerBorder, IsUpperBorder, Finds, IsSorted, IsSortedFor, equal_at, at_most_at, less_at, if_passes}
-use Rattle.ic_rbtree.specs.Comparing.{answer_at, compared, compared_within, order_of, meets_lower, meets_upper, is_beyond}
-use Rattle.ic_rbtree.specs.Ranges.{runs_up, IsRange}
+use Rattle.ic_rbtree.specs.Prelude.{IsBorder, IsLowerBorder, IsUpperBorder, Finds, IsSorted, IsSortedFor, equal_at, at_most_at, less_at, if_passes, answer_at, compared, compared_within, order_of, meets_lower, meets_upper, is_beyond, runs_up, IsRange}
 use Rattle.ic_rbtree.proofs.KeyLaws.{Cuts, one_border, filter_pass, filter_fail, filter_front, lower_is, upper_is, cuts_at_most, cuts_less, found_is, sorted_for}
 use Rattle.ic_rbtree.proofs.RangeLaws.{range_is}
 use Rattle.ic_rbtree.proofs.Ranges.{Rises, le_fails, lt_fails}

@@ -1,24 +1,13 @@
 -- Lemmas about sequences whose objects are in the order of their keys: one object more or one object less keeps this order.
-use Rattle.std.proofs.Common.{◌≡◌, ◌≢◌, ℕ, ◌≤◌, Bool, true, false, cond, Option, Some, None, IsSome, Result, Ok, Err, OnOk, OnErr, IfErr, List, [], ◌∷◌, ◌++◌, map, filter, refl, sym, ap, subst, arith, true≢false, ◌<◌}
+use Rattle.std.proofs.Common.{◌≡◌, ◌≢◌, ℕ, ◌≤◌, Bool, true, false, cond, Option, Some, None, IsSome, Result, Ok, Err, OnOk, OnErr, IfErr, List, [], ◌∷◌, ◌++◌, map, filter, refl, sym, ap, subst, arith, true≢false, ◌<◌, nat_cmp, Less, Equal, Greater, Ordering}
 use Rattle.std.proofs.lemmas.Cmp.{nat_cmp_total, ranked}
 use Rattle.std.specs.List.{AllByRecursion, cons_option}
-use Rattle.std.specs.Ordering.{nat_cmp}
-use Rattle.std.specs.declared.cmp.Ordering.TheVariants.{Less, Equal, Greater}
-use Rattle.std.specs.declared.cmp.Ordering.{Ordering}
-use Rattle.ic_link_ops.specs.Prelude.{Place, Objects, object_at, IsAbsent, join, insert, Table, CursorState, RepresentsAt, IsValidCursor, HasMember, ArePlaced, values_at, LinkStep}
+use Rattle.ic_link_ops.specs.Prelude.{Place, Objects, object_at, IsAbsent, join, insert, Table, CursorState, RepresentsAt, IsValidCursor, HasMember, ArePlaced, values_at, LinkStep, Node, RemovesThere}
 use Rattle.ic_link_ops.specs.declared.errors.AlreadyLinked.{AlreadyLinked}
 use Rattle.ic_link_ops.specs.RedBlackTree as Trees
-use Rattle.ic_link_ops.specs.RedBlackTree.{Node}
-use Rattle.ic_link_ops.specs.EditsAt.{RemovesThere}
-use Rattle.ic_link_ops.proofs.PlacedValues.{all_beside}
-use Rattle.ic_link_ops.proofs.Positions.{member_there}
-use Rattle.ic_link_ops.proofs.RepresentedTrees.{represents_nothing}
-use Rattle.ic_link_ops.proofs.Each.{all_back, all_with, all_without}
-use Rattle.ic_rbtree.specs.Borders.{IsBorder, IsSorted, less_at}
-use Rattle.ic_rbtree.specs.Ordered.{InsertsInOrder}
+use Rattle.ic_link_ops.proofs.Prelude.{all_beside, member_there, represents_nothing, all_back, all_with, all_without}
+use Rattle.ic_rbtree.specs.Prelude.{IsBorder, IsSorted, less_at, InsertsInOrder, key_or, key_at, keys_at, against, RepresentsSorted, root_of}
 use Rattle.ic_rbtree.specs.declared.tree.RBTree.{RBTree}
-use Rattle.ic_rbtree.specs.SortedObjects.{key_or, key_at, keys_at, against, RepresentsSorted}
-use Rattle.ic_rbtree.specs.Tree.{root_of}
 use Rattle.ic_rbtree.proofs.KeyLaws.{value_there, stays_sorted}
 use Rattle.ic_rbtree.proofs.SortedValues.{own_order_is}
 

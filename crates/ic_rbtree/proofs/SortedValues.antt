@@ -1,20 +1,13 @@
 -- Laws for callers about a tree and its objects after each kind of step.
-use Rattle.std.proofs.Common.{◌≡◌, ◌≢◌, Bool, true, Option, Some, None, IsSome, List, [], ◌∷◌, ◌++◌, map, drop, refl, sym, ap, ◌∙◌, subst, true≢false}
+use Rattle.std.proofs.Common.{◌≡◌, ◌≢◌, Bool, true, Option, Some, None, IsSome, List, [], ◌∷◌, ◌++◌, map, drop, refl, sym, ap, ◌∙◌, subst, true≢false, is_lt, Ordering}
 use Rattle.std.proofs.lemmas.List.Elements.{filter_map-append}
 use Rattle.std.specs.Cmp.{IsTotalOrder}
 use Rattle.std.specs.List.{AllByRecursion, cons_option}
-use Rattle.std.specs.Ordering.{is_lt}
-use Rattle.std.specs.declared.cmp.Ordering.{Ordering}
 use Rattle.ic_link_ops.specs.Prelude.{Place, Objects, Places, object_at, Cut, join, insert, IsAbsent, first, Table, IsUnlinked, LinksAlso, Unlinks, ArePlaced, StandAt, values_at}
-use Rattle.ic_unsafe_ref.proofs.Placing.{placed_there, others_placed}
-use Rattle.ic_link_ops.proofs.CollectionLaws.{IsKind, kept_represented}
+use Rattle.ic_link_ops.proofs.Prelude.{placed_there, others_placed, IsKind, kept_represented, absent_without, first_is, split_member, all_back}
 use Rattle.ic_link_ops.proofs.LinkedSets.{everywhere}
 use Rattle.ic_link_ops.proofs.PlacedValues.{stand_beside, stand_put, stand_first, stand_rest, vacant_absent}
-use Rattle.ic_link_ops.proofs.SequenceLemmas.{absent_without, first_is, split_member}
-use Rattle.ic_link_ops.proofs.Each.{all_back}
-use Rattle.ic_rbtree.specs.Borders.{IsBorder, IsSorted, less_at}
-use Rattle.ic_rbtree.specs.Comparing.{answer_at, compared, order_of, own_order}
-use Rattle.ic_rbtree.specs.Ordered.{InsertsInOrder}
+use Rattle.ic_rbtree.specs.Prelude.{IsBorder, IsSorted, less_at, answer_at, compared, order_of, own_order, InsertsInOrder}
 use Rattle.ic_rbtree.specs.SortedValues.{HasSorted, InsertsValue}
 use Rattle.ic_rbtree.proofs.KeyLaws.{cuts_less, one_border, sorted_for, sorted_tail, stays_sorted}
 

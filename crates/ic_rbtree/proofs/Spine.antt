@@ -1,18 +1,13 @@
 -- Lemmas about a descent along one side of a tree, which counts the black members.
 use Rattle.std.proofs.Common.{◌≡◌, ℕ, suc, ◌+◌, ◌-◌, ◌≤◌, true, Option, Some, None, List, ◌∷◌, length, refl, sym, ap, ◌∙◌, subst, arith}
 use Rattle.std.proofs.Math.Nat.{le-max_left}
-use Rattle.ic_link_ops.specs.Prelude.{Place, Table}
+use Rattle.ic_link_ops.specs.Prelude.{Place, Table, Tree, leaf, fork, top, top_color, weight, blacks, IsEven, IsRight, Node, IsTree}
 use Rattle.ic_link_ops.specs.declared.color.Color.{Color}
 use Rattle.ic_link_ops.specs.declared.color.Color.TheVariants.{Red, Black}
 use Rattle.ic_link_ops.specs.declared.side.Side.{Side}
-use Rattle.ic_link_ops.specs.Trees.{Tree, leaf, fork, top}
-use Rattle.ic_link_ops.specs.Shape.{top_color, weight, blacks, IsEven, IsRight}
-use Rattle.ic_link_ops.specs.RedBlackTree.{Node, IsTree}
 use Rattle.ic_link_ops.specs.Frames.{Frame, frame, branch, plug, above, child_on}
 use Rattle.ic_link_ops.proofs.SequenceLemmas.{none_not, some_same}
-use Rattle.ic_rbtree.specs.Height.{height}
-use Rattle.ic_rbtree.specs.Join.{IsSpine}
-use Rattle.ic_rbtree.specs.Pieces.{Piece}
+use Rattle.ic_rbtree.specs.Prelude.{height, IsSpine, Piece}
 use Rattle.ic_rbtree.proofs.Outermost.{opened}
 use Rattle.ic_rbtree.proofs.Nearest.{beyond_same}
 use Rattle.ic_rbtree.proofs.InsertionShapes.{blacks_branch, of_even, top_color_branch}

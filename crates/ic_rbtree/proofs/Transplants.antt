@@ -1,23 +1,16 @@
 -- A member with at most one child is taken out of a tree, and a place takes the position of a member.
 use Rattle.std.proofs.Common.{◌≡◌, ℕ, ◌+◌, inl, inr, true, Option, Some, None, List, [], ◌∷◌, ◌++◌, refl, sym, ap, ◌∙◌, subst, arith, append-nil}
-use Rattle.ic_link_ops.specs.Prelude.{Place, Table, ChangesOnly}
+use Rattle.ic_link_ops.specs.Prelude.{Place, Table, ChangesOnly, Tree, leaf, fork, top, in_order, top_color, weight, blacks, IsEven, NoRedPair, IsRight, Node, IsTree, times, times_around}
 use Rattle.ic_link_ops.specs.declared.color.Color.{Color}
 use Rattle.ic_link_ops.specs.declared.color.Color.TheVariants.{Red, Black}
 use Rattle.ic_link_ops.specs.declared.side.Side.{Side}
 use Rattle.ic_link_ops.specs.declared.side.Side.TheVariants.{Left}
-use Rattle.ic_link_ops.specs.Trees.{Tree, leaf, fork, top, in_order}
-use Rattle.ic_link_ops.specs.Shape.{top_color, weight, blacks, IsEven, NoRedPair, IsRight}
-use Rattle.ic_link_ops.specs.RedBlackTree.{Node, IsTree}
 use Rattle.ic_link_ops.specs.Frames.{Frame, frame, plug, above, before, after}
-use Rattle.ic_link_ops.proofs.SequenceLemmas.{none_not, some_same}
+use Rattle.ic_link_ops.proofs.Prelude.{none_not, some_same, one_at_self}
 use Rattle.ic_link_ops.proofs.Frames.{in_order_parts}
-use Rattle.ic_link_ops.specs.Times.{times, times_around}
-use Rattle.ic_link_ops.proofs.Times.{one_at_self}
-use Rattle.ic_rbtree.specs.Pieces.{Piece, loose, below, around, Held, ClimbState}
+use Rattle.ic_rbtree.specs.Prelude.{Piece, loose, below, around, Held, ClimbState, EvenAround, PairsAround, IsOn, Short}
 use Rattle.ic_rbtree.specs.Focus.{Focus, IsInFocus, IsRestored}
 use Rattle.ic_rbtree.specs.Steps.{Adopts, ChangesChild}
-use Rattle.ic_rbtree.specs.Shortage.{EvenAround, PairsAround}
-use Rattle.ic_rbtree.specs.Removal.{IsOn, Short}
 use Rattle.ic_rbtree.specs.Transplants.{or_else, Parts, member, only, IsLone, IsGap, Gap, IsSideBelow, TakesPlace}
 use Rattle.ic_rbtree.proofs.Branches.{order_plug}
 use Rattle.ic_rbtree.proofs.Pieces.{regroup, set_parent_and_color, node_set}

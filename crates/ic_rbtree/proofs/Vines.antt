@@ -3,28 +3,18 @@ use Rattle.std.proofs.Common.{◌≡◌, ℕ, zero, suc, max, inl, inr, ◌+◌,
 use Rattle.std.proofs.Math.Nat.{le-max_left, le-max_right, max-eq_left, max-eq_right}
 use Rattle.std.proofs.lemmas.Bool.{cases_lt}
 use Rattle.std.proofs.lemmas.Nat.{pow-add, pow_pos}
-use Rattle.ic_link_ops.specs.Prelude.{Place, IsAbsent, IsMember, IsDistinct, IsDisjoint, first_or, Table, ChangesOnly, ChangesOnlyIn}
+use Rattle.ic_link_ops.specs.Prelude.{Place, IsAbsent, IsMember, IsDistinct, IsDisjoint, first_or, Table, ChangesOnly, ChangesOnlyIn, top_color, weight, IsFollowed, one_at, times, times_in, Tree, leaf, fork, in_order, Node, IsTree}
 use Rattle.ic_link_ops.specs.declared.color.Color.{Color}
 use Rattle.ic_link_ops.specs.declared.color.Color.TheVariants.{Red, Black}
 use Rattle.ic_link_ops.specs.declared.side.Side.TheVariants.{Left}
 use Rattle.ic_link_ops.specs.Chains.{IsChain}
-use Rattle.ic_link_ops.specs.Shape.{top_color, weight}
-use Rattle.ic_link_ops.specs.SinglyLinkedList.{IsFollowed}
-use Rattle.ic_link_ops.specs.Times.{one_at, times, times_in}
-use Rattle.ic_link_ops.specs.Trees.{Tree, leaf, fork, in_order}
-use Rattle.ic_link_ops.specs.RedBlackTree.{Node, IsTree}
-use Rattle.ic_link_ops.proofs.Chains.{chain_frame, chain_cut, chain_glue}
-use Rattle.ic_link_ops.proofs.SequenceLemmas.{first_or-append, absent_left, absent_right, distinct_left, distinct_right, distinct_disjoint, disjoint_sym, disjoint_right, some_same}
-use Rattle.ic_link_ops.proofs.Times.{times_order, absent_times, times_append, distinct_times}
+use Rattle.ic_link_ops.proofs.Prelude.{chain_frame, chain_cut, chain_glue, first_or-append, absent_left, absent_right, distinct_left, distinct_right, distinct_disjoint, disjoint_sym, disjoint_right, some_same, times_order, absent_times, times_append, distinct_times}
 use Rattle.ic_link_ops.proofs.Trees.{tree_kept}
-use Rattle.ic_rbtree.specs.Closed.{IsNode, IsNamed}
-use Rattle.ic_rbtree.specs.Pieces.{Piece, cell, loose, below, Held}
-use Rattle.ic_rbtree.specs.Steps.{Adopts}
+use Rattle.ic_rbtree.specs.Prelude.{IsNode, IsNamed, Piece, cell, loose, below, Held, Adopts, height, IsLowest}
 use Rattle.ic_rbtree.specs.Vines.{along, IsVine, IsVineOf, IsTreeOf, BecomesTree, BecomesVine}
 use Rattle.ic_rbtree.proofs.Pieces.{regroup, node_set}
 use Rattle.ic_rbtree.proofs.Rotations.{below_linked, close_below}
 use Rattle.ic_rbtree.proofs.Branches.{as_branch, top_leaf}
-use Rattle.ic_rbtree.specs.Height.{height, IsLowest}
 
 -- a sequence with more than k members consists of k members, the next member p, and the rest
 pub split_at : (k : ℕ) (s : List Place) → k < length s → (a : List Place) × (p : Place) × (b : List Place) × (s ≡ a ++ p ∷ b) × (length a ≡ k)

@@ -1,16 +1,11 @@
 -- Lemmas about one step of a walk over a tree's objects, from either end.
-use Rattle.std.proofs.Common.{◌≡◌, ◌≢◌, true, false, Option, Some, None, List, [], ◌∷◌, ◌++◌, Bor, refl, sym, ◌∙◌, ap, append-nil, append_assoc, drop}
-use Rattle.std.specs.Option.{option_copied}
+use Rattle.std.proofs.Common.{◌≡◌, ◌≢◌, true, false, Option, Some, None, List, [], ◌∷◌, ◌++◌, Bor, refl, sym, ◌∙◌, ap, append-nil, append_assoc, drop, option_copied}
 use Rattle.std.specs.List.{cons_option}
 use Rattle.std.specs.Iterator.{MakesProgress, item_count}
 use Rattle.std.proofs.lemmas.List.Elements.{filter_map-append}
-use Rattle.ic_link_ops.specs.Prelude.{Place, Objects, object_at, Cut, join, IsAbsent, IsDistinct, IsAfter, IsBefore, first, last, last_or, but_last, Table, IsCovered, site, IsValidCursor, MovesOn, MovesBack, ArePlaced, values_at}
+use Rattle.ic_link_ops.specs.Prelude.{Place, Objects, object_at, Cut, join, IsAbsent, IsDistinct, IsAfter, IsBefore, first, last, last_or, but_last, Table, IsCovered, site, IsValidCursor, MovesOn, MovesBack, ArePlaced, values_at, is_end, GivesFirst, GivesLast}
 use Rattle.ic_link_ops.specs.RedBlackTree.{Node, Represents}
-use Rattle.ic_link_ops.specs.Walk.{is_end, GivesFirst, GivesLast}
-use Rattle.ic_link_ops.proofs.SequenceLemmas.{first_is, none_not, some_same, last_not, last_some, last_or-append, last_of_push, split_last, absent_left, absent_right, distinct_left, distinct_right}
-use Rattle.ic_link_ops.proofs.Walks.{is_end_no, yields_placed, makes_progress, yields_placed_back, makes_progress_back, is_end_not}
-use Rattle.ic_link_ops.proofs.Positions.{stands_on}
-use Rattle.ic_link_ops.proofs.PlacedEnds.{all_but_last}
+use Rattle.ic_link_ops.proofs.Prelude.{first_is, none_not, some_same, last_not, last_some, last_or-append, last_of_push, split_last, absent_left, absent_right, distinct_left, distinct_right, is_end_no, yields_placed, makes_progress, yields_placed_back, makes_progress_back, is_end_not, stands_on, all_but_last}
 use Rattle.ic_rbtree.specs.declared.iter.Iter.{Iter}
 use Rattle.ic_rbtree.specs.Members.{up_to, between, IsWalk, members}
 use Rattle.ic_rbtree.specs.Iter.{objects_left, CanWalk}

@@ -1,10 +1,8 @@
 -- The subtree in focus changes by one step up or down a tree, or across to a sibling. Two more lemmas are about a member that gets another color.
 use Rattle.std.proofs.Common.{◌≡◌, Option, Some, List, [], ◌∷◌, refl, sym, subst, arith}
-use Rattle.ic_link_ops.specs.Prelude.{Place, Table, ChangesOnly}
+use Rattle.ic_link_ops.specs.Prelude.{Place, Table, ChangesOnly, Tree, top, Node}
 use Rattle.ic_link_ops.specs.declared.color.Color.{Color}
 use Rattle.ic_link_ops.specs.declared.side.Side.{Side}
-use Rattle.ic_link_ops.specs.Trees.{Tree, top}
-use Rattle.ic_link_ops.specs.RedBlackTree.{Node}
 use Rattle.ic_link_ops.specs.Frames.{Frame, frame, branch, plug, above, across}
 use Rattle.ic_rbtree.specs.Pieces.{Piece, cell, below, around, ClimbState}
 use Rattle.ic_rbtree.proofs.Branches.{branch_across}

@@ -1,7 +1,6 @@
 -- The depth of a member, counted along the parents.
 use Rattle.std.specs.Prelude.{ℕ, suc, zero, Option, Some, None}
-use Rattle.ic_link_ops.specs.Prelude.{Place, Table}
-use Rattle.ic_link_ops.specs.RedBlackTree.{Node}
+use Rattle.ic_link_ops.specs.Prelude.{Place, Table, Node}
 
 -- the number of places on the path from the place o up along the parents, both ends included, or k if the path is longer
 unfoldable pub steps_up : ℕ → (Place → Option Place) → Option Place → ℕ

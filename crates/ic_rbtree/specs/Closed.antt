@@ -1,7 +1,6 @@
 -- Sets of places out of which no link leads. An edit is safe if all links that it follows stay in a closed set, whatever else the link words contain.
 use Rattle.std.specs.Prelude.{◌≡◌, Bool, true, Option, Some, None, List, [], ◌∷◌}
-use Rattle.ic_link_ops.specs.Prelude.{Place, Table}
-use Rattle.ic_link_ops.specs.RedBlackTree.{Node}
+use Rattle.ic_link_ops.specs.Prelude.{Place, Table, Node}
 
 -- the optional place is none or is in the set S
 abbrev pub IsIn : (Place → Bool) → Option Place → Type 0

@@ -31,6 +31,10 @@ order_there cmp key_of key = order_of cmp key_of key.now
 abbrev pub own_order : {V K : Type 0} → (K → K → Ordering) → (V → K) → Objects V → Place → V → Ordering
 own_order cmp key_of objects object value = answer_at (λ own. cmp (key_of own) (key_of value)) (object_at objects object)
 
+-- how the key of the object at the place `object` compares with the object at each place
+abbrev pub own_compared : {V K : Type 0} → (K → K → Ordering) → (V → K) → Objects V → Place → Place → Ordering
+own_compared cmp key_of objects object = compared (own_order cmp key_of objects object) objects
+
 -- the bound with the function f applied to its end. `Unbounded` has no end, so it stays `Unbounded`
 abbrev pub bound_map : {T U : Type 0} → (T → U) → Bound T → Bound U
 bound_map f (Included x) = Included (f x)

@@ -1,12 +1,9 @@
 -- A loop splits a tree at an insert position, which is a missing child. The loop goes from the insert position up to the root.
 use Rattle.std.specs.Prelude.{◌≡◌, ℕ, ◌+◌, ◌<◌, length, Option, Some, None, List, ◌∷◌, ◌++◌}
-use Rattle.ic_link_ops.specs.Prelude.{Place, Cut, Table}
+use Rattle.ic_link_ops.specs.Prelude.{Place, Cut, Table, Node, weight, blacks, IsRight, Tree, top, in_order}
 use Rattle.ic_link_ops.specs.declared.color.Color.{Color}
 use Rattle.ic_link_ops.specs.declared.side.Side.{Side}
 use Rattle.ic_link_ops.specs.Frames.{Frame, frame, above, before, after}
-use Rattle.ic_link_ops.specs.RedBlackTree.{Node}
-use Rattle.ic_link_ops.specs.Shape.{weight, blacks, IsRight}
-use Rattle.ic_link_ops.specs.Trees.{Tree, top, in_order}
 use Rattle.ic_rbtree.specs.declared.join.roots.Measured.{Measured}
 use Rattle.ic_rbtree.specs.Insertion.{blackened}
 use Rattle.ic_rbtree.specs.Join.{IsMeasured}

@@ -1,12 +1,9 @@
 -- A descent goes down from the root of a tree. At each member a test chooses the side.
 use Rattle.std.specs.Prelude.{◌≡◌, Bool, true, false, cond, Option, Some, None, List, [], ◌∷◌, ◌++◌}
-use Rattle.ic_link_ops.specs.Prelude.{Place, Cut, first, last, Table}
+use Rattle.ic_link_ops.specs.Prelude.{Place, Cut, first, last, Table, Tree, leaf, fork, in_order, is_end, Node}
 use Rattle.ic_link_ops.specs.declared.side.Side.{Side}
 use Rattle.ic_link_ops.specs.declared.side.Side.TheVariants.{Left, Right}
-use Rattle.ic_link_ops.specs.Trees.{Tree, leaf, fork, in_order}
 use Rattle.ic_link_ops.specs.Frames.{Frame, frame}
-use Rattle.ic_link_ops.specs.Walk.{is_end}
-use Rattle.ic_link_ops.specs.RedBlackTree.{Node}
 use Rattle.std.specs.declared.cmp.Ordering.{Ordering}
 use Rattle.ic_rbtree.specs.Comparing.{goes_left}
 use Rattle.ic_rbtree.specs.Borders.{equal_at}

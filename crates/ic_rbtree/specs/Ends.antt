@@ -1,11 +1,8 @@
 -- A tree is given by its first and its last member. A walk that removes the members of a tree stores only these two members.
 use Rattle.std.specs.Prelude.{◌≡◌, Option, Some, List, [], ◌∷◌, drop}
-use Rattle.ic_link_ops.specs.Prelude.{Place, first, last, but_last, Table}
+use Rattle.ic_link_ops.specs.Prelude.{Place, first, last, but_last, Table, Ends, Tree, top, in_order, Node, RepresentsEnds}
 use Rattle.ic_link_ops.specs.declared.side.Side.{Side}
 use Rattle.ic_link_ops.specs.declared.side.Side.TheVariants.{Left, Right}
-use Rattle.ic_link_ops.specs.Chains.{Ends}
-use Rattle.ic_link_ops.specs.Trees.{Tree, top, in_order}
-use Rattle.ic_link_ops.specs.RedBlackTree.{Node, RepresentsEnds}
 use Rattle.ic_link_ops.specs.Frames.{Frame, above, plug, topmost}
 use Rattle.ic_rbtree.specs.Pieces.{Piece, around, Held, ClimbState}
 use Rattle.ic_rbtree.specs.Removal.{IsOn}

@@ -2,9 +2,7 @@
 use Rattle.std.specs.Prelude.{◌≡◌, ⊤, Some, Result, IfOk, IfErr, List, [], ◌∷◌}
 use Rattle.std.specs.declared.cmp.Ordering.{Ordering}
 use Rattle.std.specs.Borrow.{MutBor}
-use Rattle.ic_link_ops.specs.Prelude.{Place, Cut, join, Table, IsValidCursor, LinkStep, acquires}
-use Rattle.ic_link_ops.specs.Edits.{Inserts}
-use Rattle.ic_link_ops.specs.RedBlackTree.{Node}
+use Rattle.ic_link_ops.specs.Prelude.{Place, Cut, join, Table, IsValidCursor, LinkStep, acquires, Inserts, Node}
 use Rattle.ic_rbtree.specs.declared.keys.entry.Entry.{Entry}
 use Rattle.ic_rbtree.specs.declared.keys.entry.Entry.TheVariants.{Occupied, Vacant}
 use Rattle.ic_rbtree.specs.declared.keys.entry.InsertCursor.{InsertCursor}

@@ -1,9 +1,7 @@
 -- A tree is described by one of its subtrees, the subtree in focus, and by the frames above this subtree. A frame is one step down the tree: a side, the member
 -- above, the member's color, and its other subtree.
 use Rattle.std.specs.Prelude.{Option, List}
-use Rattle.ic_link_ops.specs.Prelude.{Place, Table}
-use Rattle.ic_link_ops.specs.Trees.{Tree}
-use Rattle.ic_link_ops.specs.RedBlackTree.{Node}
+use Rattle.ic_link_ops.specs.Prelude.{Place, Table, Tree, Node}
 use Rattle.ic_link_ops.specs.Frames.{Frame}
 use Rattle.ic_rbtree.specs.Pieces.{Piece, ClimbState, Represented}
 

@@ -2,9 +2,8 @@
 -- inserted.
 use Rattle.std.specs.Prelude.{◌≡◌, ℕ, ◌+◌, ◌*◌, ◌^◌, ◌≤◌, Bool, false, not, Option, None, Some, List, length}
 use Rattle.std.specs.declared.cmp.Ordering.{Ordering}
-use Rattle.ic_link_ops.specs.Prelude.{Place, Objects, Cut, join, IsBefore, Table}
+use Rattle.ic_link_ops.specs.Prelude.{Place, Objects, Cut, join, IsBefore, Table, Node}
 use Rattle.ic_link_ops.specs.declared.side.Side.{Side}
-use Rattle.ic_link_ops.specs.RedBlackTree.{Node}
 use Rattle.ic_rbtree.specs.Borders.{IsBorder, less_at}
 use Rattle.ic_rbtree.specs.Comparing.{compared}
 use Rattle.ic_rbtree.specs.Insertion.{IsInsertPos}

@@ -1,13 +1,10 @@
 -- These definitions state the effect of each step of a repair after an insert.
 use Rattle.std.specs.Prelude.{◌≡◌, ℕ, ◌+◌, ◌<◌, Bool, true, false, cond, Option, Some, None, List, [], ◌∷◌, ◌++◌, length}
-use Rattle.ic_link_ops.specs.Prelude.{Place, Cut, Table}
+use Rattle.ic_link_ops.specs.Prelude.{Place, Cut, Table, Tree, leaf, fork, top, in_order, weight, blacks, Node}
 use Rattle.ic_link_ops.specs.declared.color.Color.{Color}
 use Rattle.ic_link_ops.specs.declared.color.Color.TheVariants.{Red, Black}
 use Rattle.ic_link_ops.specs.declared.side.Side.{Side}
 use Rattle.ic_link_ops.specs.declared.side.Side.TheVariants.{Left, Right}
-use Rattle.ic_link_ops.specs.Trees.{Tree, leaf, fork, top, in_order}
-use Rattle.ic_link_ops.specs.Shape.{weight, blacks}
-use Rattle.ic_link_ops.specs.RedBlackTree.{Node}
 use Rattle.ic_link_ops.specs.Frames.{Frame, frame, branch, plug, above, child_on}
 use Rattle.ic_rbtree.specs.Height.{turns}
 use Rattle.ic_rbtree.specs.Sides.{IsBeside}

@@ -1,8 +1,6 @@
 -- Contracts describe a walk that removes the members of a tree by these definitions.
 use Rattle.std.specs.Prelude.{Option, List}
-use Rattle.ic_link_ops.specs.Prelude.{Place, Table, LinkStep}
-use Rattle.ic_link_ops.specs.Chains.{Ends}
-use Rattle.ic_link_ops.specs.RedBlackTree.{Node}
+use Rattle.ic_link_ops.specs.Prelude.{Place, Table, LinkStep, Ends, Node}
 use Rattle.ic_link_ops.specs.Taking as taking
 use Rattle.ic_link_ops.specs.Taking.{Taking}
 use Rattle.ic_rbtree.specs.Ends.{RepresentsWithin}

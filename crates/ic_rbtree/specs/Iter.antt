@@ -1,7 +1,6 @@
 -- Contracts describe a walk over a tree's objects by these definitions.
 use Rattle.std.specs.Prelude.{List}
-use Rattle.ic_link_ops.specs.Prelude.{Place, Objects, Table, ArePlaced, values_at}
-use Rattle.ic_link_ops.specs.RedBlackTree.{Node}
+use Rattle.ic_link_ops.specs.Prelude.{Place, Objects, Table, ArePlaced, values_at, Node}
 use Rattle.ic_rbtree.specs.Members.{members, between, IsWalk}
 use Rattle.ic_rbtree.specs.declared.iter.Iter.{Iter}
 

@@ -1,10 +1,8 @@
 -- Two trees are joined: a place is inserted into one tree, and the other tree becomes a subtree of this place.
 use Rattle.std.specs.Prelude.{◌≡◌, ℕ, ◌+◌, ◌≤◌, Bool, true, cond, Option, None, List, [], ◌∷◌}
-use Rattle.ic_link_ops.specs.Prelude.{Place, Cut, join, insert, IsDistinct, Table, ChangesOnlyIn}
+use Rattle.ic_link_ops.specs.Prelude.{Place, Cut, join, insert, IsDistinct, Table, ChangesOnlyIn, Tree, top, in_order, top_color, blacks, IsRight}
 use Rattle.ic_link_ops.specs.declared.color.Color.TheVariants.{Red, Black}
 use Rattle.ic_link_ops.specs.declared.side.Side.{Side}
-use Rattle.ic_link_ops.specs.Trees.{Tree, top, in_order}
-use Rattle.ic_link_ops.specs.Shape.{top_color, blacks, IsRight}
 use Rattle.ic_link_ops.specs.RedBlackTree.{Node, IsTree, Represents}
 use Rattle.ic_link_ops.specs.Frames.{Frame, branch, plug, above}
 use Rattle.ic_rbtree.specs.declared.join.roots.Measured.{Measured}

@@ -1,10 +1,9 @@
 -- What a tree stores of its members: its root, and in one kind of tree also its first and its last member.
 use Rattle.std.specs.Prelude.{◌≡◌, ℕ, ◌+◌, true, cond, Option, None, Some, List, []}
 use Rattle.std.specs.declared.cmp.Ordering.{Ordering}
-use Rattle.ic_link_ops.specs.Prelude.{Place, Objects, Cut, first, last, Table}
+use Rattle.ic_link_ops.specs.Prelude.{Place, Objects, Cut, first, last, Table, is_end}
 use Rattle.ic_link_ops.specs.declared.side.Side.{Side}
 use Rattle.ic_link_ops.specs.declared.side.Side.TheVariants.{Left, Right}
-use Rattle.ic_link_ops.specs.Walk.{is_end}
 use Rattle.ic_link_ops.specs.RedBlackTree.{Node, Represents, RepresentsSome}
 use Rattle.ic_rbtree.specs.Comparing.{HasRoom, WithinComparisonBound, Looks, compared}
 use Rattle.ic_rbtree.specs.Ends.{end_on}

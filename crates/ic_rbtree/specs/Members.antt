@@ -1,9 +1,7 @@
 -- The members of a tree, in the order in which a walk along the entries reaches them.
 use Rattle.std.specs.Prelude.{◌≡◌, ◌⊎◌, true, ℕ, zero, suc, cond, Option, Some, None, List, [], ◌∷◌, ◌++◌}
-use Rattle.ic_link_ops.specs.Prelude.{Place, first, last, Table, IsCovered}
-use Rattle.ic_link_ops.specs.Trees.{Tree, leaf, fork, in_order}
+use Rattle.ic_link_ops.specs.Prelude.{Place, first, last, Table, IsCovered, Tree, leaf, fork, in_order, is_end}
 use Rattle.ic_link_ops.specs.RedBlackTree.{Node, Represents}
-use Rattle.ic_link_ops.specs.Walk.{is_end}
 
 -- the second of two optional places, or the first if the second is none
 abbrev pub some_or : Option Place → Option Place → Option Place

@@ -1,13 +1,9 @@
 -- A table is described in pieces that share no place: single members, trees, and the surroundings of a subtree.
 use Rattle.std.specs.Prelude.{◌≡◌, ℕ, ◌+◌, ◌≤◌, true, Option, List, [], ◌∷◌}
-use Rattle.ic_link_ops.specs.Prelude.{Place, Table}
+use Rattle.ic_link_ops.specs.Prelude.{Place, Table, Tree, top, in_order, IsRight, Node, IsTree, one_at, times, times_around}
 use Rattle.ic_link_ops.specs.declared.color.Color.{Color}
 use Rattle.ic_link_ops.specs.declared.side.Side.{Side}
-use Rattle.ic_link_ops.specs.Trees.{Tree, top, in_order}
-use Rattle.ic_link_ops.specs.Shape.{IsRight}
-use Rattle.ic_link_ops.specs.RedBlackTree.{Node, IsTree}
 use Rattle.ic_link_ops.specs.Frames.{Frame, above, topmost, IsAtSide, IsAround}
-use Rattle.ic_link_ops.specs.Times.{one_at, times, times_around}
 
 -- one piece of a table
 pub data Piece : Type 0 where

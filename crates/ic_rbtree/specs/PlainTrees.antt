@@ -1,12 +1,9 @@
 -- Trees over the plain table of tree links.
-use Rattle.std.specs.Prelude.{⊤, Bool, Option, List}
-use Rattle.ic_link_ops.specs.Prelude.{Place, Table}
+use Rattle.std.specs.Prelude.{⊤, ℕ, Bool, Option, List}
+use Rattle.ic_link_ops.specs.Prelude.{Place, Table, words_of, table, linked_by, wide}
 use Rattle.ic_link_ops.specs.declared.link.Link.{Link}
 use Rattle.ic_link_ops.specs.declared.rbtree.ThreeWords.{ThreeWords}
 use Rattle.ic_link_ops.specs.declared.table.PlainTable.{PlainTable}
-use Rattle.ic_link_ops.specs.Links.{words_of}
-use Rattle.ic_link_ops.specs.PlainTables.{table, linked_by}
-use Rattle.ic_link_ops.specs.Widths.{wide}
 use Rattle.ic_link_ops.specs.ThreeWords.{no_words, has_link, node_of}
 use Rattle.ic_link_ops.specs.RedBlackTree.{Node, Represents, RepresentsSome}
 use Rattle.ic_rbtree.specs.Members.{members}
@@ -17,10 +14,10 @@ node_by node l = node (words_of l)
 
 -- the type of the link by which an object is in a tree. `TreeLinkOps` is the type of the plain tables of tree links
 abbrev pub TreeLink : Type 0
-TreeLink = Link ThreeWords ⊤
+TreeLink = Link (ThreeWords ℕ) ⊤
 
 abbrev pub TreeLinkOps : Type 0 → Type 0
-TreeLinkOps A = PlainTable ThreeWords A ⊤
+TreeLinkOps A = PlainTable (ThreeWords ℕ) A ⊤
 
 -- whether a link is that of a linked place
 abbrev pub is_linked : TreeLink → Bool

@@ -1,11 +1,9 @@
 -- Gaps and descents are described by sides, so that each statement holds for the left side and, mirrored, for the right side.
 use Rattle.std.specs.Prelude.{◌≡◌, ◌<◌, Option, Some, None, List}
-use Rattle.ic_link_ops.specs.Prelude.{Place, Cut, first, last, IsAfter, IsBefore, Table}
+use Rattle.ic_link_ops.specs.Prelude.{Place, Cut, first, last, IsAfter, IsBefore, Table, Tree, leaf, top, in_order, Node}
 use Rattle.ic_link_ops.specs.declared.color.Color.{Color}
 use Rattle.ic_link_ops.specs.declared.side.Side.{Side}
 use Rattle.ic_link_ops.specs.declared.side.Side.TheVariants.{Left, Right}
-use Rattle.ic_link_ops.specs.Trees.{Tree, leaf, top, in_order}
-use Rattle.ic_link_ops.specs.RedBlackTree.{Node}
 use Rattle.ic_link_ops.specs.Frames.{Frame, across, child_on, branch, plug, before, after}
 use Rattle.ic_rbtree.specs.Height.{height, turns}
 use Rattle.ic_rbtree.specs.Pieces.{Piece, ClimbState}

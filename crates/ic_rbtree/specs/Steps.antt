@@ -1,13 +1,10 @@
 -- These definitions state the effect of each function that writes children and parents.
 use Rattle.std.specs.Prelude.{◌≡◌, Option, Some, List, ◌∷◌}
-use Rattle.ic_link_ops.specs.Prelude.{Place, Table, LinkStep}
+use Rattle.ic_link_ops.specs.Prelude.{Place, Table, LinkStep, Tree, top, Node, times_around}
 use Rattle.ic_link_ops.specs.declared.color.Color.{Color}
 use Rattle.ic_link_ops.specs.declared.side.Side.{Side}
 use Rattle.ic_link_ops.specs.declared.side.Side.TheVariants.{Left, Right}
-use Rattle.ic_link_ops.specs.Trees.{Tree, top}
-use Rattle.ic_link_ops.specs.RedBlackTree.{Node}
 use Rattle.ic_link_ops.specs.Frames.{Frame, branch, above}
-use Rattle.ic_link_ops.specs.Times.{times_around}
 use Rattle.ic_rbtree.specs.Pieces.{Piece, below, around, Held, ClimbState}
 
 -- each list of steps that led to the old state also leads to the new state, because no step was taken in between

@@ -1,8 +1,7 @@
 -- These definitions state to which place a step leads over any links, even if the links are not a tree.
 use Rattle.std.specs.Prelude.{◌≡◌, ◌⊎◌, List, [], ◌∷◌, Option, Some, None}
-use Rattle.ic_link_ops.specs.Prelude.{Place, Table}
+use Rattle.ic_link_ops.specs.Prelude.{Place, Table, Node, node_at}
 use Rattle.ic_link_ops.specs.Frames.{across, child_on}
-use Rattle.ic_link_ops.specs.RedBlackTree.{Node, node_at}
 use Rattle.ic_link_ops.specs.declared.side.Side.{Side}
 
 module _ {E : Type 0} (n : E → Node) (v : Table E) (side : Side) where

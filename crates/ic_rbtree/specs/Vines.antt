@@ -1,13 +1,9 @@
 -- A vine is a tree without left children: linked places, each the right child of the place before it. The left children, the parents and the colors in the
 -- entries of a vine may be anything.
 use Rattle.std.specs.Prelude.{◌≡◌, ℕ, ◌+◌, ◌^◌, ◌≤◌, length, Option, None, List}
-use Rattle.ic_link_ops.specs.Prelude.{Place, IsDistinct, first_or, Table, ChangesOnlyIn}
+use Rattle.ic_link_ops.specs.Prelude.{Place, IsDistinct, first_or, Table, ChangesOnlyIn, top_color, blacks, IsEven, NoRedPair, Successor, IsFollowed, Node, IsTree, Tree, top, in_order}
 use Rattle.ic_link_ops.specs.declared.color.Color.TheVariants.{Black}
 use Rattle.ic_link_ops.specs.Chains.{Ends, IsChain, RepresentsBetween}
-use Rattle.ic_link_ops.specs.Shape.{top_color, blacks, IsEven, NoRedPair}
-use Rattle.ic_link_ops.specs.SinglyLinkedList.{Successor, IsFollowed}
-use Rattle.ic_link_ops.specs.RedBlackTree.{Node, IsTree}
-use Rattle.ic_link_ops.specs.Trees.{Tree, top, in_order}
 use Rattle.ic_rbtree.specs.Height.{IsLowest}
 
 module _ {E : Type 0} (n : E → Node) where

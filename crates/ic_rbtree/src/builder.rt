@@ -8,9 +8,7 @@
 //! ```
 
 ghost use Rattle.std.specs.Prelude.{◌≡◌, Some, None, OnOk, OnErr, IfErr, IfSome, IfNone, List, [], ◌∷◌};
-ghost use Rattle.ic_link_ops.specs.Prelude.{Place, first, at_front, at_back, IsCovered, acquires, releases};
-ghost use Rattle.ic_link_ops.specs.Chains.{no_members, list_head};
-ghost use Rattle.ic_link_ops.specs.Edits.{Inserts, Removes};
+ghost use Rattle.ic_link_ops.specs.Prelude.{Place, first, at_front, at_back, IsCovered, acquires, releases, no_members, list_head, Inserts, Removes};
 ghost use Rattle.ic_link_ops.specs.RedBlackTree.{Represents, RepresentsSome};
 ghost use Rattle.ic_rbtree.specs.Builder.{ends_of, builder_adapter_of};
 ghost use Rattle.ic_rbtree.specs.Height.{IsLowest};

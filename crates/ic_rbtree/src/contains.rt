@@ -5,8 +5,7 @@
 //! ```
 
 ghost use Rattle.std.specs.Prelude.{◌≡◌, ◌↔◌, ◌⊎◌, IsTrue, Some, List};
-ghost use Rattle.ic_link_ops.specs.Prelude.{Place, IsMember, IsCovered};
-ghost use Rattle.ic_link_ops.specs.PlainTables.{table_beside};
+ghost use Rattle.ic_link_ops.specs.Prelude.{Place, IsMember, IsCovered, table_beside};
 ghost use Rattle.ic_link_ops.specs.RedBlackTree.{Represents, RepresentsSome};
 ghost use Rattle.ic_rbtree.specs.Members.{HasChild};
 ghost use Rattle.ic_rbtree.specs.PlainTrees.{node_by};

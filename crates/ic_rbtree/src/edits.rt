@@ -4,10 +4,9 @@
 //! the position's member, or the last gap if the position is null. No edit compares keys. The traits `CursorOps` and `Bidirectional` document the calls.
 
 ghost use Rattle.std.specs.Prelude.{◌≡◌, None, Option, List, [], ◌∷◌, ◌++◌};
-ghost use Rattle.ic_link_ops.specs.Prelude.{Place, IsCovered, ChangesOnlyIn, site, IsValidCursor, HasMember, releases};
+ghost use Rattle.ic_link_ops.specs.Prelude.{Place, IsCovered, ChangesOnlyIn, site, IsValidCursor, HasMember, releases, InsertsBeside};
 ghost use Rattle.ic_cursors.specs.Answers as answer;
 ghost use Rattle.ic_link_ops.specs.declared.side.Side.TheVariants.{Left, Right};
-ghost use Rattle.ic_link_ops.specs.EditsAt.{InsertsBeside};
 ghost use Rattle.ic_rbtree.specs.Kept.{RepresentsKept, EndIs, HasEnds};
 ghost use Rattle.ic_rbtree.specs.Sides.{IsBeside};
 ghost use Rattle.ic_rbtree.specs.Tree.{head_of, adapter_of};

@@ -9,8 +9,7 @@
 
 ghost use Rattle.std.specs.Prelude.{◌≡◌, List, Option, Some, ⊤};
 ghost use Rattle.std.specs.Iterator.{item_count};
-ghost use Rattle.ic_unsafe_ref.specs.declared.place.Place.{Place};
-ghost use Rattle.ic_link_ops.specs.Walk.{GivesFirst, GivesLast};
+ghost use Rattle.ic_link_ops.specs.Prelude.{Place, GivesFirst, GivesLast};
 ghost use Rattle.ic_rbtree.specs.Kept.{RepresentsKept};
 ghost use Rattle.ic_rbtree.specs.Tree.{head_of};
 

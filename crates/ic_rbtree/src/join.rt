@@ -7,8 +7,7 @@
 //! ```
 
 ghost use Rattle.std.specs.Prelude.{◌≡◌, OnOk, OnErr, IfErr, List, [], ◌∷◌, ◌++◌};
-ghost use Rattle.ic_link_ops.specs.Prelude.{Place, Cut, IsCovered, HasMember, acquires};
-ghost use Rattle.ic_link_ops.specs.Edits.{Inserts, Splits};
+ghost use Rattle.ic_link_ops.specs.Prelude.{Place, Cut, IsCovered, HasMember, acquires, Inserts, Splits};
 ghost use Rattle.ic_rbtree.specs.Join.{RepresentsParts, RepresentsPartsSome, Appends};
 ghost use Rattle.ic_rbtree.specs.Kept.{RepresentsKept, IsEmptied};
 ghost use Rattle.ic_rbtree.specs.Tree.{head_of, adapter_of};

@@ -6,8 +6,7 @@
 
 ghost use Rattle.std.specs.Prelude.{◌≡◌, Some, List, [], ◌∷◌};
 ghost use Rattle.std.specs.Bool.{OnTrue, OnFalse};
-ghost use Rattle.ic_link_ops.specs.Prelude.{Place, Cut, join, IsBefore, IsCovered, RepresentsPlaced, acquires, releases};
-ghost use Rattle.ic_link_ops.specs.Edits.{Removes, Inserts, Replaces};
+ghost use Rattle.ic_link_ops.specs.Prelude.{Place, Cut, join, IsBefore, IsCovered, RepresentsPlaced, acquires, releases, Removes, Inserts, Replaces};
 ghost use Rattle.ic_rbtree.specs.Comparing.{compared};
 ghost use Rattle.ic_rbtree.specs.Insertion.{IsInsertPos};
 ghost use Rattle.ic_rbtree.specs.Kept.{RepresentsKept, HasRoomFor, InsertLooks};

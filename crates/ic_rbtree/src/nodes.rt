@@ -5,10 +5,8 @@
 //! ```
 
 ghost use Rattle.std.specs.Prelude.{◌≡◌, []};
-ghost use Rattle.ic_link_ops.specs.Tables.{Table, ChangesOnly};
+ghost use Rattle.ic_link_ops.specs.Prelude.{Table, ChangesOnly, Node, node_at, is_end};
 ghost use Rattle.ic_link_ops.specs.Frames.{child_on};
-ghost use Rattle.ic_link_ops.specs.RedBlackTree.{Node, node_at};
-ghost use Rattle.ic_link_ops.specs.Walk.{is_end};
 ghost use Rattle.ic_rbtree.specs.Closed.{IsNode, IsNamed, KeepsNodes};
 
 use crate::readings::is_at;

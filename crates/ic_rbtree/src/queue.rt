@@ -5,11 +5,10 @@
 //! timers.push_back(&mut links, timer)?;
 //! ```
 
-ghost use Rattle.std.specs.Prelude.{◌≡◌, OnOk, OnErr, IfErr, IfSome, IfNone, List, [], ◌∷◌};
-ghost use Rattle.ic_link_ops.specs.Prelude.{Place, first, last, at_front, at_back, remove, but_last, IsCovered, ChangesOnlyIn, acquires, releases};
-ghost use Rattle.ic_link_ops.specs.Edits.{Inserts};
+ghost use Rattle.ic_link_ops.specs.Prelude.{first, last, at_front, at_back, remove, but_last, IsCovered, Inserts};
 ghost use Rattle.ic_rbtree.specs.Kept.{RepresentsKept, RepresentsKeptSome};
-ghost use Rattle.ic_rbtree.specs.Tree.{head_of, adapter_of};
+ghost use Rattle.ic_rbtree.specs.Tree.{head_of};
+ghost use Rattle.ic_rbtree.specs.TreeEdits.{InsertsIntoTree, PopsFromTree};
 
 use crate::head::TreeHead;
 use crate::linking::insert;
@@ -24,14 +23,7 @@ impl<A: KeyAdapter, E: TreeHead> RBTree<A, E> {
     #[inline]
     pub fn pop_front<L: RBTreeOps>(&mut self, links: &mut L) -> Option<UnsafeRef<A::Value>>
         requires shown { RepresentsKeptSome E.kept L.node (L.table links.old) (head_of self.old) }
-        ensures answer { (s : List Place) → RepresentsKept E.kept L.node (L.table links.old) (head_of self.old) s → result ≡ first s }
-        ensures removed { (s : List Place) → RepresentsKept E.kept L.node (L.table links.old) (head_of self.old) s
-            → RepresentsKept E.kept L.node (L.table links.new) (head_of self.new) (remove (at_front s)) }
-        ensures released { IfSome result (λ object. L.Trace links.old links.new (releases object ∷ [])) }
-        ensures empty { IfNone result ((self.new ≡ self.old) × (links.new ≡ links.old)) }
-        ensures adapter { adapter_of self.new ≡ adapter_of self.old }
-        ensures frame { (s : List Place) → RepresentsKept E.kept L.node (L.table links.old) (head_of self.old) s
-            → ChangesOnlyIn (L.table links.old) (L.table links.new) s }
+        ensures { PopsFromTree E.kept L.node L.table L.Trace first (λ s. remove (at_front s)) links.old self.old result links.new self.new }
     {
         let object = UnsafeRef::new(self.first(&*links)?);
         self.remove(links, &object);
@@ -42,14 +34,7 @@ impl<A: KeyAdapter, E: TreeHead> RBTree<A, E> {
     #[inline]
     pub fn pop_back<L: RBTreeOps>(&mut self, links: &mut L) -> Option<UnsafeRef<A::Value>>
         requires shown { RepresentsKeptSome E.kept L.node (L.table links.old) (head_of self.old) }
-        ensures answer { (s : List Place) → RepresentsKept E.kept L.node (L.table links.old) (head_of self.old) s → result ≡ last s }
-        ensures removed { (s : List Place) → RepresentsKept E.kept L.node (L.table links.old) (head_of self.old) s
-            → RepresentsKept E.kept L.node (L.table links.new) (head_of self.new) (but_last s) }
-        ensures released { IfSome result (λ object. L.Trace links.old links.new (releases object ∷ [])) }
-        ensures empty { IfNone result ((self.new ≡ self.old) × (links.new ≡ links.old)) }
-        ensures adapter { adapter_of self.new ≡ adapter_of self.old }
-        ensures frame { (s : List Place) → RepresentsKept E.kept L.node (L.table links.old) (head_of self.old) s
-            → ChangesOnlyIn (L.table links.old) (L.table links.new) s }
+        ensures { PopsFromTree E.kept L.node L.table L.Trace last but_last links.old self.old result links.new self.new }
     {
         let object = UnsafeRef::new(self.last(&*links)?);
         self.remove(links, &object);
@@ -69,12 +54,8 @@ impl<A: KeyAdapter, E: TreeHead> RBTree<A, E> {
     ) -> Result<(), AlreadyLinked<A::Value>>
         requires covered { IsCovered (L.table links.old) object }
         requires shown { RepresentsKeptSome E.kept L.node (L.table links.old) (head_of self.old) }
-        ensures inserted { (s : List Place) → RepresentsKept E.kept L.node (L.table links.old) (head_of self.old) s → OnOk result
-            (Inserts (RepresentsKept E.kept L.node) (L.table links.old) (L.table links.new) (head_of self.new) (at_back s) object) }
-        ensures acquired { OnOk result (L.Trace links.old links.new (acquires object ∷ [])) }
-        ensures adapter { adapter_of self.new ≡ adapter_of self.old }
-        ensures refused { OnErr result (L.Refused links.old links.new object) }
-        ensures unchanged { IfErr result (λ refused. (refused.0 ≡ object) × (self.new ≡ self.old)) }
+        ensures { InsertsIntoTree E.kept L.node L.table L.Trace L.Refused
+            (λ t t' head s. Inserts (RepresentsKept E.kept L.node) t t' head (at_back s)) links.old self.old object result links.new self.new }
     {
         let last = self.last(&*links);
         if !insert(links, &mut self.head, last, Side::Right, object.place()) {

@@ -1,9 +1,7 @@
 //! Functions that read the links and the color of a member, by sides.
 
 ghost use Rattle.std.specs.Prelude.{◌≡◌, Some};
-ghost use Rattle.ic_unsafe_ref.specs.declared.place.Place.{Place};
-ghost use Rattle.ic_link_ops.specs.Walk.{is_end};
-ghost use Rattle.ic_link_ops.specs.RedBlackTree.{node_at};
+ghost use Rattle.ic_link_ops.specs.Prelude.{Place, is_end, node_at};
 ghost use Rattle.ic_link_ops.specs.Frames.{across, child_on};
 ghost use Rattle.ic_rbtree.specs.Removal.{red_at, red_below, AreRead};
 ghost use Rattle.ic_rbtree.specs.Transplants.{or_else, IsSideBelow, both_of};

@@ -10,12 +10,8 @@
 //! ```
 
 ghost use Rattle.std.specs.Prelude.{◌≡◌, ◌≤◌, ◌+◌, ◌-◌, Option, Some, None, List, length};
-ghost use Rattle.ic_link_ops.specs.Prelude.{Place, IsAbsent, at_back, Table};
-ghost use Rattle.ic_link_ops.specs.Chains.{list_head, end_of};
-ghost use Rattle.ic_link_ops.specs.Edits.{Inserts};
-ghost use Rattle.ic_link_ops.specs.Shape.{weight};
+ghost use Rattle.ic_link_ops.specs.Prelude.{Place, IsAbsent, at_back, Table, list_head, end_of, Inserts, weight, Tree, in_order};
 ghost use Rattle.ic_link_ops.specs.SinglyLinkedList.{IsWalk};
-ghost use Rattle.ic_link_ops.specs.Trees.{Tree, in_order};
 ghost use Rattle.ic_rbtree.specs.Closed.{IsNode, IsNamed};
 ghost use Rattle.ic_rbtree.specs.Height.{height};
 ghost use Rattle.ic_rbtree.specs.Vines.{along, RepresentsVine, IsVineOf, IsTreeOf, BecomesTree, BecomesVine};

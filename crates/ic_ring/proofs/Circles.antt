@@ -1,9 +1,8 @@
 -- Lemmas about circles of places: a circle can be read from each of its places, a place can be removed or inserted, and two different circles share
 -- no place.
 use Rattle.std.proofs.Common.{◌≡◌, ◌≢◌, Option, Some, None, IsSome, List, [], ◌∷◌, ◌++◌, Bool, true, false, refl, sym, subst, ◌∙◌, ap, append-nil, ◌⊎◌, inl, inr, eqb, eqb-true, eq-eqb}
-use Rattle.ic_link_ops.specs.Prelude.{Place, same_word, IsAbsent, IsMember, IsDisjoint, first_or, last_or, first, last, but_last, Table, LinksAlso, ChangesOnly}
+use Rattle.ic_link_ops.specs.Prelude.{Place, same_word, IsAbsent, IsMember, IsDisjoint, first_or, last_or, first, last, but_last, Table, LinksAlso, ChangesOnly, Ends}
 use Rattle.ic_unsafe_ref.proofs.PlaceLemmas.{same_or_not}
-use Rattle.ic_link_ops.specs.Chains.{Ends}
 use Rattle.ic_link_ops.specs.Turns.{TurnsAfter, TurnsBefore}
 use Rattle.ic_link_ops.specs.LinkedList.{Neighbors, neighbors_at, IsBetween, IsChain}
 use Rattle.ic_link_ops.specs.LinkedList as doubly

@@ -1,8 +1,6 @@
 -- Lemmas about a ring whose members are unlinked one after the other, from the front.
-use Rattle.std.proofs.Common.{◌≡◌, Option, Some, None, IsSome, List, [], ◌∷◌, ◌++◌, drop, refl, sym, subst, ap, ◌∙◌, append_assoc, append-nil}
-use Rattle.std.specs.Prelude.{is_some, false}
-use Rattle.ic_link_ops.specs.Prelude.{Place, IsAbsent, first, Table, ChangesOnlyIn}
-use Rattle.ic_link_ops.specs.LinkedList.{Neighbors}
+use Rattle.std.proofs.Common.{◌≡◌, Option, Some, None, IsSome, List, [], ◌∷◌, ◌++◌, drop, refl, sym, subst, ap, ◌∙◌, append_assoc, append-nil, is_some, false}
+use Rattle.ic_link_ops.specs.Prelude.{Place, IsAbsent, first, Table, ChangesOnlyIn, Neighbors}
 use Rattle.ic_link_ops.proofs.SequenceLemmas.{absent_right, nothing_first}
 use Rattle.ic_ring.specs.Rings.{Represents}
 

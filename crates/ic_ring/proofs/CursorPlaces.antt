@@ -1,9 +1,7 @@
 -- Lemmas about the place of a cursor in its ring: the gaps right before and after the cursor, and the ring read from this place.
 use Rattle.std.proofs.Common.{◌≡◌, ◌≢◌, Some, None, Result, Ok, Err, OnOk, OnErr, List, [], ◌∷◌, ◌++◌, drop, true, refl, sym, ap, ◌∙◌, subst, append_assoc, append-nil, inl, inr, eqb, eq-eqb}
-use Rattle.ic_link_ops.specs.Prelude.{Place, Cut, join, IsAbsent, IsMember, IsDisjoint, first_or, last_or, first, last, but_last, Table, IsCovered, ChangesOnlyIn}
-use Rattle.ic_unsafe_ref.proofs.PlaceLemmas.{same_or_not}
-use Rattle.ic_link_ops.specs.LinkedList.{Neighbors}
-use Rattle.ic_link_ops.proofs.SequenceLemmas.{first_is, first_or-append, last_or-append, split_last, some_same, absent_left, absent_right, absent_both, member_split}
+use Rattle.ic_link_ops.specs.Prelude.{Place, Cut, join, IsAbsent, IsMember, IsDisjoint, first_or, last_or, first, last, but_last, Table, IsCovered, ChangesOnlyIn, Neighbors}
+use Rattle.ic_link_ops.proofs.Prelude.{same_or_not, first_is, first_or-append, last_or-append, split_last, some_same, absent_left, absent_right, absent_both, member_split}
 use Rattle.ic_ring.specs.Rings.{IsCircle, Represents, InRing, IsRingOf, OthersStay}
 use Rattle.ic_ring.specs.RingCursors.{IsAfter, IsBefore, IsValidCursor}
 use Rattle.ic_ring.proofs.Circles.{rotated, seen_from, seen_at, circles_apart}
@@ -129,6 +127,16 @@ module _ {E : Type 0} {n : E → Neighbors} where
       → Some at ≡ first_or back (Some head) → Some prev ≡ last_or (Some head) front
   moved_back t {head} {at} leads front back c e =
       sym leads ∙ (seen_ahead front back e c).chain.0.prev ∙ ap last (sym (begins_at head front back e)) ∙ last_or-append None back (head ∷ front)
+
+  -- a valid cursor is valid after a move to the next place of its place. `stands_back` says the same of a move to the previous place
+  pub stands_on : (t : Table E) {head at next : Place} → IsValidCursor n t head at → (n (t.entry at)).next ≡ Some next → IsValidCursor n t head next
+  stands_on t {head} k leads = stands_ahead t head k.0.front k.0.back k.1 (moved_on t leads k.0.front k.0.back k.1 k.2)
+
+  pub stands_back : (t : Table E) {head at prev : Place} → IsValidCursor n t head at → (n (t.entry at)).prev ≡ Some prev → IsValidCursor n t head prev
+  stands_back t {head} k leads =
+      let gap = gap_ahead head k.0.front k.0.back k.2 in
+      let shown = subst (Represents n t head) (sym gap.1) k.1 in
+      (gap.0, shown, moved_back t leads gap.0.front gap.0.back shown gap.2)
 
   -- if the ring read from the cursor ends with the place p, then p is the member right before the cursor
   pub put_ahead : {t : Place → E} {head at : Place} (p : Place) (front back : List Place) → Some at ≡ first_or back (Some head)

@@ -1,8 +1,7 @@
 -- Lemmas about two rings that become one ring, and whose members go from one ring to the other. `joins`: the two circles are one circle, after x and y, their
 -- last places, exchanged their next places
 use Rattle.std.proofs.Common.{◌≡◌, Option, Some, None, List, [], ◌∷◌, ◌++◌, sym, ap, subst, ◌∙◌, append_assoc}
-use Rattle.ic_link_ops.specs.Prelude.{Place, IsAbsent, IsDisjoint, last, last_or}
-use Rattle.ic_link_ops.specs.LinkedList.{Neighbors}
+use Rattle.ic_link_ops.specs.Prelude.{Place, IsAbsent, IsDisjoint, last, last_or, Neighbors}
 use Rattle.ic_link_ops.proofs.SequenceLemmas.{last_or-append, last_of_push, last_not, none_not, absent_left, absent_turned, absent_swap, disjoint_sym, disjoint_both}
 use Rattle.ic_ring.specs.Rings.{IsCircle}
 use Rattle.ic_ring.proofs.Circles.{rotated, apart_too}

@@ -1,9 +1,7 @@
 -- Lemmas about what stays as it was if a ring changes: the other rings, and all lists. Other lemmas are about a ring from which a moved object was removed.
 use Rattle.std.proofs.Common.{◌≡◌, ◌≢◌, List, [], ◌∷◌, ◌++◌, Bool, false, inl, inr, subst, sym}
-use Rattle.ic_link_ops.specs.Prelude.{Place, IsAbsent, IsDisjoint, first, last, Table}
-use Rattle.ic_link_ops.specs.LinkedList.{Neighbors, IsBetween}
-use Rattle.ic_link_ops.proofs.SequenceLemmas.{absent_without, member_split, distinct_middle, disjoint_cons, disjoint_both, disjoint_sym, disjoint_nothing}
-use Rattle.ic_link_ops.proofs.Chains.{chain_frame}
+use Rattle.ic_link_ops.specs.Prelude.{Place, IsAbsent, IsDisjoint, first, last, Table, Neighbors, IsBetween}
+use Rattle.ic_link_ops.proofs.Prelude.{absent_without, member_split, distinct_middle, disjoint_cons, disjoint_both, disjoint_sym, disjoint_nothing, chain_frame}
 use Rattle.ic_link_ops.proofs.RepresentedLists.{represents_frame, free_absent}
 use Rattle.ic_link_ops.proofs.DoublyLists.{between_linked}
 use Rattle.ic_ring.specs.Rings.{IsCircle, RepresentsBeside, OthersStay}

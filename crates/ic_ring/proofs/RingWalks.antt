@@ -1,17 +1,12 @@
 -- Lemmas about the members of a ring, as the entries lead from one to the next, and about a walk over the ring's objects.
-use Rattle.std.proofs.Common.{◌≡◌, ◌≢◌, Option, Some, None, List, [], ◌∷◌, ◌++◌, true, false, Bor, refl, sym, ◌∙◌, ap, subst, append_assoc, eq-eqb}
-use Rattle.std.specs.Option.{option_copied}
+use Rattle.std.proofs.Common.{◌≡◌, ◌≢◌, Option, Some, None, List, [], ◌∷◌, ◌++◌, true, false, Bor, refl, sym, ◌∙◌, ap, subst, append_assoc, eq-eqb, option_copied}
 use Rattle.std.specs.List.{cons_option}
 use Rattle.std.specs.Iterator.{MakesProgress, item_count}
 use Rattle.std.proofs.lemmas.List.Elements.{filter_map-append}
-use Rattle.ic_link_ops.specs.Prelude.{Place, Objects, object_at, first_or, last, but_last, Table, IsCovered, ArePlaced, values_at}
-use Rattle.ic_link_ops.specs.Walk.{is_end, GivesFirst, GivesLast}
+use Rattle.ic_link_ops.specs.Prelude.{Place, Objects, object_at, first_or, last, but_last, Table, IsCovered, ArePlaced, values_at, is_end, GivesFirst, GivesLast}
 use Rattle.ic_link_ops.specs.LinkedList.{Neighbors, IsBetween, IsWalk}
-use Rattle.ic_link_ops.proofs.SequenceLemmas.{some_same, absent_right, distinct_right, first_or-append, last_or-append, split_last}
-use Rattle.ic_link_ops.proofs.Chains.{chain_cut}
+use Rattle.ic_link_ops.proofs.Prelude.{some_same, absent_right, distinct_right, first_or-append, last_or-append, split_last, chain_cut, all_but_last, is_end_not, yields_placed, makes_progress, yields_placed_back, makes_progress_back}
 use Rattle.ic_link_ops.proofs.DoublyLists.{walk_represented}
-use Rattle.ic_link_ops.proofs.PlacedEnds.{all_but_last}
-use Rattle.ic_link_ops.proofs.Walks.{is_end_not, yields_placed, makes_progress, yields_placed_back, makes_progress_back}
 use Rattle.ic_ring.specs.declared.iter.Iter.{Iter}
 use Rattle.ic_ring.specs.Rings.{IsCircle, Represents, members_until, members}
 use Rattle.ic_ring.specs.Iter.{objects_left, IsLeft, CanWalk}

@@ -1,9 +1,8 @@
 -- Lemmas about two writes: one sets the next place of a first place, and the other sets the previous place of a second place. The entries may contain any
 -- words before.
 use Rattle.std.proofs.Common.{◌≡◌, Some, inl, inr, ◌∙◌, ap, subst, sym}
-use Rattle.ic_link_ops.specs.Prelude.{Place, Table, ChangesOnly}
+use Rattle.ic_link_ops.specs.Prelude.{Place, Table, ChangesOnly, Neighbors, neighbors_at}
 use Rattle.ic_unsafe_ref.proofs.PlaceLemmas.{same_or_not}
-use Rattle.ic_link_ops.specs.LinkedList.{Neighbors, neighbors_at}
 use Rattle.ic_ring.specs.Rings.{TurnsTo}
 
 module _ {E : Type 0} (n : E → Neighbors) {old mid new : Table E} {first second next prev : Place} where

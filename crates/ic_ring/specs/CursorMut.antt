@@ -1,10 +1,8 @@
 -- The parts of an editing cursor of a ring that contracts name, and what its edits keep.
 use Rattle.std.specs.Prelude.{◌≡◌, Result, OnOk, OnErr, IfErr, List, [], ◌∷◌, ◌++◌}
 use Rattle.std.specs.Borrow.{MutBor}
-use Rattle.ic_link_ops.specs.Prelude.{Place, Table, Cut, join, insert, splice, ChangesOnlyIn, acquires}
-use Rattle.ic_link_ops.specs.LinkSteps.{LinkStep}
+use Rattle.ic_link_ops.specs.Prelude.{Place, Table, Cut, join, insert, splice, ChangesOnlyIn, acquires, LinkStep, Neighbors}
 use Rattle.ic_link_ops.specs.declared.errors.AlreadyLinked.{AlreadyLinked}
-use Rattle.ic_link_ops.specs.LinkedList.{Neighbors}
 use Rattle.ic_ring.specs.Rings.{Represents, OthersStay}
 use Rattle.ic_ring.specs.RingCursors.{IsValidCursor}
 use Rattle.ic_ring.specs.declared.cursor_mut.CursorMut.{CursorMut}
@@ -36,6 +34,14 @@ module _ {T L : Type 0} where
     -- THE CURSOR IS VALID: it is on a member or on the head of its ring
     abbrev pub IsValid : CursorMut T L → Type 0
     IsValid c = IsValidCursor neighbors (table (links_of c)) (head_of c) (at_of c)
+
+    -- THE CURSOR MOVES in its ring, and the table does not change. `Leads` says which moves the call makes: those to the next member (`MovesOn`) or those
+    -- to the previous member (`MovesBack`)
+    pub record Moves (Leads : (E → Neighbors) → Table E → Place → Place → Place → Type 0) (old new : CursorMut T L) : Type 0 where
+      pub moved : Leads neighbors (table (links_of old)) (head_of old) (at_of old) (at_of new)
+      pub stands : IsValid new
+      pub same : SameRing old new
+      pub links : links_of new ≡ links_of old
 
     -- no entries are changed except the entries of the places `and s`, if s are the members of the old ring. `and` adds the head and the places of
     -- the edit to s

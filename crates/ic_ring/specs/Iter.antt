@@ -1,7 +1,6 @@
 -- Which members and objects a walk over a ring has not returned yet.
 use Rattle.std.specs.Prelude.{◌≡◌, Some, List, ◌++◌}
-use Rattle.ic_link_ops.specs.Prelude.{Place, Objects, first_or, Table, ArePlaced, values_at}
-use Rattle.ic_link_ops.specs.LinkedList.{Neighbors}
+use Rattle.ic_link_ops.specs.Prelude.{Place, Objects, first_or, Table, ArePlaced, values_at, Neighbors}
 use Rattle.ic_ring.specs.Rings.{Represents, members_until}
 use Rattle.ic_ring.specs.declared.iter.Iter.{Iter}
 

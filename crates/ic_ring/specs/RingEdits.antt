@@ -1,9 +1,7 @@
 -- What an edit of a ring does. `old` and `new` are the links before the call and after it.
 use Rattle.std.specs.Prelude.{◌≡◌, ◌≢◌, Option, Result, OnOk, OnErr, IfErr, IfSome, IfNone, List, [], ◌∷◌, ◌++◌}
-use Rattle.ic_link_ops.specs.Prelude.{Place, Table, Cut, insert, IsAbsent, ChangesOnlyIn, acquires, releases}
-use Rattle.ic_link_ops.specs.LinkSteps.{LinkStep}
+use Rattle.ic_link_ops.specs.Prelude.{Place, Table, Cut, insert, IsAbsent, ChangesOnlyIn, acquires, releases, LinkStep, Neighbors}
 use Rattle.ic_link_ops.specs.declared.errors.AlreadyLinked.{AlreadyLinked}
-use Rattle.ic_link_ops.specs.LinkedList.{Neighbors}
 use Rattle.ic_ring.specs.Rings.{Represents, RepresentsBeside, IsRingOf, OthersStay}
 
 -- `right_before p object back`: the object, then the place p, then the places `back`

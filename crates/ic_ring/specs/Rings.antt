@@ -1,8 +1,6 @@
 -- Which members a table represents for a ring, and what a change of a ring keeps. The head of a ring is a place of the table.
 use Rattle.std.specs.Prelude.{◌≡◌, ◌≢◌, ◌⊎◌, cond, Option, Some, List, [], ◌∷◌, ◌++◌}
-use Rattle.ic_link_ops.specs.Prelude.{Place, IsAbsent, IsMember, IsDistinct, IsDisjoint, first, last, Table}
-use Rattle.ic_link_ops.specs.Chains.{Ends}
-use Rattle.ic_link_ops.specs.Walk.{is_end}
+use Rattle.ic_link_ops.specs.Prelude.{Place, IsAbsent, IsMember, IsDistinct, IsDisjoint, first, last, Table, Ends, is_end}
 use Rattle.ic_link_ops.specs.LinkedList as doubly
 use Rattle.ic_link_ops.specs.LinkedList.{Neighbors, neighbors_at, IsChain, members_between}
 

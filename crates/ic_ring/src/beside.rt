@@ -9,8 +9,7 @@
 
 ghost use Rattle.std.specs.Prelude.{◌≡◌, ◌≢◌, ◌∷◌, ◌++◌, List, [], Some, OnOk, OnErr, IfErr};
 ghost use Rattle.std.specs.Bool.{OnTrue, OnFalse};
-ghost use Rattle.ic_link_ops.specs.Prelude.{Place, first_or, last, at_back, at_front, IsCovered, ChangesOnlyIn, acquires, releases};
-ghost use Rattle.ic_link_ops.specs.LinkedList.{neighbors_at};
+ghost use Rattle.ic_link_ops.specs.Prelude.{Place, first_or, last, at_back, at_front, IsCovered, ChangesOnlyIn, acquires, releases, neighbors_at};
 ghost use Rattle.ic_ring.specs.Rings.{IsCircle, Represents, InRing, IsRingOf, OthersStay};
 ghost use Rattle.ic_ring.specs.RingEdits.{InsertsBesidePlace, right_before, right_after};
 

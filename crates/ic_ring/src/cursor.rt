@@ -6,11 +6,10 @@
 //! let first = cursor.get_ptr();
 //! ```
 
-ghost use Rattle.std.specs.Prelude.{◌≡◌, ◌≢◌, ◌↔◌, ◌∷◌, List, None, IsTrue, ⊤};
-ghost use Rattle.ic_link_ops.specs.Prelude.{Place, object_at, IsMember};
-ghost use Rattle.std.specs.Option.{option_copied};
+ghost use Rattle.std.specs.Prelude.{◌≡◌, ◌↔◌, ◌∷◌, List, None, IsTrue, ⊤};
+ghost use Rattle.ic_link_ops.specs.Prelude.{Place, IsMember};
 ghost use Rattle.ic_ring.specs.Rings.{InRing, Represents};
-ghost use Rattle.ic_ring.specs.RingCursors.{IsOn, MovesOn, MovesBack};
+ghost use Rattle.ic_ring.specs.RingCursors.{IsOn, LooksUp, MovesOn, MovesBack};
 
 use crate::ring::Ring;
 use crate::surgery::{next_of, prev_of};
@@ -39,29 +38,8 @@ impl<T, L> Drop for Cursor<'_, T, L> {
     }
 }
 
-// The member at the place `at` of the ring with the given head, or none if `at` is the head.
-#[inline]
-pub(crate) fn member_on(head: Place, at: Place) -> Option<Place>
-    ensures { IsOn head at result }
-{
-    if at == head { None } else { Some(at) }
-}
-
-// The object at the place `at` of the ring with the given head, or none if `at` is the head.
-#[inline]
-pub(crate) fn object_on<T, A: Allocator>(
-    objects: &Objects<T, A>,
-    head: Place,
-    at: Place,
-) -> Option<&T>
-    ensures on { at ≢ head → option_copied result ≡ object_at objects.now at }
-    ensures null { at ≡ head → result ≡ None }
-{
-    if at == head { None } else { objects.get(at) }
-}
-
 impl<'a, T, L: LinkedListOps> Cursor<'a, T, L> {
-    ghost use Rattle.ic_ring.specs.Cursor.{links_of, head_of, at_of, IsValid, SameRing};
+    ghost use Rattle.ic_ring.specs.Cursor.{links_of, head_of, at_of, IsValid, Moves};
 
     // Makes a cursor at the place `at` of the ring with the given head.
     #[inline]
@@ -91,16 +69,19 @@ impl<'a, T, L: LinkedListOps> Cursor<'a, T, L> {
     pub fn get_ptr(&self) -> Option<Place>
         ensures { IsOn (head_of self.now) (at_of self.now) result }
     {
-        member_on(self.head, self.at)
+        if self.is_null() { None } else { Some(self.at) }
     }
 
     /// The object that the cursor is on, or `None` if the cursor is on the head. The call makes one look-up, O(1).
     #[inline]
     pub fn get<'b, A: Allocator>(&self, objects: &'b Objects<T, A>) -> Option<&'b T>
-        ensures on { at_of self.now ≢ head_of self.now → option_copied result ≡ object_at objects.now (at_of self.now) }
-        ensures null { at_of self.now ≡ head_of self.now → result ≡ None }
+        ensures { LooksUp objects.now (head_of self.now) (at_of self.now) result }
     {
-        object_on(objects, self.head, self.at)
+        if self.is_null() {
+            None
+        } else {
+            objects.get(self.at)
+        }
     }
 
     /// Moves the cursor to the next member, or from the last member to the head, or from the head to the first member. O(1).
@@ -109,9 +90,7 @@ impl<'a, T, L: LinkedListOps> Cursor<'a, T, L> {
     #[inline]
     pub fn move_next(&mut self)
         requires stands { IsValid L.neighbors L.table self.old }
-        ensures moved { MovesOn L.neighbors (L.table (links_of self.old)) (head_of self.old) (at_of self.old) (at_of self.new) }
-        ensures stands { IsValid L.neighbors L.table self.new }
-        ensures same { SameRing self.old self.new }
+        ensures { Moves L.neighbors L.table MovesOn self.old self.new }
     {
         self.at = next_of(self.links, self.at);
     }
@@ -122,9 +101,7 @@ impl<'a, T, L: LinkedListOps> Cursor<'a, T, L> {
     #[inline]
     pub fn move_prev(&mut self)
         requires stands { IsValid L.neighbors L.table self.old }
-        ensures moved { MovesBack L.neighbors (L.table (links_of self.old)) (head_of self.old) (at_of self.old) (at_of self.new) }
-        ensures stands { IsValid L.neighbors L.table self.new }
-        ensures same { SameRing self.old self.new }
+        ensures { Moves L.neighbors L.table MovesBack self.old self.new }
     {
         self.at = prev_of(self.links, self.at);
     }

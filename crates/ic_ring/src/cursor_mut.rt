@@ -8,14 +8,13 @@
 //! ```
 
 ghost use Rattle.std.specs.Prelude.{◌≡◌, ◌≢◌, ◌↔◌, ◌∷◌, ◌++◌, List, [], None, Some, IsTrue, OnOk, OnSome, IfOk, IfErr, IfSome, IfNone, drop};
-ghost use Rattle.std.specs.Option.{option_copied};
-ghost use Rattle.ic_link_ops.specs.Prelude.{Place, object_at, Cut, join, remove, replace, first_or, IsAbsent, IsMember, IsCovered, acquires, releases};
+ghost use Rattle.ic_link_ops.specs.Prelude.{Place, Cut, join, remove, replace, first_or, IsAbsent, IsMember, IsCovered, acquires, releases};
 ghost use Rattle.ic_link_ops.specs.Errors.{object_of, ByCause};
 ghost use Rattle.ic_ring.specs.Rings.{InRing, Represents, OthersStay};
-ghost use Rattle.ic_ring.specs.RingCursors.{IsAfter, IsBefore, IsOn, MovesOn, MovesBack};
+ghost use Rattle.ic_ring.specs.RingCursors.{IsAfter, IsBefore, IsOn, LooksUp, MovesOn, MovesBack};
 
 use crate::beside::{insert_after, insert_before, replace, unlink};
-use crate::cursor::{Cursor, member_on, object_on};
+use crate::cursor::Cursor;
 use crate::exchanges::splice_after_place;
 use crate::ring::Ring;
 use crate::surgery::{next_of, prev_of};
@@ -47,7 +46,7 @@ impl<T, L> Drop for CursorMut<'_, T, L> {
 }
 
 impl<'a, T, L: LinkedListOps> CursorMut<'a, T, L> {
-    ghost use Rattle.ic_ring.specs.CursorMut.{links_of, head_of, at_of, IsBorrowed, IsValid, SameRing, RepresentsAt, ChangesOnlyInRing, StaysInRing, InsertsAtCursor, SplicesAtCursor};
+    ghost use Rattle.ic_ring.specs.CursorMut.{links_of, head_of, at_of, IsBorrowed, IsValid, SameRing, Moves, RepresentsAt, ChangesOnlyInRing, StaysInRing, InsertsAtCursor, SplicesAtCursor};
     ghost use Rattle.ic_ring.specs.Cursor as reading;
 
     // Makes a cursor at the place `at` of the ring with the given head.
@@ -70,7 +69,7 @@ impl<'a, T, L: LinkedListOps> CursorMut<'a, T, L> {
     pub fn is_null(&self) -> bool
         ensures { IsTrue result ↔ (at_of self.now ≡ head_of self.now) }
     {
-        self.at == self.head
+        self.as_cursor().is_null()
     }
 
     /// The place of the member that the cursor is on, or `None` if the cursor is on the head. O(1).
@@ -78,16 +77,15 @@ impl<'a, T, L: LinkedListOps> CursorMut<'a, T, L> {
     pub fn get_ptr(&self) -> Option<Place>
         ensures { IsOn (head_of self.now) (at_of self.now) result }
     {
-        member_on(self.head, self.at)
+        self.as_cursor().get_ptr()
     }
 
     /// The object that the cursor is on, or `None` if the cursor is on the head. The call makes one look-up, O(1).
     #[inline]
     pub fn get<'b, A: Allocator>(&self, objects: &'b Objects<T, A>) -> Option<&'b T>
-        ensures on { at_of self.now ≢ head_of self.now → option_copied result ≡ object_at objects.now (at_of self.now) }
-        ensures null { at_of self.now ≡ head_of self.now → result ≡ None }
+        ensures { LooksUp objects.now (head_of self.now) (at_of self.now) result }
     {
-        object_on(objects, self.head, self.at)
+        self.as_cursor().get(objects)
     }
 
     /// A reading cursor at the place of this cursor. O(1).
@@ -100,30 +98,20 @@ impl<'a, T, L: LinkedListOps> CursorMut<'a, T, L> {
         Cursor::new(&*self.links, self.head, self.at)
     }
 
-    /// Moves the cursor to the next member, or from the last member to the head, or from the head to the first member. O(1).
-    ///
-    /// The call requires that the cursor is valid. After the move, the gap that was right after the cursor is right before the cursor.
+    /// Moves the cursor to the next member or to the head, as [`Cursor::move_next`] does. O(1).
     #[inline]
     pub fn move_next(&mut self)
         requires stands { IsValid L.neighbors L.table self.old }
-        ensures moved { MovesOn L.neighbors (L.table (links_of self.old)) (head_of self.old) (at_of self.old) (at_of self.new) }
-        ensures stands { IsValid L.neighbors L.table self.new }
-        ensures same { SameRing self.old self.new }
-        ensures links { links_of self.new ≡ links_of self.old }
+        ensures { Moves L.neighbors L.table MovesOn self.old self.new }
     {
         self.at = next_of(&*self.links, self.at);
     }
 
-    /// Moves the cursor to the previous member, or from the first member to the head, or from the head to the last member. O(1).
-    ///
-    /// The call requires that the cursor is valid. After the move, the gap that was right before the cursor is right after the cursor.
+    /// Moves the cursor to the previous member or to the head, as [`Cursor::move_prev`] does. O(1).
     #[inline]
     pub fn move_prev(&mut self)
         requires stands { IsValid L.neighbors L.table self.old }
-        ensures moved { MovesBack L.neighbors (L.table (links_of self.old)) (head_of self.old) (at_of self.old) (at_of self.new) }
-        ensures stands { IsValid L.neighbors L.table self.new }
-        ensures same { SameRing self.old self.new }
-        ensures links { links_of self.new ≡ links_of self.old }
+        ensures { Moves L.neighbors L.table MovesBack self.old self.new }
     {
         self.at = prev_of(&*self.links, self.at);
     }

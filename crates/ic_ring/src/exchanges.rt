@@ -6,8 +6,7 @@
 //! ```
 
 ghost use Rattle.std.specs.Prelude.{◌≡◌, ◌≢◌, ◌∷◌, ◌++◌, List, [], Some};
-ghost use Rattle.ic_link_ops.specs.Prelude.{Place, IsAbsent, IsDisjoint, last, ChangesOnlyIn};
-ghost use Rattle.ic_link_ops.specs.LinkedList.{neighbors_at};
+ghost use Rattle.ic_link_ops.specs.Prelude.{Place, IsAbsent, IsDisjoint, last, ChangesOnlyIn, neighbors_at};
 ghost use Rattle.ic_ring.specs.Rings.{IsCircle, Represents, InRing, IsRingOf, OthersStay};
 
 use crate::ring::Ring;

@@ -8,8 +8,7 @@
 //! ```
 
 ghost use Rattle.std.specs.Prelude.{◌≡◌, List, Option, Some, ⊤};
-ghost use Rattle.ic_link_ops.specs.Prelude.{Place, RepresentsPlaced, values_at};
-ghost use Rattle.ic_link_ops.specs.Walk.{GivesFirst, GivesLast};
+ghost use Rattle.ic_link_ops.specs.Prelude.{Place, RepresentsPlaced, values_at, GivesFirst, GivesLast};
 ghost use Rattle.ic_ring.specs.Rings.{Represents};
 
 use crate::ring::Ring;

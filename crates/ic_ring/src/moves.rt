@@ -6,8 +6,7 @@
 //! ```
 
 ghost use Rattle.std.specs.Prelude.{◌≡◌, ◌≢◌, ◌∷◌, List, [], Some};
-ghost use Rattle.ic_link_ops.specs.Prelude.{Place, IsAbsent, at_front, at_back, IsLinked};
-ghost use Rattle.ic_link_ops.specs.LinkedList.{neighbors_at};
+ghost use Rattle.ic_link_ops.specs.Prelude.{Place, IsAbsent, at_front, at_back, IsLinked, neighbors_at};
 ghost use Rattle.ic_ring.specs.Rings.{IsCircle, Represents, InRing, OthersStay};
 ghost use Rattle.ic_ring.specs.RingEdits.{MovesBesidePlace, MovesToEnd, right_before, right_after};
 

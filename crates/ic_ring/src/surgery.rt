@@ -9,8 +9,7 @@
 //! ```
 
 ghost use Rattle.std.specs.Prelude.{◌≡◌, ◌≢◌, ◌∷◌, ◌++◌, [], List, Some, IsSome};
-ghost use Rattle.ic_link_ops.specs.Prelude.{Place, IsAbsent, first, last, IsLinked, ChangesOnly};
-ghost use Rattle.ic_link_ops.specs.LinkedList.{neighbors_at, IsBetween};
+ghost use Rattle.ic_link_ops.specs.Prelude.{Place, IsAbsent, first, last, IsLinked, ChangesOnly, neighbors_at, IsBetween};
 ghost use Rattle.ic_ring.specs.Rings.{IsCircle, InRing, TurnsTo};
 
 use ic_link_ops::LinkOps;

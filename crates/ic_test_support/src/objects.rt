@@ -1,8 +1,7 @@
 //! This file makes the objects of tests: numbers at the first eight places.
 
 ghost use Rattle.std.specs.Prelude.{◌≡◌, ◌<◌, true, IfSome};
-ghost use Rattle.ic_link_ops.specs.Prelude.{Place, index_of, is_placed};
-ghost use Rattle.ic_link_ops.specs.PlainTables.{table};
+ghost use Rattle.ic_link_ops.specs.Prelude.{Place, index_of, is_placed, table};
 
 use crate::answers::placed;
 use crate::tables::are_placed;

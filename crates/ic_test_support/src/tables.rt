@@ -5,8 +5,7 @@
 //! ```
 
 ghost use Rattle.std.specs.Prelude.{◌≡◌, IsTrue, true};
-ghost use Rattle.ic_link_ops.specs.Prelude.{Place, is_placed, IsCovered};
-ghost use Rattle.ic_link_ops.specs.PlainTables.{table};
+ghost use Rattle.ic_link_ops.specs.Prelude.{Place, is_placed, IsCovered, table};
 
 use crate::answers::number;
 use crate::notes::Text;

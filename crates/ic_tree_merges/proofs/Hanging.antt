@@ -1,9 +1,6 @@
 -- A place is appended to a vine, and these lemmas say what else in the table stays.
 use Rattle.std.proofs.Common.{◌≡◌, true, Some, None, List, [], ◌∷◌, ◌++◌, sym, ap, subst, append_assoc}
-use Rattle.ic_link_ops.specs.Prelude.{Place, IsAbsent, IsDistinct, IsDisjoint, at_back, first, Table, ChangesOnlyIn}
-use Rattle.ic_link_ops.specs.Chains.{Ends, no_members}
-use Rattle.ic_link_ops.specs.Edits.{Inserts}
-use Rattle.ic_link_ops.specs.RedBlackTree.{Node}
+use Rattle.ic_link_ops.specs.Prelude.{Place, IsAbsent, IsDistinct, IsDisjoint, at_back, first, Table, ChangesOnlyIn, Ends, no_members, Inserts, Node}
 use Rattle.ic_link_ops.proofs.SequenceLemmas.{absent_left, absent_right, absent_both, distinct_middle, distinct_insert, distinct_remove, disjoint_cons}
 use Rattle.ic_rbtree.specs.Vines.{IsVine, RepresentsVine}
 use Rattle.ic_rbtree.proofs.Vines.{apart_at, vine_beside, vine_from}

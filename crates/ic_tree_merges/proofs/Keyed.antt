@@ -1,9 +1,7 @@
 -- A caller needs these lemmas: an order of values gives an order of places, and members in the order of their keys are in the order of places.
-use Rattle.std.proofs.Common.{◌≡◌, Option, Some, None, List, [], ◌∷◌, map, refl}
+use Rattle.std.proofs.Common.{◌≡◌, Option, Some, None, List, [], ◌∷◌, map, refl, Ordering, Less, Equal}
 use Rattle.std.specs.Cmp.{IsTotalOrder}
 use Rattle.std.specs.Ordering.{ordering_reverse}
-use Rattle.std.specs.declared.cmp.Ordering.{Ordering}
-use Rattle.std.specs.declared.cmp.Ordering.TheVariants.{Less, Equal}
 use Rattle.ic_link_ops.specs.Prelude.{Place, Objects, object_at, ArePlaced, values_at}
 use Rattle.ic_rbtree.specs.Borders.{IsSorted}
 use Rattle.ic_rbtree.proofs.KeyLaws.{keys_more, value_there}

@@ -1,13 +1,7 @@
 -- Two runs are merged into one vine, one member after the other. In a run each member is the right child of the member before it.
-use Rattle.std.proofs.Common.{◌≡◌, ℕ, ◌+◌, ◌≤◌, Bool, true, false, not, inl, inr, Option, Some, None, List, [], ◌∷◌, ◌++◌, drop, length, refl, sym, ◌∙◌, ap, subst, arith, append_assoc, append-nil, length-append}
-use Rattle.std.specs.Prelude.{IfSome}
-use Rattle.std.specs.declared.cmp.Ordering.{Ordering}
-use Rattle.ic_link_ops.specs.Prelude.{Place, Objects, is_placed, IsAbsent, IsDistinct, IsDisjoint, at_back, first, Table, ArePlaced}
-use Rattle.ic_link_ops.specs.Chains.{Ends, no_members}
-use Rattle.ic_link_ops.specs.Edits.{Inserts}
-use Rattle.ic_link_ops.specs.RedBlackTree.{Node}
-use Rattle.ic_link_ops.proofs.SequenceLemmas.{absent_left, absent_right, distinct_left, distinct_middle, first_is, nothing_first, some_same, none_not}
-use Rattle.ic_link_ops.proofs.Walks.{few_places}
+use Rattle.std.proofs.Common.{◌≡◌, ℕ, ◌+◌, ◌≤◌, Bool, true, false, not, inl, inr, Option, Some, None, List, [], ◌∷◌, ◌++◌, drop, length, refl, sym, ◌∙◌, ap, subst, arith, append_assoc, append-nil, length-append, IfSome, Ordering}
+use Rattle.ic_link_ops.specs.Prelude.{Place, Objects, is_placed, IsAbsent, IsDistinct, IsDisjoint, at_back, first, Table, ArePlaced, Ends, no_members, Inserts, Node}
+use Rattle.ic_link_ops.proofs.Prelude.{absent_left, absent_right, distinct_left, distinct_middle, first_is, nothing_first, some_same, none_not, few_places}
 use Rattle.ic_rbtree.specs.Vines.{IsVine, RepresentsVine}
 use Rattle.ic_tree_merges.specs.Merges.{is_less}
 use Rattle.ic_tree_merges.specs.Vines.{takes_left, looks_between, IsRun, MergesRuns}

@@ -1,9 +1,7 @@
 -- These lemmas lead from runs to trees: they say what several steps of a call make of its trees.
-use Rattle.std.proofs.Common.{◌≡◌, ◌+◌, ◌≤◌, inl, inr, Option, None, IsSome, List, [], ◌∷◌, ◌++◌, length, sym, ◌∙◌, ap, subst, arith}
+use Rattle.std.proofs.Common.{◌≡◌, ◌+◌, ◌≤◌, inl, inr, Option, None, IsSome, List, [], ◌∷◌, ◌++◌, length, sym, ◌∙◌, ap, subst, arith, Ordering}
 use Rattle.std.specs.List.{AllByRecursion}
-use Rattle.std.specs.declared.cmp.Ordering.{Ordering}
-use Rattle.ic_link_ops.specs.Prelude.{Place, Objects, object_at, IsAbsent, IsDistinct, IsDisjoint, Table, ChangesOnlyIn, ArePlaced}
-use Rattle.ic_link_ops.specs.Chains.{Ends}
+use Rattle.ic_link_ops.specs.Prelude.{Place, Objects, object_at, IsAbsent, IsDistinct, IsDisjoint, Table, ChangesOnlyIn, ArePlaced, Ends}
 use Rattle.ic_link_ops.specs.RedBlackTree.{Node, Represents}
 use Rattle.ic_link_ops.proofs.SequenceLemmas.{absent_left, absent_right, absent_both, absent_swap, disjoint_sym, distinct_splice}
 use Rattle.ic_link_ops.proofs.RepresentedTrees.{holds_frame, represents_frame, one_sequence}

@@ -1,18 +1,11 @@
 -- A run is split in two by another tree, one member after the other. In a run each member is the right child of the member before it.
-use Rattle.std.proofs.Common.{◌≡◌, ℕ, ◌+◌, ◌≤◌, true, Option, Some, None, List, [], ◌∷◌, ◌++◌, drop, length, refl, sym, ◌∙◌, ap, subst, arith, append_assoc, append-nil, length-append}
-use Rattle.std.specs.declared.cmp.Ordering.{Ordering}
-use Rattle.std.specs.declared.cmp.Ordering.TheVariants.{Less, Equal, Greater}
-use Rattle.ic_link_ops.specs.Prelude.{Place, Objects, is_placed, Cut, join, IsAbsent, IsDistinct, IsDisjoint, at_back, at_front, first, Table, ArePlaced}
+use Rattle.std.proofs.Common.{◌≡◌, ℕ, ◌+◌, ◌≤◌, true, Option, Some, None, List, [], ◌∷◌, ◌++◌, drop, length, refl, sym, ◌∙◌, ap, subst, arith, append_assoc, append-nil, length-append, Ordering, Less, Equal, Greater}
+use Rattle.ic_link_ops.specs.Prelude.{Place, Objects, is_placed, Cut, join, IsAbsent, IsDistinct, IsDisjoint, at_back, at_front, first, Table, ArePlaced, Ends, no_members, Inserts}
 use Rattle.ic_link_ops.specs.declared.side.Side.TheVariants.{Left, Right}
-use Rattle.ic_link_ops.specs.Chains.{Ends, no_members}
-use Rattle.ic_link_ops.specs.Edits.{Inserts}
 use Rattle.ic_link_ops.specs.RedBlackTree.{Node, Represents}
-use Rattle.ic_link_ops.proofs.SequenceLemmas.{absent_left, absent_right, absent_both, absent_swap, distinct_right, distinct_middle, distinct_disjoint, disjoint_left, disjoint_right, disjoint_cons, disjoint_sym, first_is, last_of_push, nothing_first}
+use Rattle.ic_link_ops.proofs.Prelude.{absent_left, absent_right, absent_both, absent_swap, distinct_right, distinct_middle, distinct_disjoint, disjoint_left, disjoint_right, disjoint_cons, disjoint_sym, first_is, last_of_push, nothing_first, few_places}
 use Rattle.ic_link_ops.proofs.RepresentedTrees.{represents_frame}
-use Rattle.ic_link_ops.proofs.Walks.{few_places}
-use Rattle.ic_rbtree.specs.Closed.{IsSafe}
-use Rattle.ic_rbtree.specs.Sides.{IsBeside}
-use Rattle.ic_rbtree.specs.Vines.{IsVine, RepresentsVine}
+use Rattle.ic_rbtree.specs.Prelude.{IsSafe, IsBeside, IsVine, RepresentsVine}
 use Rattle.ic_rbtree.proofs.Removing.{represented_of}
 use Rattle.ic_rbtree.proofs.RepresentedClosed.{among, among_there, represented_closed}
 use Rattle.ic_tree_merges.specs.Vines.{standing, IsRun, PartsRun}

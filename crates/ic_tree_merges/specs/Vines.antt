@@ -4,9 +4,7 @@ use Rattle.std.specs.Prelude.{◌≡◌, ℕ, Bool, true, false, not, Option, So
 use Rattle.std.specs.Ordering.{is_lt}
 use Rattle.std.specs.declared.cmp.Ordering.{Ordering}
 use Rattle.std.specs.declared.cmp.Ordering.TheVariants.{Less}
-use Rattle.ic_link_ops.specs.Prelude.{Place, Objects, IsAbsent, first, Table, ArePlaced}
-use Rattle.ic_link_ops.specs.Chains.{Ends, list_head}
-use Rattle.ic_link_ops.specs.RedBlackTree.{Node}
+use Rattle.ic_link_ops.specs.Prelude.{Place, Objects, IsAbsent, first, Table, ArePlaced, Ends, list_head, Node}
 use Rattle.ic_rbtree.specs.Vines.{IsVine, RepresentsVine}
 use Rattle.ic_tree_merges.specs.TwoTrees.{MergesTo, PartsTo}
 use Rattle.ic_tree_merges.specs.declared.vine.Vine.{Vine}

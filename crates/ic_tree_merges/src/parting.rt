@@ -12,7 +12,7 @@ ghost use Rattle.ic_link_ops.specs.Prelude.{Place, is_placed, IsDistinct, IsDisj
 ghost use Rattle.ic_link_ops.specs.RedBlackTree.{Represents};
 ghost use Rattle.ic_rbtree.specs.Tree.{root_of, adapter_of};
 ghost use Rattle.ic_tree_merges.specs.Merges.{compared_at};
-ghost use Rattle.ic_tree_merges.specs.TwoTrees.{TwoRepresented, PartsTo, UnitesTo, RepresentsLowest};
+ghost use Rattle.ic_tree_merges.specs.TwoTrees.{TwoRepresented, SplitsTree, UnitesTo, RepresentsLowest};
 ghost use Rattle.ic_tree_merges.specs.Vines.{ends_of, standing, IsRun, PartsRun};
 
 use crate::compares::Compares;
@@ -89,16 +89,8 @@ fn part<A: Copy + Drop, B, V, N: NodeStore, O: Values<V>, C: Compares<V>>(
     other: &RBTree<B>,
 ) -> (RBTree<A>, RBTree<A>)
     requires two { TwoRepresented (Represents N.node) (O.values objects.now) (N.table nodes.old) (root_of tree) (root_of other.now) }
-    ensures parted { (s u : List Place) → Represents N.node (N.table nodes.old) (root_of tree) s → Represents N.node (N.table nodes.old) (root_of other.now) u
-        → IsDisjoint s u → PartsTo (Represents N.node) (compared_at (C.order order.old) (O.values objects.now)) (N.table nodes.old) (N.table nodes.new)
-        (root_of result.0) (root_of result.1) s u }
-    ensures lowest { RepresentsLowest N.node (N.table nodes.new) (root_of result.0) × RepresentsLowest N.node (N.table nodes.new) (root_of result.1) }
-    ensures few { (s u : List Place) → Represents N.node (N.table nodes.old) (root_of tree) s → Represents N.node (N.table nodes.old) (root_of other.now) u
-        → IsDisjoint s u → C.looks order.new ≤ C.looks order.old + (length s + length u) }
-    ensures same { C.order order.new ≡ C.order order.old }
-    ensures keeps_links { N.KeepsLinks nodes.old nodes.new }
-    ensures adapter { adapter_of result.0 ≡ adapter_of tree }
-    ensures rest_adapter { adapter_of result.1 ≡ adapter_of tree }
+    ensures { SplitsTree N.node N.table N.KeepsLinks C.order C.looks (O.values objects.now) nodes.old order.old tree other.now nodes.new order.new
+        result.0 result.1 }
 {
     let adapter = tree.adapter();
     let run = tree.into_builder(nodes);
@@ -124,16 +116,8 @@ pub fn intersection<A: Copy + Drop, B, V, N: NodeStore, O: Values<V>, C: Compare
     other: &RBTree<B>,
 ) -> RBTree<A>
     requires two { TwoRepresented (Represents N.node) (O.values objects.now) (N.table nodes.old) (root_of tree.old) (root_of other.now) }
-    ensures parted { (s u : List Place) → Represents N.node (N.table nodes.old) (root_of tree.old) s → Represents N.node (N.table nodes.old) (root_of other.now) u
-        → IsDisjoint s u → PartsTo (Represents N.node) (compared_at (C.order order.old) (O.values objects.now)) (N.table nodes.old) (N.table nodes.new)
-        (root_of tree.new) (root_of result) s u }
-    ensures lowest { RepresentsLowest N.node (N.table nodes.new) (root_of tree.new) × RepresentsLowest N.node (N.table nodes.new) (root_of result) }
-    ensures few { (s u : List Place) → Represents N.node (N.table nodes.old) (root_of tree.old) s → Represents N.node (N.table nodes.old) (root_of other.now) u
-        → IsDisjoint s u → C.looks order.new ≤ C.looks order.old + (length s + length u) }
-    ensures same { C.order order.new ≡ C.order order.old }
-    ensures keeps_links { N.KeepsLinks nodes.old nodes.new }
-    ensures adapter { adapter_of tree.new ≡ adapter_of tree.old }
-    ensures rest_adapter { adapter_of result ≡ adapter_of tree.old }
+    ensures { SplitsTree N.node N.table N.KeepsLinks C.order C.looks (O.values objects.now) nodes.old order.old tree.old other.now nodes.new order.new
+        tree.new result }
 {
     let whole = tree.take();
     let (common, rest) = part(whole, nodes, objects, order, other);
@@ -154,16 +138,8 @@ pub fn difference<A: Copy + Drop, B, V, N: NodeStore, O: Values<V>, C: Compares<
     other: &RBTree<B>,
 ) -> RBTree<A>
     requires two { TwoRepresented (Represents N.node) (O.values objects.now) (N.table nodes.old) (root_of tree.old) (root_of other.now) }
-    ensures parted { (s u : List Place) → Represents N.node (N.table nodes.old) (root_of tree.old) s → Represents N.node (N.table nodes.old) (root_of other.now) u
-        → IsDisjoint s u → PartsTo (Represents N.node) (compared_at (C.order order.old) (O.values objects.now)) (N.table nodes.old) (N.table nodes.new)
-        (root_of result) (root_of tree.new) s u }
-    ensures lowest { RepresentsLowest N.node (N.table nodes.new) (root_of tree.new) × RepresentsLowest N.node (N.table nodes.new) (root_of result) }
-    ensures few { (s u : List Place) → Represents N.node (N.table nodes.old) (root_of tree.old) s → Represents N.node (N.table nodes.old) (root_of other.now) u
-        → IsDisjoint s u → C.looks order.new ≤ C.looks order.old + (length s + length u) }
-    ensures same { C.order order.new ≡ C.order order.old }
-    ensures keeps_links { N.KeepsLinks nodes.old nodes.new }
-    ensures adapter { adapter_of tree.new ≡ adapter_of tree.old }
-    ensures common_adapter { adapter_of result ≡ adapter_of tree.old }
+    ensures { SplitsTree N.node N.table N.KeepsLinks C.order C.looks (O.values objects.now) nodes.old order.old tree.old other.now nodes.new order.new
+        result tree.new }
 {
     let whole = tree.take();
     let (common, rest) = part(whole, nodes, objects, order, other);

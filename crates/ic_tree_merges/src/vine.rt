@@ -6,12 +6,8 @@
 //! ```
 
 ghost use Rattle.std.specs.Prelude.{◌≡◌, List};
-ghost use Rattle.ic_link_ops.specs.Chains.{no_members};
-ghost use Rattle.ic_link_ops.specs.Edits.{Inserts};
-ghost use Rattle.ic_link_ops.specs.RedBlackTree.{node_at};
-ghost use Rattle.ic_link_ops.specs.Sequences.{IsAbsent, at_back};
-ghost use Rattle.ic_rbtree.specs.Closed.{IsNode};
-ghost use Rattle.ic_rbtree.specs.Vines.{RepresentsVine, RepresentsVineSome};
+ghost use Rattle.ic_link_ops.specs.Prelude.{no_members, Inserts, node_at, IsAbsent, at_back};
+ghost use Rattle.ic_rbtree.specs.Prelude.{IsNode, RepresentsVine, RepresentsVineSome};
 ghost use Rattle.ic_tree_merges.specs.Vines.{ends_of};
 
 use ic_rbtree::NodeStore;

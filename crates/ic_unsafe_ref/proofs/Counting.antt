@@ -1,10 +1,9 @@
 -- The facts in this file help callers that compare the sizes of two maps whose keys are numbers.
-use Rattle.std.proofs.Common.{◌≡◌, ℕ, zero, suc, ◌≤◌, ◌-◌, true, false, cond, List, [], ◌∷◌, length, Some, None, is_some, inl, inr, refl, sym, ap, ◌∙◌, arith}
+use Rattle.std.proofs.Common.{◌≡◌, ℕ, zero, suc, ◌≤◌, ◌-◌, true, false, cond, List, [], ◌∷◌, length, Some, None, is_some, inl, inr, refl, sym, ap, ◌∙◌, arith, nat_cmp}
 use Rattle.std.proofs.lemmas.Bool.{cases_eq}
 use Rattle.std.specs.Cmp.{nat_cmp_total}
 use Rattle.std.specs.FinMap as map
 use Rattle.std.specs.FinMap.{find, get-empty, get-entries, get-remove, len-entries, len-remove, empty_of_len}
-use Rattle.std.specs.Ordering.{nat_cmp}
 use Rattle.ic_unsafe_ref.proofs.ObjectLemmas.{tied, apart}
 
 module _ {X : Type 0} where

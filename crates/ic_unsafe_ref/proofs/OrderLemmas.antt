@@ -1,9 +1,6 @@
 -- Places are ordered by their words, and therefore by their indexes.
-use Rattle.std.specs.Prelude.{◌≡◌, ◌<◌, ◌↔◌}
 use Rattle.std.specs.Cmp.{nat_cmp_total, nat_cmp_is, ranked}
-use Rattle.std.specs.Ordering.{nat_cmp}
-use Rattle.std.specs.declared.cmp.Ordering.TheVariants.{Less, Equal}
-use Rattle.std.proofs.Common.{sym, ap, arith}
+use Rattle.std.proofs.Common.{sym, ap, arith, ◌≡◌, ◌<◌, ◌↔◌, nat_cmp, Less, Equal}
 use Rattle.ic_unsafe_ref.specs.declared.place.Place.{Place}
 use Rattle.ic_unsafe_ref.specs.Places.{index_of, same_word}
 use Rattle.ic_unsafe_ref.specs.Order.{OrdersPlaces}

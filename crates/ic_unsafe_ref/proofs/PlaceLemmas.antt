@@ -1,6 +1,5 @@
 -- This file proves facts about places, their words and their indexes.
-use Rattle.std.proofs.Common.{◌≡◌, ◌≢◌, ℕ, ◌+◌, ◌*◌, ◌<◌, ◌⊎◌, Option, Some, None, nat_eq, refl, inl, inr, sym, ap, ◌∙◌, arith, eq-eqb, eqb-true}
-use Rattle.std.specs.Prelude.{◌%◌, bit_xor}
+use Rattle.std.proofs.Common.{◌≡◌, ◌≢◌, ℕ, ◌+◌, ◌*◌, ◌<◌, ◌⊎◌, Option, Some, None, nat_eq, refl, inl, inr, sym, ap, ◌∙◌, arith, eq-eqb, eqb-true, ◌%◌, bit_xor}
 use Rattle.std.specs.Cmp.{both_ways}
 use Rattle.std.proofs.lemmas.Nat.{xor_lt, xor_mod}
 use Rattle.std.proofs.lemmas.Bool.Decides.{eqb_tells}

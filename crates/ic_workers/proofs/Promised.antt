@@ -1,6 +1,5 @@
 -- Lemmas on what the threads of workers guarantee. The guarantee of a thread depends on the position of the thread in the list of threads.
-use Rattle.std.proofs.Common.{◌≡◌, ◌<◌, ◌+◌, ℕ, zero, suc, List, [], ◌∷◌, ◌++◌, length, arith}
-use Rattle.std.specs.Prelude.{slice_index_or}
+use Rattle.std.proofs.Common.{◌≡◌, ◌<◌, ◌+◌, ℕ, zero, suc, List, [], ◌∷◌, ◌++◌, length, arith, slice_index_or}
 use Rattle.ic_atomic.specs.declared.claims.Claims.{Claims}
 use Rattle.ic_workers.specs.declared.party.ClaimedAll.{ClaimedAll}
 

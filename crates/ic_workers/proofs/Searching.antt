@@ -1,7 +1,6 @@
 -- Lemmas on where a place with a given index can be in a rising list.
-use Rattle.std.proofs.Common.{◌≡◌, ◌<◌, ◌≤◌, ◌+◌, ℕ, zero, suc, Bool, true, false, cond, eqb, ◌||◌, List, [], ◌∷◌, ◌++◌, take, drop, length, refl, sym, ap, ◌∙◌, arith, eq-eqb, ne_eqb, Vec, All}
+use Rattle.std.proofs.Common.{◌≡◌, ◌<◌, ◌≤◌, ◌+◌, ℕ, zero, suc, Bool, true, false, cond, eqb, ◌||◌, List, [], ◌∷◌, ◌++◌, take, drop, length, refl, sym, ap, ◌∙◌, arith, eq-eqb, ne_eqb, Vec, All, slice_index_or}
 use Rattle.std.proofs.lemmas.Bool.{lt-ltb, le-ltb, or_from}
-use Rattle.std.specs.Prelude.{slice_index_or}
 use Rattle.ic_link_ops.specs.Prelude.{Place, index_of}
 use Rattle.ic_workers.specs.SharedOut.{has, Rises, places_in}
 use Rattle.ic_workers.specs.Doubles.{times, doubles_below}

@@ -6,9 +6,7 @@ use Rattle.ic_link_ops.specs.Prelude.{Place, index_of}
 use Rattle.ic_atomic.specs.declared.step.Event.{Event}
 use Rattle.ic_atomic.specs.declared.claims.Claims.{Claims}
 use Rattle.ic_atomic.specs.declared.claims.Holder.{Holder}
-use Rattle.ic_atomic.specs.Records.{holds}
-use Rattle.ic_atomic.specs.OneList.{record_at}
-use Rattle.ic_atomic.specs.Holders.{places_of, holders_of, record_of, IsOf, AreWholeList, NoneTwice}
+use Rattle.ic_atomic.specs.Prelude.{holds, record_at, places_of, holders_of, record_of, IsOf, AreWholeList, NoneTwice}
 use Rattle.ic_workers.specs.SharedOut.{has, Rises, list_at, places_in, SharedOut}
 use Rattle.ic_workers.specs.Claimed.{ClaimedEach, ClaimedAsOneList}
 use Rattle.ic_workers.specs.Parties.{HasGathered, HasTaken}

@@ -1,15 +1,15 @@
 //! What a worker has: its own links, its own list, and the places that the worker is to claim.
 
-ghost use Rattle.std.specs.Prelude.{◌≡◌, [], List, All, IfOk, length};
-ghost use Rattle.ic_unsafe_ref.specs.declared.place.Place.{Place};
+ghost use Rattle.std.specs.Prelude.{◌≡◌, ◌≤◌, [], Bool, List, All, IfOk, length};
+ghost use Rattle.ic_link_ops.specs.Prelude.{Place, IsCovered, IsUnlinked};
 ghost use Rattle.ic_link_ops.specs.LinkedList.{Represents, RepresentsSome};
+ghost use Rattle.ic_atomic.specs.Gathering.{claims_of_each, chosen};
 ghost use Rattle.ic_atomic.specs.Holders.{places_of, record_of, IsOf};
 ghost use Rattle.ic_link_ops.specs.DoublyEntries.{PlainRepresents, PlainRepresentsSome};
 ghost use Rattle.ic_workers.specs.Claimed.{IsRow};
 ghost use Rattle.ic_workers.specs.Parties.{IsReady, HasGathered};
 
-use ic_atomic::linked_list::AtomicLinkOps;
-use ic_atomic::{Claims, Gate, Holder, PlainLinkOps, gather};
+use ic_atomic::{AtomicLinkOps, Claims, Gate, Holder, PlainLinkOps, gather};
 use ic_link_ops::linked_list::{LinkOps, LinkedListOps};
 use ic_linked_list::LinkedList;
 use ic_unsafe_ref::{Place, UnsafeRef};
@@ -24,14 +24,13 @@ pub(crate) struct Offer<'c, A: Allocator> {
     pub(crate) offered: &'c [UnsafeRef<()>],
 }
 
-// A worker's own links and its own list, with the places that the worker is to claim. The objects have a size of 0 bytes, since only their places matter.
+// A worker's own holder, table and list, with the places that the worker is to claim. The objects have a size of 0 bytes, since only their places matter.
 #[derive(Drop)]
-pub(crate) struct Party<'c, A: Allocator>
-where
-    LinkOps<A>: PlainLinkOps,
-{
+pub(crate) struct Party<'c, A: Allocator> {
+    claims: &'c Claims<A>,
     offered: &'c [UnsafeRef<()>],
-    links: AtomicLinkOps<'c, A>,
+    holder: Holder,
+    table: LinkOps<A>,
     list: LinkedList<()>,
 }
 
@@ -51,8 +50,10 @@ impl<'c, A: Allocator + Copy> Party<'c, A> {
         let mut table = LinkOps::new(alloc);
         match table.cover(offer.claims.places()) {
             Ok(()) => Ok(Party {
+                claims: offer.claims,
                 offered: offer.offered,
-                links: AtomicLinkOps::new(offer.claims, holder, table),
+                holder,
+                table,
                 list: LinkedList::new(),
             }),
             Err(_) => Err(AllocError),
@@ -61,28 +62,55 @@ impl<'c, A: Allocator + Copy> Party<'c, A> {
 }
 
 impl<A: Allocator> Party<'_, A> {
-    ghost use Rattle.ic_atomic.specs.AtomicLinks.{claims_of};
-
     // Tries to claim each offered place, and appends to the party's list the places whose claims succeed. The party reports to the gate under the number
     // `number`.
     pub(crate) fn work<G: Gate>(self, number: usize, gate: &G) -> Gathered<A>
-        requires { IsReady (claims_of self.links) self }
-        ensures gathered { HasGathered (claims_of self.entry.links) result }
-        ensures reported { G.Reported gate.now number (places_of (claims_of self.entry.links)) }
+        requires { IsReady self.claims.now self }
+        ensures gathered { HasGathered self.entry.claims.now result }
+        ensures reported { G.Reported gate.now number (places_of self.entry.claims.now) }
     {
         let Party {
+            claims,
             offered,
-            mut links,
+            holder,
+            table,
             mut list,
         } = self;
-        gather(number, offered, &mut list, &mut links, gate);
-        let (holder, table) = links.into_parts();
+        let (holder, table) = claim_each(number, claims, offered, holder, &mut list, table, gate);
         Gathered {
             holder,
             table,
             list,
         }
     }
+}
+
+// Tries to claim each offered place for the holder, which holds no place yet, and appends to the empty list the places whose claims succeed. Returns the
+// holder, and the table, which represents the list. The holder reports to the gate under the number `number`.
+fn claim_each<L: PlainLinkOps + LinkedListOps, A: Allocator, G: Gate>(
+    number: usize,
+    claims: &Claims<A>,
+    offered: &[UnsafeRef<()>],
+    holder: Holder,
+    list: &mut LinkedList<()>,
+    table: L,
+    gate: &G,
+) -> (Holder, L)
+    requires made { IsOf claims.now holder }
+    requires fresh { record_of holder ≡ [] }
+    requires unlinked { (p : Place) → IsUnlinked L.linked (L.table table) p }
+    requires claimable { (L.table table).extent.places ≤ places_of claims.now }
+    requires covered { All (IsCovered (L.table table)) offered.now }
+    requires empty { Represents L.neighbors (L.table table) list.old [] }
+    ensures made { IsOf claims.now result.0 }
+    ensures claimed { (got : List Bool) × (length got ≡ length offered.now)
+        × (record_of result.0 ≡ claims_of_each offered.now got)
+        × Represents L.neighbors (L.table result.1) list.new (chosen offered.now got) }
+    ensures reported { G.Reported gate.now number (length offered.now) }
+{
+    let mut links = AtomicLinkOps::new(claims, holder, table);
+    gather(number, offered, list, &mut links, gate);
+    links.into_parts()
 }
 
 // What a worker returns: its holder, and its list with the table that represents this list.

@@ -2,8 +2,7 @@
 
 ghost use Rattle.std.specs.Prelude.{◌≡◌, ◌<◌, ◌≤◌, ◌↔◌, [], All, IfOk, Err, vec_len, length};
 ghost use Rattle.std.specs.List.{AllZip};
-ghost use Rattle.ic_atomic.specs.Holders.{places_of, holders_of, record_of, IsOf};
-ghost use Rattle.ic_atomic.specs.AtomicLinks.{claims_of};
+ghost use Rattle.ic_atomic.specs.Prelude.{places_of, holders_of, record_of, IsOf};
 ghost use Rattle.ic_workers.specs.SharedOut.{SharedOut, IsReportedOfEach, places_in};
 ghost use Rattle.ic_workers.specs.Claimed.{IsRow, ClaimedAsOneList};
 ghost use Rattle.ic_workers.specs.Parties.{IsReady, HasGathered, HasTaken};
@@ -84,9 +83,9 @@ fn in_threads<R: Threads + Wait + Sync, A: Allocator + Copy + Send + Sync, G: Ga
                 let thread = scope.spawn_with(
                     promise,
                     move || -> Gathered<A>
-                        requires { IsReady (claims_of party.links) party }
-                        ensures { HasGathered (claims_of party.entry.links) result
-                            × G.Reported gate.entry.now number (places_of (claims_of party.entry.links)) }
+                        requires { IsReady party.claims.now party }
+                        ensures { HasGathered party.entry.claims.now result
+                            × G.Reported gate.entry.now number (places_of party.entry.claims.now) }
                     { party.work(number, gate) },
                 )?;
                 threads.push(thread)?;

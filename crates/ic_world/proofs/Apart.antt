@@ -5,8 +5,7 @@ use Rattle.ic_link_ops.proofs.SequenceLemmas.{some_same}
 use Rattle.ic_any_collection.specs.declared.entry.Entry.{Entry}
 use Rattle.ic_any_collection.proofs.AllKinds.{distinct}
 use Rattle.ic_world.specs.declared.collection.Collection.{Collection}
-use Rattle.ic_world.specs.Tables.{table, sequence, seen_as, represented_as, at, family_of, IsWhole}
-use Rattle.ic_world.specs.Family.{Sequence, collection}
+use Rattle.ic_world.specs.Prelude.{table, sequence, seen_as, represented_as, at, family_of, IsWhole, Sequence, collection}
 use Rattle.ic_world.specs.Apart.{AreApart, AreAllPlaced}
 use Rattle.ic_world.proofs.CollectionCall.{all_placed}
 use Rattle.ic_world.proofs.Readings.{collection_at}

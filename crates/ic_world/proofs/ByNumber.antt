@@ -1,17 +1,14 @@
 -- Collections by number and by field: what stays true of their slots and lists if one collection changes.
-use Rattle.std.proofs.Common.{◌≡◌, ◌≢◌, ℕ, zero, suc, ◌<◌, ◌≤◌, inl, inr, List, [], ◌∷◌, ◌++◌, length, map, set, get_or, Option, Some, None, refl, sym, ap, ◌∙◌, subst, arith}
-use Rattle.std.specs.Prelude.{IsSome, slice_get}
+use Rattle.std.proofs.Common.{◌≡◌, ◌≢◌, ℕ, zero, suc, ◌<◌, ◌≤◌, inl, inr, List, [], ◌∷◌, ◌++◌, length, map, set, get_or, Option, Some, None, refl, sym, ap, ◌∙◌, subst, arith, IsSome, slice_get, Vec}
 use Rattle.std.proofs.lemmas.Bool.{cases_eq}
 use Rattle.std.proofs.lemmas.List.{length-map, length-set, map-set, get_or-set_same, get_or-set_other, get_or-map, ext_get_or}
 use Rattle.std.proofs.lemmas.Option.{slice_get_within, get_or_from_slice_get, same_Some}
-use Rattle.std.specs.declared.vec.Vec.{Vec}
 use Rattle.ic_any_collection.specs.declared.any_collection.AnyCollection.{AnyCollection}
 use Rattle.ic_world.specs.declared.collection.Collection.{Collection}
 use Rattle.ic_world.specs.declared.collections_by_number.Slot.{Slot}
 use Rattle.ic_world.specs.declared.collections_by_number.Numbered.{Numbered}
-use Rattle.ic_world.specs.Tables.{at}
+use Rattle.ic_world.specs.Prelude.{at, items_of, live_in, disposed, lying, in_field, in_slot, by_number, AreNumbered}
 use Rattle.ic_world.specs.Collections.{having, with_members}
-use Rattle.ic_world.specs.ByNumber.{items_of, live_in, disposed, lying, in_field, in_slot, by_number, AreNumbered}
 
 -- which item a list has at an index, after an item was written at some index or appended
 pub get_written : {X : Type 0} (xs : List X) (i : ℕ) (x : X) → i < length xs → slice_get (set xs i x) i ≡ Some x

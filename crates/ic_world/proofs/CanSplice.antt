@@ -19,8 +19,7 @@ use Rattle.ic_world.specs.Family.{Family, Sequence, collection, same_kind}
 use Rattle.ic_world.specs.FamilyCodes.{kind_again}
 use Rattle.ic_world.specs.Splices.{IsBesideOf, can_splice, Emptied, PutsBeside, CanJoin, CanBeJoined, PutsTogether, IsJoined, AreJoined}
 use Rattle.ic_world.specs.Collections.{its_field, its_members, having, with_members}
-use Rattle.ic_world.specs.Calls.{done}
-use Rattle.ic_world.specs.Tables.{table, table_of, sequence, seen_as, at, family_of, IsWhole}
+use Rattle.ic_world.specs.Prelude.{done, table, table_of, sequence, seen_as, at, family_of, IsWhole}
 use Rattle.ic_world.specs.Several.{StepSplice, refusal_of_splice}
 use Rattle.ic_world.proofs.Readings.{collection_at, collection_is, table_read, one_read, with_is}
 use Rattle.ic_world.proofs.Edits.{after}

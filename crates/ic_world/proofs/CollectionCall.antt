@@ -1,13 +1,10 @@
 -- A CALL OF ONE COLLECTION of a world. What the world guarantees is proved once for all such calls, from the contract of the collection's own call.
-use Rattle.std.proofs.Common.{◌≡◌, ℕ, ◌⊎◌, inl, inr, true, false, List, [], ◌∷◌, ◌++◌, map, set, Option, Some, None, Bool, refl, sym, ap, ◌∙◌, subst, arith, Result, Ok, Err, OnErr, IfOk}
+use Rattle.std.proofs.Common.{◌≡◌, ℕ, ◌⊎◌, inl, inr, true, false, List, [], ◌∷◌, ◌++◌, map, set, Option, Some, None, Bool, refl, sym, ap, ◌∙◌, subst, arith, Result, Ok, Err, OnErr, IfOk, Ordering}
 use Rattle.std.proofs.lemmas.Bool.{cases_eq, and_parts}
 use Rattle.std.proofs.lemmas.List.{map-set, set-get_or}
 use Rattle.std.specs.List.{list_all}
-use Rattle.std.specs.declared.cmp.Ordering.{Ordering}
 use Rattle.ic_link_ops.specs.Prelude.{Place, index_of, Objects, is_placed as place_is_placed, IsAbsent, IsDisjoint, Table, IsCovered, IsUnlinked, ArePlaced}
-use Rattle.ic_unsafe_ref.proofs.PlaceLemmas.{same_index}
-use Rattle.ic_link_ops.proofs.Each.{all_members}
-use Rattle.ic_link_ops.proofs.SequenceLemmas.{disjoint_cons}
+use Rattle.ic_link_ops.proofs.Prelude.{same_index, all_members, disjoint_cons}
 use Rattle.ic_any_collection.specs.declared.entry.Entry.{Entry}
 use Rattle.ic_any_collection.specs.declared.any_table.AnyTable.{AnyTable}
 use Rattle.ic_world.specs.declared.field.WorldField.{WorldField}
@@ -24,15 +21,10 @@ use Rattle.ic_world.specs.declared.calls.seek.Seek.TheVariants.{Null, On, With}
 use Rattle.ic_world.specs.declared.calls.bulk_edit.BulkEdit.TheVariants.{Clear, Reverse}
 use Rattle.ic_world.specs.declared.calls.insertion.Insertion.TheVariants.{Insert, CursorInsert}
 use Rattle.ic_world.specs.declared.calls.search.Search.TheVariants.{Find, LowerBound, UpperBound}
-use Rattle.ic_world.specs.Family.{Family, Sequence, is_placed, objects_of, with_collection}
-use Rattle.ic_world.specs.Calls.{Call, State, Reply, refused, found, looked, entry, asks, names, refusal_of, Replies}
+use Rattle.ic_world.specs.Prelude.{Family, Sequence, is_placed, objects_of, with_collection, Call, State, Reply, refused, found, looked, entry, asks, names, refusal_of, Replies, IsKept, table, table_of, sequence, seen_as, at, family_of, IsWhole, HasObject, StepOn, refusal_on, state_in, asks_collection}
 use Rattle.ic_world.specs.Replies.{reply_of}
 use Rattle.ic_world.specs.Turns.{Each, Turns, Ran, refusal_in, state_of}
-use Rattle.ic_world.specs.LeftLinked.{IsKept}
-use Rattle.ic_world.specs.Tables.{table, table_of, sequence, seen_as, at, family_of, IsWhole, HasObject}
 use Rattle.ic_world.specs.Seen.{Sees}
-use Rattle.ic_world.specs.Step.{StepOn, refusal_on}
-use Rattle.ic_world.specs.Several.{state_in, asks_collection}
 use Rattle.ic_world.proofs.Readings.{Found, left_back, collection_is, linked_at}
 use Rattle.ic_world.proofs.Edits.{Edit, after, edited_family, edited_whole, unlinked_family}
 use Rattle.ic_world.proofs.LeftLinked.{none_on}

@@ -1,8 +1,7 @@
 -- A collection is disposed of: its members are removed first, and then its number names no collection.
-use Rattle.std.proofs.Common.{◌≡◌, ℕ, inl, inr, Bool, List, length, set, Option, Some, None, refl, sym, ap, ◌∙◌, arith}
+use Rattle.std.proofs.Common.{◌≡◌, ℕ, inl, inr, Bool, List, length, set, Option, Some, None, refl, sym, ap, ◌∙◌, arith, Ordering}
 use Rattle.std.proofs.lemmas.Bool.{cases_eq}
 use Rattle.std.proofs.lemmas.List.{get_or-set_same, get_or-set_other, get_or_past, length-set, map-set, set-set}
-use Rattle.std.specs.declared.cmp.Ordering.{Ordering}
 use Rattle.ic_link_ops.specs.Prelude.{Objects, Table}
 use Rattle.ic_any_collection.specs.declared.entry.Entry.{Entry}
 use Rattle.ic_world.specs.declared.collection.Collection.{Collection}
@@ -10,12 +9,7 @@ use Rattle.ic_world.specs.declared.call.Refusal.{Refusal}
 use Rattle.ic_world.specs.declared.call.Command.TheVariants.{Dispose}
 use Rattle.ic_world.specs.declared.calls.collection_call.Call.TheVariants as one
 use Rattle.ic_world.specs.declared.calls.bulk_edit.BulkEdit.TheVariants.{Clear}
-use Rattle.ic_world.specs.Family.{Family, Sequence, collection, linked_of, with_collection, with_linked}
-use Rattle.ic_world.specs.Calls.{State, Reply, done, refused, cleared, unlinked}
-use Rattle.ic_world.specs.LeftLinked.{NoneLeftLinked}
-use Rattle.ic_world.specs.Tables.{represented_as, at, family_of, IsWhole}
-use Rattle.ic_world.specs.Step.{Step, StepOn, AcceptsOn, refusal_on}
-use Rattle.ic_world.specs.Several.{StepBy, asks_collection, state_in, with_state, sequence_of}
+use Rattle.ic_world.specs.Prelude.{Family, Sequence, collection, linked_of, with_collection, with_linked, State, Reply, done, refused, cleared, unlinked, NoneLeftLinked, represented_as, at, family_of, IsWhole, Step, StepOn, AcceptsOn, refusal_on, StepBy, asks_collection, state_in, with_state, sequence_of}
 use Rattle.ic_world.proofs.Linked.{side}
 use Rattle.ic_world.proofs.Steps.{step_accepted}
 use Rattle.ic_world.proofs.LeftLinked.{none_dropped}

@@ -10,10 +10,9 @@ use Rattle.ic_any_collection.specs.Kinds.{kind_with}
 use Rattle.ic_world.specs.declared.collection.Collection.{Collection}
 use Rattle.ic_any_collection.specs.declared.any_collection.AnyCollection.{AnyCollection}
 use Rattle.ic_any_collection.specs.AnyCollection.{Keeps, Alike, members_in}
-use Rattle.ic_world.specs.Family.{Sequence, LinkField, with_linked, with_collection, field_of}
+use Rattle.ic_world.specs.Prelude.{Sequence, LinkField, with_linked, with_collection, field_of, table, no_table, field_in, sequence, seen_as, represented_as, at, family_of, IsWhole, HasObject}
 use Rattle.ic_any_collection.proofs.AllKinds.{IsLawful}
 use Rattle.ic_world.specs.LinkedSets.{linked_in}
-use Rattle.ic_world.specs.Tables.{table, no_table, field_in, sequence, seen_as, represented_as, at, family_of, IsWhole, HasObject}
 use Rattle.ic_any_collection.proofs.AllKinds.{one_sequence, keeps_frame}
 use Rattle.ic_world.proofs.Linked.{side}
 

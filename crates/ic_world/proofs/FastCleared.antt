@@ -1,19 +1,13 @@
 -- `fast_clear`: all members of a collection are removed and stay linked.
-use Rattle.std.proofs.Common.{◌≡◌, ℕ, true, List, map, set, Option, Some, None, refl, sym, ap, ◌∙◌}
+use Rattle.std.proofs.Common.{◌≡◌, ℕ, true, List, map, set, Option, Some, None, refl, sym, ap, ◌∙◌, Ordering}
 use Rattle.std.proofs.lemmas.List.{map-set}
-use Rattle.std.specs.declared.cmp.Ordering.{Ordering}
 use Rattle.ic_unsafe_ref.specs.Objects.{Objects}
 use Rattle.ic_any_collection.specs.declared.any_collection.AnyCollection.{AnyCollection}
 use Rattle.ic_world.specs.declared.call.Command.TheVariants.{FastClear}
 use Rattle.ic_world.specs.declared.collection.Collection.{Collection}
 use Rattle.ic_world.specs.declared.field.WorldField.{WorldField}
-use Rattle.ic_world.specs.Calls.{done}
-use Rattle.ic_world.specs.Family.{Family}
-use Rattle.ic_world.specs.LeftLinked.{IsKept}
-use Rattle.ic_world.specs.Several.{asks_collection}
+use Rattle.ic_world.specs.Prelude.{done, Family, IsKept, asks_collection, Step, table_of, sequence, seen_as, family_of}
 use Rattle.ic_world.specs.Splices.{Emptied}
-use Rattle.ic_world.specs.Step.{Step}
-use Rattle.ic_world.specs.Tables.{table_of, sequence, seen_as, family_of}
 use Rattle.ic_world.proofs.Edits.{after}
 use Rattle.ic_world.proofs.LeftLinked.{none_cleared}
 use Rattle.ic_world.proofs.Readings.{Found, collection_is}

@@ -1,11 +1,10 @@
 -- Calls of one field: `is_linked` says whether an object is linked in the field, and `force_unlink` unlinks an object.
-use Rattle.std.proofs.Common.{◌≡◌, ◌≢◌, ℕ, ◌<◌, inl, inr, true, false, not, ◌&&◌, List, [], ◌∷◌, length, map, get_or, Option, Some, None, refl, sym, ap, ◌∙◌, subst, arith, Bool, eq-eqb, ne_eqb, ltb-true, ◌↔◌, IsTrue}
+use Rattle.std.proofs.Common.{◌≡◌, ◌≢◌, ℕ, ◌<◌, inl, inr, true, false, not, ◌&&◌, List, [], ◌∷◌, length, map, get_or, Option, Some, None, refl, sym, ap, ◌∙◌, subst, arith, Bool, eq-eqb, ne_eqb, ltb-true, ◌↔◌, IsTrue, Ordering}
 use Rattle.std.proofs.Common.{set as set_at}
 use Rattle.std.proofs.lemmas.Bool.{cases_eq}
 use Rattle.std.proofs.lemmas.List.{length-map, map-set, get_or-map, get_or_default}
 use Rattle.std.proofs.lemmas.List.Folds.{list_any_at, list_any_none}
 use Rattle.std.proofs.Math.ListN.{get_or-map as map_at}
-use Rattle.std.specs.declared.cmp.Ordering.{Ordering}
 use Rattle.std.specs.FinSet as set
 use Rattle.ic_link_ops.specs.Prelude.{Place, index_of, Objects, is_placed as place_is_placed, IsAbsent, IsMember, IsCovered, IsUnlinked, ChangesOnly}
 use Rattle.ic_unsafe_ref.proofs.PlaceLemmas.{same_index}
@@ -21,11 +20,9 @@ use Rattle.ic_world.specs.declared.call.Refusal.TheVariants.{NoSuchObject}
 use Rattle.ic_world.specs.declared.call.Refusal.TheVariants.{IsMember as IsMemberRefusal}
 use Rattle.ic_world.specs.Family.{Family, Sequence, is_among, collection, linked_of, has_field, is_placed, has_member_in, is_member_in}
 use Rattle.ic_world.specs.Collections.{HasMember}
-use Rattle.ic_world.specs.LeftLinked.{IsKept}
+use Rattle.ic_world.specs.Prelude.{IsKept, table, table_of, left_in, sequence, seen_as, represented_as, at, family_of, IsWhole, Step}
 use Rattle.ic_world.specs.LinkedSets.{linked_in}
 use Rattle.ic_world.specs.Calls.{linked, done}
-use Rattle.ic_world.specs.Tables.{table, table_of, left_in, sequence, seen_as, represented_as, at, family_of, IsWhole}
-use Rattle.ic_world.specs.Step.{Step}
 use Rattle.ic_world.proofs.Linked.{in_linked, absent_or}
 use Rattle.ic_world.proofs.Readings.{table_read, set_back, left_back, some_within, collection_is, linked_at}
 use Rattle.ic_world.proofs.Growth.{freed_whole, freed_family}

@@ -1,13 +1,11 @@
 -- The tables grow to cover more places, and the family stays as it is. A field is added, and the other fields stay as they are.
-use Rattle.std.proofs.Common.{◌≡◌, ◌≢◌, ℕ, ◌<◌, ◌≤◌, ◌+◌, get_or, is_ok, inl, inr, Bool, true, false, List, [], ◌∷◌, ◌++◌, length, map, set, Option, Some, None, refl, sym, ap, ◌∙◌, subst, arith, length-append, max, Result, Ok, Err, OnOk, OnErr}
+use Rattle.std.proofs.Common.{◌≡◌, ◌≢◌, ℕ, ◌<◌, ◌≤◌, ◌+◌, get_or, is_ok, inl, inr, Bool, true, false, List, [], ◌∷◌, ◌++◌, length, map, set, Option, Some, None, refl, sym, ap, ◌∙◌, subst, arith, length-append, max, Result, Ok, Err, OnOk, OnErr, Ordering}
 use Rattle.std.proofs.lemmas.Bool.{cases_eq}
 use Rattle.std.proofs.lemmas.List.{get_or_past, map-append, map-set, length-map, length-set, get_or-set_same, get_or-set_other, ext_get_or, get_or_append_left, get_or_push, get_or-map}
 use Rattle.std.proofs.Math.ListN.{get_or-map as map_at}
 use Rattle.std.specs.FinSet as set_of
-use Rattle.std.specs.declared.cmp.Ordering.{Ordering}
 use Rattle.ic_link_ops.specs.Prelude.{Place, index_of, Objects, IsAbsent, Table, Extent, IsCovered, IsUnlinked, ChangesOnly, ChangesOnlyIn}
-use Rattle.ic_unsafe_ref.proofs.PlaceLemmas.{same_index}
-use Rattle.ic_link_ops.proofs.SequenceLemmas.{disjoint_cons}
+use Rattle.ic_link_ops.proofs.Prelude.{same_index, disjoint_cons}
 use Rattle.ic_any_collection.specs.declared.entry.Entry.{Entry}
 use Rattle.ic_any_collection.specs.declared.any_table.AnyTable.{AnyTable}
 use Rattle.ic_any_collection.specs.declared.kind.Kind.{Kind}
@@ -19,16 +17,12 @@ use Rattle.ic_any_collection.proofs.AllKinds.{lawful as lawful_field}
 use Rattle.ic_any_collection.proofs.AllKinds.{IsLawful, one_sequence, represented_frame, keeps_frame}
 use Rattle.ic_world.specs.declared.collection.Collection.{Collection}
 use Rattle.ic_world.specs.declared.field.WorldField.{WorldField}
-use Rattle.ic_world.specs.Family.{Family, Sequence, LinkField, with_linked, linked_of, field_of}
-use Rattle.ic_world.specs.LeftLinked.{IsKept}
+use Rattle.ic_world.specs.Prelude.{Family, Sequence, LinkField, with_linked, linked_of, field_of, IsKept, table, table_of, no_table, field_in, sequence, seen_as, represented_as, at, family_of, IsWhole, HasObject, field, Step}
 use Rattle.ic_world.specs.LinkedSets.{linked_in}
-use Rattle.ic_world.specs.Tables.{table, table_of, no_table, field_in, sequence, seen_as, represented_as, at, family_of, IsWhole, HasObject}
 use Rattle.ic_world.specs.declared.call.Refusal.{Refusal}
 use Rattle.ic_world.specs.declared.call.Command.TheVariants.{AddField}
 use Rattle.ic_world.specs.Replies.{reply_of}
-use Rattle.ic_world.specs.Calls.{field}
 use Rattle.ic_world.specs.Pieces.{Appends, IsFresh}
-use Rattle.ic_world.specs.Step.{Step}
 use Rattle.ic_world.proofs.Readings.{field_at}
 use Rattle.ic_world.specs.Growth.{Cover, GrowsTo, Grown, Grows}
 use Rattle.ic_world.proofs.Steps.{from_ok}

@@ -11,12 +11,9 @@ use Rattle.ic_any_collection.specs.AnyCollection.{Held, members_in, kind_in}
 use Rattle.ic_world.specs.declared.collection.Collection.{Collection}
 use Rattle.ic_world.specs.declared.taken_part.TakenPart.{TakenPart}
 use Rattle.ic_world.specs.declared.call.Refusal.TheVariants.{WrongKind, OutOfMemory}
-use Rattle.ic_world.specs.Family.{Family, with_opened}
-use Rattle.ic_world.specs.Calls.{opened, refused, asks}
+use Rattle.ic_world.specs.Prelude.{Family, with_opened, opened, refused, asks, NoneLeftLinked, IsKept, table, table_of, left_in, sequence, seen_as, at, family_of, IsWhole}
 use Rattle.ic_world.specs.Several.{has_part, PartsOf, OpensWith, StepOut, refusal_of_part, asks_collection}
 use Rattle.ic_world.specs.Turns.{HandsOut, state_of}
-use Rattle.ic_world.specs.LeftLinked.{NoneLeftLinked, IsKept}
-use Rattle.ic_world.specs.Tables.{table, table_of, left_in, sequence, seen_as, at, family_of, IsWhole}
 use Rattle.ic_world.proofs.Readings.{Found, left_back, collection_is, some_within, with_is}
 use Rattle.ic_world.specs.Collections.{with_members}
 use Rattle.ic_world.proofs.Edits.{Edit, after, at_after, here, new_sequence, same_sequence, edited_family, edited_whole}

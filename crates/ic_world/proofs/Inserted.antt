@@ -14,9 +14,8 @@ use Rattle.ic_any_collection.specs.Edits.{AtGap, Puts, SwapsIfAny, IsUnchanged}
 use Rattle.ic_any_collection.proofs.AllKinds.{lawful, distinct}
 use Rattle.ic_world.specs.declared.calls.collection_call.Call.TheVariants as one
 use Rattle.ic_world.specs.declared.call.Refusal.TheVariants.{NothingThere, AlreadyLinked}
-use Rattle.ic_world.specs.Calls.{done, object, member_at, refusal_of, is_linked_in}
+use Rattle.ic_world.specs.Prelude.{done, object, member_at, refusal_of, is_linked_in, Ran, state_of}
 use Rattle.ic_world.specs.Calls as calls
-use Rattle.ic_world.specs.Turns.{Ran, state_of}
 use Rattle.ic_world.proofs.Linked.{in_linked}
 use Rattle.ic_world.proofs.Neighbors.{next_gap}
 use Rattle.ic_world.proofs.Tested.{goes_on, stops}

@@ -1,7 +1,6 @@
 -- What a world guarantees of keyed calls follows from the contracts of the tree's own calls.
-use Rattle.std.proofs.Common.{◌≡◌, ◌∙◌, ℕ, inl, Bool, true, false, not, Option, Some, None, List, [], ◌∷◌, refl, sym, ap, Ok, Err, IfOk, OnErr}
+use Rattle.std.proofs.Common.{◌≡◌, ◌∙◌, ℕ, inl, Bool, true, false, not, Option, Some, None, List, [], ◌∷◌, refl, sym, ap, Ok, Err, IfOk, OnErr, Ordering}
 use Rattle.std.specs.Bool.{OnTrue, OnFalse}
-use Rattle.std.specs.declared.cmp.Ordering.{Ordering}
 use Rattle.ic_link_ops.specs.Prelude.{Place, Objects, Cut, join, IsLinked}
 use Rattle.ic_rbtree.specs.Borders.{Finds, IsBorder, less_at}
 use Rattle.ic_any_collection.specs.declared.any_table.AnyTable.{AnyTable}

@@ -1,15 +1,12 @@
 -- No call but `fast_clear` leaves a member linked.
-use Rattle.std.proofs.Common.{◌≡◌, ◌≢◌, ℕ, ◌≤◌, inl, inr, Bool, true, false, not, ◌&&◌, ◌||◌, nat_eq, eq-eqb, ne_eqb, List, [], ◌∷◌, ◌++◌, length, get_or, set, reverse, drop, Option, Some, None, refl, sym, ap, ◌∙◌, subst, arith}
+use Rattle.std.proofs.Common.{◌≡◌, ◌≢◌, ℕ, ◌≤◌, inl, inr, Bool, true, false, not, ◌&&◌, ◌||◌, nat_eq, eq-eqb, ne_eqb, List, [], ◌∷◌, ◌++◌, length, get_or, set, reverse, drop, Option, Some, None, refl, sym, ap, ◌∙◌, subst, arith, nat_cmp, Ordering}
 use Rattle.std.proofs.lemmas.Bool.{cases_eq}
 use Rattle.std.proofs.lemmas.List.{get_or-set_same, get_or-set_other, get_or_past, get_or_append_left, get_or_push, length-append, length-set, set_past, reverse-reverse}
-use Rattle.std.specs.Ordering.{nat_cmp}
 use Rattle.std.specs.Cmp.{nat_cmp_total, unsigned_tied}
 use Rattle.std.specs.FinSet as set_of
 use Rattle.std.specs.FinSet.{contains-insert, contains-remove, contains-empty}
-use Rattle.std.specs.declared.cmp.Ordering.{Ordering}
 use Rattle.ic_link_ops.specs.Prelude.{Place, index_of, Objects, Cut, join, splice, first, IsAbsent}
-use Rattle.ic_unsafe_ref.proofs.PlaceLemmas.{same_index}
-use Rattle.ic_link_ops.proofs.SequenceLemmas.{absent_left, absent_right, absent_both, absent_reverse, some_same}
+use Rattle.ic_link_ops.proofs.Prelude.{same_index, absent_left, absent_right, absent_both, absent_reverse, some_same}
 use Rattle.ic_any_collection.specs.declared.kind.Kind.{Kind}
 use Rattle.ic_any_collection.specs.declared.kind.Kind.TheVariants.{Singly}
 use Rattle.ic_world.specs.declared.call.Refusal.{Refusal}
@@ -23,10 +20,9 @@ use Rattle.ic_world.specs.declared.calls.seek.Seek.TheVariants.{Null, On, With}
 use Rattle.ic_world.specs.declared.calls.bulk_edit.BulkEdit.TheVariants.{Clear, Reverse}
 use Rattle.ic_world.specs.declared.calls.insertion.Insertion.TheVariants.{Insert, CursorInsert}
 use Rattle.ic_world.specs.declared.calls.search.Search.TheVariants.{Find, LowerBound, UpperBound}
-use Rattle.ic_world.specs.Family.{Family, LinkField, Sequence, collection, field_of, linked_of, objects_of, with_linked, with_collection, with_opened}
+use Rattle.ic_world.specs.Prelude.{Family, LinkField, Sequence, collection, field_of, linked_of, objects_of, with_linked, with_collection, with_opened, Step, Accepts, refusal, StepOn, AcceptsOn, refusal_on}
 use Rattle.ic_world.specs.Calls.{Call, State, Reply, opened, found, looked, entry, refused, is_linked_in, onward, put, swapped, without, unlinked, cleared, Replies}
 use Rattle.ic_world.specs.Several.{with_members, state_in, with_state, sequence_of, StepBy, PartsOf, refusal_of_open, OpensWith, StepOut, refusal_of_part, SplicesAt, StepSplice, refusal_of_splice}
-use Rattle.ic_world.specs.Step.{Step, Accepts, refusal, StepOn, AcceptsOn, refusal_on}
 use Rattle.ic_world.specs.LeftLinked.{IsLeftLinked, NoneLeftLinked}
 use Rattle.ic_world.proofs.Linked.{side}
 use Rattle.ic_world.proofs.Readings.{some_within}

@@ -1,7 +1,6 @@
 -- How the set of the linked places of a table changes with the entries of the table.
-use Rattle.std.proofs.Common.{◌≡◌, ◌≢◌, ℕ, zero, suc, ◌<◌, ◌+◌, ◌*◌, Option, Some, None, ◌≤◌, ◌⊎◌, inl, inr, Bool, true, false, cond, not, ◌&&◌, ◌||◌, nat_eq, List, [], ◌∷◌, refl, sym, ap, ◌∙◌, subst, arith, eq-eqb, ne_eqb}
+use Rattle.std.proofs.Common.{◌≡◌, ◌≢◌, ℕ, zero, suc, ◌<◌, ◌+◌, ◌*◌, Option, Some, None, ◌≤◌, ◌⊎◌, inl, inr, Bool, true, false, cond, not, ◌&&◌, ◌||◌, nat_eq, List, [], ◌∷◌, refl, sym, ap, ◌∙◌, subst, arith, eq-eqb, ne_eqb, nat_cmp}
 use Rattle.std.specs.List.{list_any}
-use Rattle.std.specs.Ordering.{nat_cmp}
 use Rattle.std.specs.Cmp.{nat_cmp_total, unsigned_tied}
 use Rattle.std.specs.FinSet as set
 use Rattle.std.specs.FinSet.{contains-from_list_nat, contains-insert, contains-remove, same_set, nat_cmp-IsAntisymmetric}
@@ -11,9 +10,8 @@ use Rattle.ic_unsafe_ref.proofs.PlaceLemmas.{index_small, place_with, same_index
 use Rattle.ic_any_collection.specs.declared.entry.Entry.{Entry}
 use Rattle.ic_any_collection.specs.Entries.{is_linked}
 use Rattle.ic_any_collection.proofs.AllKinds.{IsLawful}
-use Rattle.ic_world.specs.Calls.{unlinked}
+use Rattle.ic_world.specs.Prelude.{unlinked, no_table}
 use Rattle.ic_world.specs.LinkedSets.{linked_there, linked_index, linked_below, linked_in}
-use Rattle.ic_world.specs.Tables.{no_table}
 
 -- `linked_index` at the index of a place says whether the entry of the place is linked. An index past all places is not linked
 linked_index_is : (t : Table Entry) (p : Place) → linked_index t (index_of p) ≡ is_linked (t.entry p)

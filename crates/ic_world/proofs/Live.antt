@@ -1,9 +1,7 @@
 -- The live collections of a field are those in the list of the field.
-use Rattle.std.proofs.Common.{◌≡◌, ℕ, ◌<◌, ◌≤◌, ◌+◌, inl, inr, List, [], length, map, get_or, Option, Some, None, refl, sym, ap, ◌∙◌, subst, arith, Bool, true, false, ◌↔◌, IsTrue}
+use Rattle.std.proofs.Common.{◌≡◌, ℕ, ◌<◌, ◌≤◌, ◌+◌, inl, inr, List, [], length, map, get_or, Option, Some, None, refl, sym, ap, ◌∙◌, subst, arith, Bool, true, false, ◌↔◌, IsTrue, slice_get, Vec}
 use Rattle.std.proofs.lemmas.Bool.{cases_eq}
-use Rattle.std.specs.Prelude.{slice_get}
 use Rattle.std.proofs.lemmas.List.{get_or_past, get_or-map}
-use Rattle.std.specs.declared.vec.Vec.{Vec}
 use Rattle.std.proofs.lemmas.Option.{same_Some, slice_get_read, slice_get_within}
 use Rattle.ic_link_ops.specs.Prelude.{Place, IsMember, Table}
 use Rattle.ic_any_collection.specs.declared.entry.Entry.{Entry}

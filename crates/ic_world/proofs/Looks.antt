@@ -1,7 +1,6 @@
 -- Limits for the number of looks (key comparisons) of a search, if its probe had compared nothing before.
-use Rattle.std.proofs.Common.{◌≡◌, ℕ, Bool, true, false, List, refl, sym, subst, arith}
+use Rattle.std.proofs.Common.{◌≡◌, ℕ, Bool, true, false, List, refl, sym, subst, arith, Ordering}
 use Rattle.std.specs.Bool.{OnTrue}
-use Rattle.std.specs.declared.cmp.Ordering.{Ordering}
 use Rattle.ic_link_ops.specs.Prelude.{Place, Objects}
 use Rattle.ic_rbtree.specs.declared.keys.key_adapter.Bound.{Bound}
 use Rattle.ic_rbtree.specs.declared.keys.key_adapter.Bound.TheVariants.{Included, Excluded, Unbounded}

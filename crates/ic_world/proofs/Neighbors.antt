@@ -2,8 +2,7 @@
 use Rattle.std.proofs.Common.{◌≡◌, ◌≢◌, ◌↔◌, IsTrue, inl, inr, Bool, true, false, cond, Option, Some, None, List, [], ◌∷◌, ◌++◌, refl, sym, ap, ◌∙◌, subst, drop, append_assoc, eq-eqb, ne_eqb}
 use Rattle.std.proofs.lemmas.Bool.{false_from_ne_true}
 use Rattle.ic_link_ops.specs.Prelude.{Place, index_of, Cut, join, first, last, last_or, but_last, IsAfter, IsBefore, IsAbsent, IsMember, IsDistinct}
-use Rattle.ic_unsafe_ref.proofs.PlaceLemmas.{same_index}
-use Rattle.ic_link_ops.proofs.SequenceLemmas.{absent_left, distinct_middle, first_is, nothing_last, split_last, member_split}
+use Rattle.ic_link_ops.proofs.Prelude.{same_index, absent_left, distinct_middle, first_is, nothing_last, split_last, member_split}
 use Rattle.ic_world.specs.Family.{same_place, is_among, before_or, after_of, next_of}
 use Rattle.ic_world.proofs.Linked.{absent_or}
 

@@ -1,12 +1,11 @@
 -- What a world guarantees if an object is placed, if the value of an object is replaced, and if an object is removed.
-use Rattle.std.proofs.Common.{◌≡◌, ◌≢◌, ℕ, ◌<◌, ◌^◌, ◌⊎◌, inl, inr, Bool, true, false, cond, List, length, map, get_or, Option, Some, None, is_some, refl, sym, ap, subst, ◌∙◌, eq-eqb, ne_eqb, arith, Result, Ok, Err, IfOk}
+use Rattle.std.proofs.Common.{◌≡◌, ◌≢◌, ℕ, ◌<◌, ◌^◌, ◌⊎◌, inl, inr, Bool, true, false, cond, List, length, map, get_or, Option, Some, None, is_some, refl, sym, ap, subst, ◌∙◌, eq-eqb, ne_eqb, arith, Result, Ok, Err, IfOk, Ordering}
 use Rattle.std.proofs.lemmas.Bool.{cases_eq}
 use Rattle.std.proofs.lemmas.List.{get_or_past, get_or-map, length-map}
 use Rattle.std.proofs.lemmas.List.Folds.{list_any_at}
 use Rattle.std.proofs.Math.ListN.{get_or-map as map_at}
 use Rattle.std.specs.List.{list_any}
 use Rattle.std.specs.Ordering.{nat_cmp, eq_by_cmp}
-use Rattle.std.specs.declared.cmp.Ordering.{Ordering}
 use Rattle.std.specs.Cmp.{nat_cmp_total, unsigned_tied}
 use Rattle.std.specs.FinMap as map_of
 use Rattle.std.specs.FinSet as set_of
@@ -22,14 +21,10 @@ use Rattle.ic_world.specs.declared.call.Refusal.{Refusal}
 use Rattle.ic_world.specs.declared.call.Refusal.TheVariants.{NoSuchObject}
 use Rattle.ic_world.specs.declared.call.Command.TheVariants.{SetValue}
 use Rattle.ic_world.specs.declared.call.Command.TheVariants.{Place as PlaceCall}
-use Rattle.ic_world.specs.Family.{Family, LinkField}
+use Rattle.ic_world.specs.Prelude.{Family, LinkField, object, done, NoneLeftLinked, Step, table, table_of, no_table, field_in, represented_as, family_of, IsWhole, HasObject}
 use Rattle.ic_world.specs.Replies.{reply_of_value}
-use Rattle.ic_world.specs.Calls.{object, done}
 use Rattle.ic_world.specs.Growth.{Grows}
 use Rattle.ic_world.specs.Pieces.{PlacesValue, SwapsValue}
-use Rattle.ic_world.specs.LeftLinked.{NoneLeftLinked}
-use Rattle.ic_world.specs.Step.{Step}
-use Rattle.ic_world.specs.Tables.{table, table_of, no_table, field_in, represented_as, family_of, IsWhole, HasObject}
 use Rattle.ic_world.proofs.Linked.{side, in_linked}
 use Rattle.ic_world.proofs.Edits.{lawful}
 use Rattle.ic_world.proofs.Growth.{grown_whole, grown_family}

@@ -1,9 +1,6 @@
 -- An empty collection is opened in a field.
-use Rattle.std.proofs.Common.{◌≡◌, ℕ, zero, suc, ◌<◌, ◌⊎◌, inl, inr, true, List, [], ◌∷◌, ◌++◌, length, map, get_or, Option, Some, None, refl, sym, ap, ◌∙◌, subst, arith, Result, Ok, Err}
-use Rattle.std.proofs.lemmas.Bool.{ltb-true}
+use Rattle.std.proofs.Common.{◌≡◌, ℕ, zero, suc, ◌<◌, ◌⊎◌, inl, inr, true, List, [], ◌∷◌, ◌++◌, length, map, get_or, Option, Some, None, refl, sym, ap, ◌∙◌, subst, arith, Result, Ok, Err, ltb-true, Ordering, nat_cmp}
 use Rattle.std.proofs.lemmas.List.{map-append, length-map}
-use Rattle.std.specs.declared.cmp.Ordering.{Ordering}
-use Rattle.std.specs.Ordering.{nat_cmp}
 use Rattle.std.specs.FinMap as map_of
 use Rattle.std.specs.FinMap.{get-empty}
 use Rattle.ic_link_ops.specs.Prelude.{Place, Objects, IsDisjoint, Table}
@@ -16,14 +13,11 @@ use Rattle.ic_world.specs.declared.collection.Collection.{Collection}
 use Rattle.ic_any_collection.specs.declared.any_collection.AnyCollection.{AnyCollection}
 use Rattle.ic_world.specs.declared.call.Refusal.{Refusal}
 use Rattle.ic_world.specs.declared.call.Refusal.TheVariants.{NoSuchField, WrongKind, OutOfMemory}
-use Rattle.ic_world.specs.Family.{Family, has_field, field_of, with_opened}
+use Rattle.ic_world.specs.Prelude.{Family, has_field, field_of, with_opened, table, table_of, field_in, sequence, seen_as, represented_as, at, family_of, IsWhole, opened, refused, asks, Step}
 use Rattle.ic_world.specs.Pieces.{Appends}
 use Rattle.ic_world.specs.declared.call.Command.TheVariants.{Open}
 use Rattle.ic_any_collection.specs.AnyCollection.{Keeps, Held, kind_in, cursor_in}
-use Rattle.ic_world.specs.Tables.{table, table_of, field_in, sequence, seen_as, represented_as, at, family_of, IsWhole}
 use Rattle.ic_world.specs.Replies.{reply_of}
-use Rattle.ic_world.specs.Calls.{opened, refused, asks}
-use Rattle.ic_world.specs.Step.{Step}
 use Rattle.ic_world.specs.Several.{refusal_of_open}
 use Rattle.ic_link_ops.proofs.SequenceLemmas.{disjoint_sym, some_same}
 use Rattle.ic_any_collection.proofs.AllKinds.{one_sequence}

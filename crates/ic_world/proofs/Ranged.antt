@@ -1,6 +1,5 @@
 -- A call that reads a range or the position of a cursor is a step of the model that changes nothing.
-use Rattle.std.proofs.Common.{◌≡◌, ℕ, Bool, true, List, Option, refl, sym, ap, ◌∙◌, subst}
-use Rattle.std.specs.declared.cmp.Ordering.{Ordering}
+use Rattle.std.proofs.Common.{◌≡◌, ℕ, Bool, true, List, Option, refl, sym, ap, ◌∙◌, subst, Ordering}
 use Rattle.ic_link_ops.specs.Prelude.{Place, Objects, Table}
 use Rattle.ic_rbtree.specs.declared.keys.key_adapter.Bound.{Bound}
 use Rattle.ic_rbtree.specs.Ranges.{runs_up, IsRange}
@@ -11,11 +10,9 @@ use Rattle.ic_any_collection.specs.AnyCollection.{kind_in, cursor_in, members_in
 use Rattle.ic_world.specs.Looks.{WithinBound}
 use Rattle.ic_world.specs.declared.collection.Collection.{Collection}
 use Rattle.ic_world.specs.declared.call.Command.TheVariants.{Range, Current}
-use Rattle.ic_world.specs.Family.{Family, objects_of}
+use Rattle.ic_world.specs.Prelude.{Family, objects_of, Step, family_of}
 use Rattle.ic_world.specs.Calls.{State, range, object_or_nothing, bound_at}
-use Rattle.ic_world.specs.Step.{Step}
 use Rattle.ic_world.specs.Seen.{Sees}
-use Rattle.ic_world.specs.Tables.{family_of}
 use Rattle.ic_world.proofs.Steps.{step_accepted}
 
 -- if the test whether k is the tree has the result `answer`, and k is `kind`, then `is_tree kind` is `answer`

@@ -1,6 +1,5 @@
 -- What the family has at a place, in a field and under a number, in terms of the objects, tables and collections that represent it.
-use Rattle.std.proofs.Common.{◌≡◌, ℕ, Bool, ◌<◌, List, length, map, set, get_or, Option, Some, None, refl, sym, ap, subst, ◌∙◌, arith}
-use Rattle.std.specs.Prelude.{IsSome}
+use Rattle.std.proofs.Common.{◌≡◌, ℕ, Bool, ◌<◌, List, length, map, set, get_or, Option, Some, None, refl, sym, ap, subst, ◌∙◌, arith, IsSome}
 use Rattle.std.proofs.lemmas.Option.{same_Some}
 use Rattle.std.proofs.lemmas.List.{length-map, get_or_past, get_or-map, map-set, set-get_or}
 use Rattle.std.proofs.Math.ListN.{get_or-map as map_at}
@@ -12,10 +11,8 @@ use Rattle.ic_world.specs.declared.collection.Collection.{Collection}
 use Rattle.ic_any_collection.specs.declared.any_collection.AnyCollection.{AnyCollection}
 use Rattle.ic_any_collection.specs.AnyCollection.{Held}
 use Rattle.ic_world.specs.Collections.{its_field, its_members, having, with_members}
-use Rattle.ic_world.specs.Tables.{table, table_of, left_in, no_table, field_in, sequence, seen_as, represented_as, at, family_of}
-use Rattle.ic_world.specs.LeftLinked.{IsKept}
+use Rattle.ic_world.specs.Prelude.{table, table_of, left_in, no_table, field_in, sequence, seen_as, represented_as, at, family_of, IsKept, Family, collection, field_of, linked_of}
 use Rattle.ic_world.specs.LinkedSets.{linked_in}
-use Rattle.ic_world.specs.Family.{Family, collection, field_of, linked_of}
 
 -- the table t that a call has read for the field f is the table of that field
 pub table_read : {M : Type 0} (tables : List (WorldField M)) (f : ℕ) (t : WorldField M) → f < length tables → t ≡ get_or tables f t → table (map table_of tables) f ≡ table_of t

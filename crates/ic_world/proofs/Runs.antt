@@ -1,11 +1,8 @@
 -- Runs of steps, one after the other.
-use Rattle.std.proofs.Common.{◌≡◌, ◌∙◌, ℕ, ◌+◌, ◌<◌, ◌++◌, List, [], ◌∷◌, length, take, map, get_or, refl, sym, ap, subst}
+use Rattle.std.proofs.Common.{◌≡◌, ◌∙◌, ℕ, ◌+◌, ◌<◌, ◌++◌, List, [], ◌∷◌, length, take, map, get_or, refl, sym, ap, subst, Ordering}
 use Rattle.std.proofs.lemmas.List.{take_more, map-append}
-use Rattle.std.specs.declared.cmp.Ordering.{Ordering}
 use Rattle.ic_world.specs.declared.call.Command.{Command}
-use Rattle.ic_world.specs.Family.{Family}
-use Rattle.ic_world.specs.Calls.{Reply}
-use Rattle.ic_world.specs.Step.{Step, Runs}
+use Rattle.ic_world.specs.Prelude.{Family, Reply, Step, Runs}
 
 module _ {A V K : Type 0} (cmp : K → K → Ordering) (key_of : A → V → K) where
   -- a run of calls that is followed by the step of one more call is a run of all these calls

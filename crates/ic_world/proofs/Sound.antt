@@ -1,10 +1,8 @@
 -- From the invariant of a world it follows that its family is sound.
-use Rattle.std.proofs.Common.{◌≡◌, ℕ, zero, suc, ◌<◌, inl, inr, Bool, true, false, List, [], ◌∷◌, length, map, Option, Some, refl, sym, ap, ◌∙◌, subst, true≢false}
-use Rattle.std.proofs.lemmas.Bool.{lt-ltb}
+use Rattle.std.proofs.Common.{◌≡◌, ℕ, zero, suc, ◌<◌, inl, inr, Bool, true, false, List, [], ◌∷◌, length, map, Option, Some, refl, sym, ap, ◌∙◌, subst, true≢false, lt-ltb, nat_cmp}
 use Rattle.std.proofs.lemmas.List.{length-map, get_or_past}
 use Rattle.std.specs.FinSet as set
 use Rattle.std.specs.FinSet.{contains-empty}
-use Rattle.std.specs.Ordering.{nat_cmp}
 use Rattle.ic_link_ops.specs.Prelude.{Place, index_of, Objects, Cut, join, last, but_last, IsAbsent, IsMember, Table}
 use Rattle.ic_link_ops.proofs.SequenceLemmas.{absent_left, absent_right, split_last}
 use Rattle.ic_any_collection.specs.declared.entry.Entry.{Entry}
@@ -17,10 +15,7 @@ use Rattle.ic_any_collection.specs.AnyCollection.{kind_in, cursor_in, IsCursorIn
 use Rattle.ic_any_collection.proofs.AllKinds.{IsLawful, lawful, unlinked_absent}
 use Rattle.ic_world.specs.declared.collection.Collection.{Collection}
 use Rattle.ic_world.specs.declared.field.WorldField.{WorldField}
-use Rattle.ic_world.specs.Family.{Family, LinkField, linked_of}
-use Rattle.ic_world.specs.LeftLinked.{IsKept}
-use Rattle.ic_world.specs.Tables.{table, table_of, field_in, sequence, seen_as, at, family_of}
-use Rattle.ic_world.specs.Sound.{IsSoundIn, IsSound}
+use Rattle.ic_world.specs.Prelude.{Family, LinkField, linked_of, IsKept, table, table_of, field_in, sequence, seen_as, at, family_of, IsSoundIn, IsSound}
 use Rattle.ic_world.proofs.Apart.{seen_at, are_apart}
 use Rattle.ic_world.proofs.Linked.{side, in_linked}
 use Rattle.ic_world.proofs.Readings.{field_at, linked_at}

@@ -9,9 +9,8 @@ use Rattle.ic_any_collection.specs.AnyCollection.{Alike, cursor_in}
 use Rattle.ic_any_collection.specs.Edits.{PutsAll}
 use Rattle.ic_any_collection.proofs.AllKinds.{one_sequence}
 use Rattle.ic_world.specs.declared.collection.Collection.{Collection}
-use Rattle.ic_world.specs.Family.{Family, Sequence, with_collection}
+use Rattle.ic_world.specs.Prelude.{Family, Sequence, with_collection, table, no_table, sequence, seen_as, at, family_of, IsWhole}
 use Rattle.ic_world.specs.Splices.{Emptied}
-use Rattle.ic_world.specs.Tables.{table, no_table, sequence, seen_as, at, family_of, IsWhole}
 use Rattle.ic_world.specs.Several.{with_members}
 use Rattle.ic_world.proofs.Linked.{linked_same}
 use Rattle.ic_world.proofs.Edits.{Edit, after, lawful, edited_lawful, edited_whole, unlinked_family, at_after}

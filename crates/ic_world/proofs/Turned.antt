@@ -1,11 +1,9 @@
 -- What a world guarantees of a call of one collection follows from the contract of the collection's own call, whatever the kind.
-use Rattle.std.proofs.Common.{◌≡◌, ◌≢◌, ◌⊎◌, inl, inr, true, false, Option, None, List, [], ◌∷◌, ◌++◌, refl, sym, ap, ◌∙◌, subst, drop}
+use Rattle.std.proofs.Common.{◌≡◌, ◌≢◌, ◌⊎◌, inl, inr, true, false, Option, None, List, [], ◌∷◌, ◌++◌, refl, sym, ap, ◌∙◌, subst, drop, nat_cmp}
 use Rattle.std.proofs.lemmas.Bool.{cases_eq}
-use Rattle.std.specs.Ordering.{nat_cmp}
 use Rattle.std.specs.FinSet as set
 use Rattle.ic_link_ops.specs.Prelude.{Place, index_of, Cut, join, insert, remove, replace, IsAbsent, Table, IsCovered, IsUnlinked}
-use Rattle.ic_unsafe_ref.proofs.PlaceLemmas.{same_index}
-use Rattle.ic_link_ops.proofs.SequenceLemmas.{absent_both, absent_left, absent_right}
+use Rattle.ic_link_ops.proofs.Prelude.{same_index, absent_both, absent_left, absent_right}
 use Rattle.ic_link_ops.proofs.StepLemmas.{released_stay, each_unlinked}
 use Rattle.ic_any_collection.specs.declared.entry.Entry.{Entry}
 use Rattle.ic_any_collection.specs.Entries.{is_linked}

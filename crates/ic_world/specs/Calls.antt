@@ -6,8 +6,7 @@ use Rattle.std.specs.FinSet as set
 use Rattle.ic_link_ops.specs.Prelude.{Place, index_of, Objects, Cut, join, insert, remove, replace, first, last, but_last, IsAfter, IsBefore}
 use Rattle.ic_any_collection.specs.declared.kind.Kind.{Kind}
 use Rattle.ic_rbtree.specs.declared.keys.key_adapter.Bound.{Bound}
-use Rattle.ic_rbtree.specs.Borders.{Finds, IsBorder, IsLowerBorder, IsUpperBorder, less_at}
-use Rattle.ic_rbtree.specs.Comparing.{compared, compared_within, order_of, own_order}
+use Rattle.ic_rbtree.specs.Prelude.{Finds, IsBorder, IsLowerBorder, IsUpperBorder, less_at, compared, compared_within, order_of, own_order}
 use Rattle.ic_any_collection.specs.AnyCollection.{has_before, is_xor, is_tree, has_pointer}
 use Rattle.ic_any_collection.specs.declared.gap.Gap.{Gap}
 use Rattle.ic_any_collection.specs.declared.gap.Gap.TheVariants.{Front, Back, Before, After}

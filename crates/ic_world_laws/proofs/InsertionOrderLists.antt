@@ -1,18 +1,12 @@
 -- Sorted lists whose members with equal keys are in the order of insertion stay so when a member is inserted in order, or removed.
-use Rattle.std.proofs.Common.{◌≡◌, ◌≢◌, ◌↔◌, inl, inr, Bool, true, false, not, cond, List, [], ◌∷◌, ◌++◌, map, Option, Some, None, IsSome, refl, sym, ap, ◌∙◌, subst, append-nil, true≢false, eq-eqb, ne_eqb}
+use Rattle.std.proofs.Common.{◌≡◌, ◌≢◌, ◌↔◌, inl, inr, Bool, true, false, not, cond, List, [], ◌∷◌, ◌++◌, map, Option, Some, None, IsSome, refl, sym, ap, ◌∙◌, subst, append-nil, true≢false, eq-eqb, ne_eqb, is_eq, is_lt, is_gt, Ordering, Less, Equal, Greater}
 use Rattle.std.proofs.lemmas.List.{map-append}
 use Rattle.std.proofs.lemmas.List.Elements.{filter-append, filter_map-append}
 use Rattle.std.specs.Cmp.{IsTotalOrder, upto, alike_right, tied_itself}
 use Rattle.std.specs.List.{AllByRecursion, filter, cons_option}
-use Rattle.std.specs.Ordering.{is_eq, is_lt, is_gt}
-use Rattle.std.specs.declared.cmp.Ordering.{Ordering}
-use Rattle.std.specs.declared.cmp.Ordering.TheVariants.{Less, Equal, Greater}
 use Rattle.ic_link_ops.specs.Prelude.{Place, index_of, Objects, object_at, Cut, join, insert, IsAbsent, IsMember, IsDistinct, ArePlaced, values_at}
-use Rattle.ic_unsafe_ref.proofs.PlaceLemmas.{same_index, same_or_not}
-use Rattle.ic_link_ops.proofs.Each.{all_back, all_map}
-use Rattle.ic_link_ops.proofs.SequenceLemmas.{absent_left, absent_right, absent_both, absent_with, absent_without, distinct_middle}
-use Rattle.ic_rbtree.specs.Borders.{IsBorder, IsSorted, equal_at, less_at}
-use Rattle.ic_rbtree.specs.Comparing.{answer_at, compared, order_of}
+use Rattle.ic_link_ops.proofs.Prelude.{same_index, same_or_not, all_back, all_map, absent_left, absent_right, absent_both, absent_with, absent_without, distinct_middle}
+use Rattle.ic_rbtree.specs.Prelude.{IsBorder, IsSorted, equal_at, less_at, answer_at, compared, order_of}
 use Rattle.ic_rbtree.proofs.KeyLaws.{cuts_less, one_border, sorted_for, keys_more, stays_sorted, value_there}
 use Rattle.ic_world.specs.Family.{same_place}
 use Rattle.ic_world_laws.specs.InsertionOrder.{without}

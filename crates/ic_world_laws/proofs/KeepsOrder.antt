@@ -1,24 +1,19 @@
 -- EACH STEP KEEPS THE ORDER OF INSERTION in a collection for which it is orderly.
-use Rattle.std.proofs.Common.{◌≡◌, ◌≢◌, ◌⊎◌, inl, inr, ℕ, Bool, true, false, not, cond, nat_eq, List, [], ◌∷◌, ◌++◌, ◌<◌, length, drop, get_or, set, ltb-true, Option, Some, None, refl, sym, ap, ◌∙◌, subst, true≢false, eq-eqb, ne_eqb}
+use Rattle.std.proofs.Common.{◌≡◌, ◌≢◌, ◌⊎◌, inl, inr, ℕ, Bool, true, false, not, cond, nat_eq, List, [], ◌∷◌, ◌++◌, ◌<◌, length, drop, get_or, set, ltb-true, Option, Some, None, refl, sym, ap, ◌∙◌, subst, true≢false, eq-eqb, ne_eqb, nat_cmp, is_eq, is_lt, Ordering, Less, Equal, Greater}
 use Rattle.std.proofs.lemmas.Bool.{cases_eq, and_parts}
 use Rattle.std.proofs.lemmas.List.{get_or-set_same, get_or-set_other, get_or_append_left, get_or_push, length-set}
 use Rattle.std.proofs.lemmas.List.Folds.{list_any_at}
 use Rattle.std.specs.Cmp.{IsTotalOrder, nat_cmp_total, unsigned_tied}
 use Rattle.std.specs.List.{list_all}
-use Rattle.std.specs.Ordering.{nat_cmp, is_eq, is_lt}
 use Rattle.std.specs.FinSet as set_of
 use Rattle.std.specs.FinMap as map_of
 use Rattle.std.specs.FinMap.{get-insert, get-remove}
-use Rattle.std.specs.declared.cmp.Ordering.{Ordering}
-use Rattle.std.specs.declared.cmp.Ordering.TheVariants.{Less, Equal, Greater}
 use Rattle.ic_link_ops.specs.Prelude.{Place, index_of, Objects, object_at, Cut, first, IsAbsent, IsDistinct, IsAfter, IsBefore, ArePlaced}
-use Rattle.ic_unsafe_ref.proofs.PlaceLemmas.{same_index, same_or_not}
-use Rattle.ic_link_ops.proofs.SequenceLemmas.{some_same, first_is}
+use Rattle.ic_link_ops.proofs.Prelude.{same_index, same_or_not, some_same, first_is, all_members, vacant_absent}
 use Rattle.ic_any_collection.specs.declared.kind.Kind.{Kind}
 use Rattle.ic_any_collection.specs.declared.kind.Kind.TheVariants.{Singly}
 use Rattle.ic_any_collection.specs.AnyCollection.{is_list, is_two_way_list}
-use Rattle.ic_rbtree.specs.Borders.{IsBorder, less_at}
-use Rattle.ic_rbtree.specs.Comparing.{answer_at, compared, order_of}
+use Rattle.ic_rbtree.specs.Prelude.{IsBorder, less_at, answer_at, compared, order_of}
 use Rattle.ic_rbtree.proofs.KeyLaws.{value_there}
 use Rattle.ic_rbtree.proofs.SortedValues.{own_order_is}
 use Rattle.ic_world.specs.declared.call.Refusal.{Refusal}
@@ -38,17 +33,12 @@ use Rattle.ic_world.specs.declared.calls.search.Search.TheVariants.{Find, LowerB
 use Rattle.ic_world.specs.declared.calls.insertion.Insertion.TheVariants.{Insert, CursorInsert}
 use Rattle.ic_world.specs.declared.taken_part.TakenPart.{TakenPart}
 use Rattle.ic_world.specs.declared.taken_part.TakenPart.TheVariants.{All, After, Before}
-use Rattle.ic_world.specs.Family.{Family, LinkField, Sequence, collection, is_placed, is_linked_somewhere, objects_of, with_collection, with_opened}
+use Rattle.ic_world.specs.Prelude.{Family, LinkField, Sequence, collection, is_placed, is_linked_somewhere, objects_of, with_collection, with_opened, StepBy, OpensWith, SplicesAt, state_in, with_state, sequence_of, refusal_of_part, refusal_of_splice, asks_collection, Step, StepOn, Accepts, AcceptsOn, refusal, refusal_on, IsSound}
 use Rattle.ic_world.specs.Apart.{AreAllPlaced}
 use Rattle.ic_world.specs.Calls.{State, Reply, done, object, field, opened, items, found, looked, entry, refused, object_or_nothing, asks, names, refusal_of, onward, InsertionReplies, TakeReplies, Replies, without as without_member}
-use Rattle.ic_world.specs.Several.{StepBy, OpensWith, SplicesAt, state_in, with_state, sequence_of, refusal_of_part, refusal_of_splice, asks_collection}
-use Rattle.ic_world.specs.Step.{Step, StepOn, Accepts, AcceptsOn, refusal, refusal_on}
-use Rattle.ic_link_ops.proofs.Each.{all_members}
-use Rattle.ic_link_ops.proofs.PlacedValues.{vacant_absent}
 use Rattle.ic_world.proofs.Linked.{absent_or}
 use Rattle.ic_world.proofs.Readings.{some_within}
 use Rattle.ic_world.proofs.Steps.{asks_none}
-use Rattle.ic_world.specs.Sound.{IsSound}
 use Rattle.ic_world_laws.specs.Sorted.{has_key}
 use Rattle.ic_world_laws.specs.InsertionOrder.{IsInOrderOf, KeepsInsertionOrder, without, put_last, emptied, insertion_order_after, IsOrderly, KeepsOrder, StartsInOrder}
 use Rattle.ic_world_laws.proofs.InsertionOrderLists.{HaveEqualKeys, equal_keys_itself, nothing_in_order, put_in_order, taken_in_order, equal_in_order, same_in_order}

@@ -1,10 +1,9 @@
 -- EACH STEP KEEPS A FAMILY SOUND: a call leads from a sound family to a sound family.
-use Rattle.std.proofs.Common.{◌≡◌, ◌≢◌, inl, inr, ℕ, Bool, true, false, not, ◌&&◌, List, [], ◌++◌, Option, Some, None, refl, sym, ap, ◌∙◌, subst, true≢false, eq-eqb}
+use Rattle.std.proofs.Common.{◌≡◌, ◌≢◌, inl, inr, ℕ, Bool, true, false, not, ◌&&◌, List, [], ◌++◌, Option, Some, None, refl, sym, ap, ◌∙◌, subst, true≢false, eq-eqb, Ordering}
 use Rattle.std.proofs.lemmas.List.{get_or-set_same, get_or-set_other, set-get_or}
 use Rattle.std.proofs.lemmas.List.Folds.{list_any_at}
 use Rattle.std.specs.List.{list_all}
 use Rattle.std.specs.FinSet as set_of
-use Rattle.std.specs.declared.cmp.Ordering.{Ordering}
 use Rattle.ic_link_ops.specs.Prelude.{Place, index_of, Cut, join, splice, IsAbsent, IsMember, IsDistinct, IsDisjoint, IsAfter, IsBefore}
 use Rattle.ic_link_ops.proofs.SequenceLemmas.{absent_left, absent_right, absent_both, distinct_left, distinct_right, distinct_disjoint, disjoint_sym, distinct_splice, some_same, none_not}
 use Rattle.ic_any_collection.specs.declared.kind.Kind.{Kind}
@@ -19,10 +18,8 @@ use Rattle.ic_world.specs.declared.calls.collection_call.Call.{Call}
 use Rattle.ic_world.specs.declared.taken_part.TakenPart.{TakenPart}
 use Rattle.ic_world.specs.declared.taken_part.TakenPart.TheVariants.{All, After, Before}
 use Rattle.ic_world.specs.Family.{Family, LinkField, Sequence, is_among, has_member_in, collection, field_of, linked_of, has_field, is_placed, is_linked_somewhere, is_member_in, objects_of, with_linked, with_collection, with_opened}
-use Rattle.ic_world.specs.Calls.{State, Reply, object, field, opened, items, refused, asks, names, refusal_of, unlinked}
+use Rattle.ic_world.specs.Prelude.{State, Reply, object, field, opened, items, refused, asks, names, refusal_of, unlinked, Step, StepOn, Accepts, AcceptsOn, refusal, refusal_on, IsSoundIn, IsSound}
 use Rattle.ic_world.specs.Several.{StepBy, PartsOf, OpensWith, SplicesAt, asks_collection, with_members, state_in, with_state, sequence_of, refusal_of_part, refusal_of_splice}
-use Rattle.ic_world.specs.Step.{Step, StepOn, Accepts, AcceptsOn, refusal, refusal_on}
-use Rattle.ic_world.specs.Sound.{IsSoundIn, IsSound}
 use Rattle.ic_world.proofs.CanSplice.{can_splice_of}
 use Rattle.ic_world.proofs.Linked.{absent_or}
 use Rattle.ic_world.proofs.Readings.{some_within}

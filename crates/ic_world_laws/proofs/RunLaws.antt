@@ -1,13 +1,9 @@
 -- From the steps of a run it follows that each call is lawful, and that the whole run keeps the order of insertion.
-use Rattle.std.proofs.Common.{List, [], ◌∷◌, ◌++◌, Result, Ok, Err, OnOk, OnErr, refl, sym, subst, ◌∙◌}
+use Rattle.std.proofs.Common.{List, [], ◌∷◌, ◌++◌, Result, Ok, Err, OnOk, OnErr, refl, sym, subst, ◌∙◌, Ordering}
 use Rattle.std.specs.Cmp.{IsTotalOrder}
-use Rattle.std.specs.declared.cmp.Ordering.{Ordering}
 use Rattle.ic_link_ops.proofs.SequenceLemmas.{some_same}
 use Rattle.ic_world.specs.declared.call.Command.{Command}
-use Rattle.ic_world.specs.Calls.{Reply}
-use Rattle.ic_world.specs.Family.{Family, Sequence}
-use Rattle.ic_world.specs.Sound.{IsSound}
-use Rattle.ic_world.specs.Step.{Step, Runs}
+use Rattle.ic_world.specs.Prelude.{Reply, Family, Sequence, IsSound, Step, Runs}
 use Rattle.ic_world_laws.specs.Sorted.{IsSortedIn}
 use Rattle.ic_world_laws.specs.InsertionOrder.{insertion_order_after, KeepsInsertionOrder, StaysSorted, RunKeepsInsertionOrder}
 use Rattle.ic_world_laws.specs.Runs.{IsLawful, AreLawful}

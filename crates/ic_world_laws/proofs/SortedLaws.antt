@@ -1,10 +1,9 @@
 -- If a tree is sorted, each keyed call returns the first, the last or all of the members that a filter by keys leaves.
-use Rattle.std.proofs.Common.{◌≡◌, ℕ, true, false, ◌&&◌, List, [], ◌∷◌, length, get_or, set, Option, Some, None, inl, inr, refl, sym, ap, ◌∙◌, subst}
+use Rattle.std.proofs.Common.{◌≡◌, ℕ, true, false, ◌&&◌, List, [], ◌∷◌, length, get_or, set, Option, Some, None, inl, inr, refl, sym, ap, ◌∙◌, subst, Ordering}
 use Rattle.std.proofs.lemmas.Bool.{cases_lt, and_parts}
 use Rattle.std.proofs.lemmas.List.{get_or-set_same, get_or_past}
 use Rattle.std.specs.Cmp.{IsTotalOrder}
 use Rattle.std.specs.List.{filter, list_all}
-use Rattle.std.specs.declared.cmp.Ordering.{Ordering}
 use Rattle.ic_link_ops.specs.Prelude.{Place, object_at, Cut, join, insert, first, last}
 use Rattle.ic_rbtree.specs.Borders.{IsBorder, IsSortedFor, less_at}
 use Rattle.ic_rbtree.proofs.KeyLaws.{value_there}
@@ -17,10 +16,8 @@ use Rattle.ic_world.specs.declared.calls.insertion.Insertion.TheVariants as inse
 use Rattle.ic_world.specs.declared.calls.search.Search.TheVariants as searches
 use Rattle.ic_world.specs.declared.calls.collection_call.Call.TheVariants.{Search as search, Insertion as insertion, Enter as enter}
 use Rattle.ic_world.specs.Apart.{AreApart, AreAllPlaced}
-use Rattle.ic_world.specs.Family.{Family, Sequence, collection, objects_of, is_placed}
+use Rattle.ic_world.specs.Prelude.{Family, Sequence, collection, objects_of, is_placed, Step, StepOn, state_in, with_state, sequence_of}
 use Rattle.ic_world.specs.Calls.{Reply, found, looked, range, entry, State, key_at, own_at, names, InsertionReplies, Replies}
-use Rattle.ic_world.specs.Step.{Step, StepOn}
-use Rattle.ic_world.specs.Several.{state_in, with_state, sequence_of}
 use Rattle.ic_world_laws.specs.Sorted.{IsSortedIn, has_key, has_greater, is_greater, is_from, is_until, FindsFirst, FindsEnd, IsWithinBoth, PutsAfter, GoesAfter}
 use Rattle.ic_world_laws.proofs.StepLaws.{of_reply, of_range}
 

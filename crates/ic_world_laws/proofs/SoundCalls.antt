@@ -1,12 +1,11 @@
 -- A call of one collection leaves the collection sound: its members are distinct and linked, and its cursor is at null or on a member.
-use Rattle.std.proofs.Common.{◌≡◌, ◌≢◌, ◌⊎◌, inl, inr, Bool, true, false, cond, not, ◌||◌, ◌&&◌, nat_eq, eq-eqb, ne_eqb, List, [], ◌∷◌, ◌++◌, drop, reverse, Option, Some, None, is_some, refl, sym, ap, ◌∙◌, subst, true≢false}
+use Rattle.std.proofs.Common.{◌≡◌, ◌≢◌, ◌⊎◌, inl, inr, Bool, true, false, cond, not, ◌||◌, ◌&&◌, nat_eq, eq-eqb, ne_eqb, List, [], ◌∷◌, ◌++◌, drop, reverse, Option, Some, None, is_some, refl, sym, ap, ◌∙◌, subst, true≢false, Ordering}
 use Rattle.std.proofs.lemmas.Bool.{and_parts, cases_eq}
 use Rattle.std.specs.Cmp.{nat_cmp_total, unsigned_tied}
 use Rattle.std.specs.List.{list_all}
 use Rattle.std.specs.Ordering.{nat_cmp, eq_by_cmp}
 use Rattle.std.specs.FinSet as set_of
 use Rattle.std.specs.FinSet.{contains-insert, contains-remove}
-use Rattle.std.specs.declared.cmp.Ordering.{Ordering}
 use Rattle.ic_link_ops.specs.Prelude.{Place, index_of, Objects, Cut, join, first, last, but_last, IsAbsent, IsMember, IsDistinct, IsDisjoint}
 use Rattle.ic_unsafe_ref.proofs.PlaceLemmas.{same_index, same_or_not}
 use Rattle.ic_link_ops.proofs.SequenceLemmas.{absent_left, absent_right, absent_both, absent_with, absent_reverse, distinct_insert, distinct_middle, distinct_remove, distinct_replace, distinct_reverse, some_same, none_not, first_is, split_last}

@@ -1,9 +1,8 @@
 -- Families that differ from a sound family in one collection, in one field, or in one object, and are sound, too.
-use Rattle.std.proofs.Common.{◌≡◌, ◌≢◌, ◌⊎◌, inl, inr, ℕ, ◌<◌, ◌≤◌, ◌^◌, Bool, true, false, cond, nat_lt, List, [], ◌∷◌, ◌++◌, length, get_or, set, Option, Some, None, is_some, refl, sym, ap, ◌∙◌, subst, arith, ltb-true, true≢false, ne_eqb}
+use Rattle.std.proofs.Common.{◌≡◌, ◌≢◌, ◌⊎◌, inl, inr, ℕ, ◌<◌, ◌≤◌, ◌^◌, Bool, true, false, cond, nat_lt, List, [], ◌∷◌, ◌++◌, length, get_or, set, Option, Some, None, is_some, refl, sym, ap, ◌∙◌, subst, arith, ltb-true, true≢false, ne_eqb, nat_cmp}
 use Rattle.std.proofs.lemmas.Bool.{cases_eq, lt-ltb}
 use Rattle.std.proofs.lemmas.List.{get_or-set_same, get_or-set_other, get_or_past, get_or_append_left, get_or_push, length-append, length-set}
 use Rattle.std.specs.Cmp.{nat_cmp_total, unsigned_tied}
-use Rattle.std.specs.Ordering.{nat_cmp}
 use Rattle.std.specs.FinSet as set_of
 use Rattle.std.specs.FinSet.{contains-empty}
 use Rattle.std.specs.FinMap as map_of
@@ -14,8 +13,7 @@ use Rattle.ic_link_ops.proofs.SequenceLemmas.{some_same, none_not, disjoint_sym}
 use Rattle.ic_any_collection.specs.declared.kind.Kind.{Kind}
 use Rattle.ic_any_collection.specs.declared.kind.Kind.TheVariants.{Singly}
 use Rattle.ic_any_collection.specs.Kinds.{carries}
-use Rattle.ic_world.specs.Family.{Family, LinkField, Sequence, collection, field_of, linked_of, has_field, is_placed, is_linked_somewhere, with_linked, with_collection, with_opened}
-use Rattle.ic_world.specs.Sound.{IsSoundIn, IsSound}
+use Rattle.ic_world.specs.Prelude.{Family, LinkField, Sequence, collection, field_of, linked_of, has_field, is_placed, is_linked_somewhere, with_linked, with_collection, with_opened, IsSoundIn, IsSound}
 use Rattle.ic_world.proofs.Linked.{side}
 use Rattle.ic_world.proofs.Readings.{some_within}
 use Rattle.ic_world_laws.proofs.SoundCalls.{member_out, still_in, in_less}

@@ -1,7 +1,6 @@
 -- The laws of a single call follow from the step that the call makes.
-use Rattle.std.proofs.Common.{◌≡◌, ◌↔◌, ℕ, Bool, true, false, not, List, [], ◌∷◌, Option, Some, None, is_some, refl, sym, ap, ◌∙◌, subst}
+use Rattle.std.proofs.Common.{◌≡◌, ◌↔◌, ℕ, Bool, true, false, not, List, [], ◌∷◌, Option, Some, None, is_some, refl, sym, ap, ◌∙◌, subst, Ordering}
 use Rattle.std.specs.List.{list_all}
-use Rattle.std.specs.declared.cmp.Ordering.{Ordering}
 use Rattle.std.specs.FinSet as finite_set
 use Rattle.ic_link_ops.specs.Prelude.{Place, index_of, Objects, first, last}
 use Rattle.ic_rbtree.specs.declared.keys.key_adapter.Bound.{Bound}
@@ -21,9 +20,7 @@ use Rattle.ic_world.specs.declared.calls.search.Search.TheVariants.{Find, LowerB
 use Rattle.ic_world.specs.declared.calls.insertion.Insertion.TheVariants.{Insert, CursorInsert}
 use Rattle.ic_world.specs.declared.taken_part.TakenPart.{TakenPart}
 use Rattle.ic_world.specs.declared.taken_part.TakenPart.TheVariants.{All, After, Before}
-use Rattle.ic_world.specs.Family.{Family, Sequence, collection, linked_of, is_placed, objects_of}
-use Rattle.ic_world.specs.Calls.{State, Reply, found, looked, range, entry, refused, object_or_nothing, asks, asks_unlinked, has_call, names, member_at, refusal_of, Replies}
-use Rattle.ic_world.specs.Several.{StepBy, OpensWith, asks_collection, state_in, with_state}
+use Rattle.ic_world.specs.Prelude.{Family, Sequence, collection, linked_of, is_placed, objects_of, State, Reply, found, looked, range, entry, refused, object_or_nothing, asks, asks_unlinked, has_call, names, member_at, refusal_of, Replies, StepBy, OpensWith, asks_collection, state_in, with_state}
 use Rattle.ic_world.specs.Step.{Step, StepOn, Accepts, AcceptsOn, RangeReplies}
 use Rattle.ic_world.proofs.Steps.{state_back}
 use Rattle.ic_world_laws.specs.Laws.{inserts, IsWellNamed, WithinBoundFor, IsRefusedExactlyIfLinked, KeepsComparisonBound}

@@ -8,9 +8,7 @@ use Rattle.ic_world.specs.declared.call.Command.TheVariants as call
 use Rattle.ic_world.specs.declared.calls.collection_call.Call.TheVariants as one
 use Rattle.ic_world.specs.declared.calls.bulk_edit.BulkEdit.TheVariants.{Clear, Reverse}
 use Rattle.ic_world.specs.declared.calls.insertion.Insertion.TheVariants.{Insert, CursorInsert}
-use Rattle.ic_world.specs.Family.{Family, Sequence, same_place, collection}
-use Rattle.ic_world.specs.Calls.{Reply, done, object, opened, looked, entry}
-use Rattle.ic_world.specs.Step.{Step}
+use Rattle.ic_world.specs.Prelude.{Family, Sequence, same_place, collection, Reply, done, object, opened, looked, entry, Step}
 use Rattle.ic_world_laws.specs.Sorted.{IsSortedIn, WhileSorted, IsSortedAfter, has_key}
 
 module _ {A V K : Type 0} (cmp : K → K → Ordering) (key_of : A → V → K) (w : Family A V) where

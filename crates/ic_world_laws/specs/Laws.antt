@@ -9,8 +9,7 @@ use Rattle.ic_world.specs.declared.call.Command.TheVariants as call
 use Rattle.ic_world.specs.declared.calls.collection_call.Call.TheVariants as one
 use Rattle.ic_world.specs.declared.calls.search.Search.TheVariants.{LowerBound, UpperBound}
 use Rattle.ic_world.specs.declared.calls.insertion.Insertion.TheVariants.{Insert, CursorInsert}
-use Rattle.ic_world.specs.Family.{Family, Sequence, collection, linked_of}
-use Rattle.ic_world.specs.Calls.{Reply, found, looked, range, entry, refused}
+use Rattle.ic_world.specs.Prelude.{Family, Sequence, collection, linked_of, Reply, found, looked, range, entry, refused}
 
 module _ {V K : Type 0} where
   -- the number of the collection into which a call inserts an object, and the place of this object. The result is none if the call inserts nothing

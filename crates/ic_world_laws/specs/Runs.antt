@@ -3,10 +3,7 @@ use Rattle.std.specs.Prelude.{◌≡◌, List, [], ◌∷◌}
 use Rattle.std.specs.declared.cmp.Ordering.{Ordering}
 use Rattle.ic_world.specs.declared.call.Refusal.{Refusal}
 use Rattle.ic_world.specs.declared.call.Command.{Command}
-use Rattle.ic_world.specs.Calls.{Reply, refused}
-use Rattle.ic_world.specs.Family.{Family}
-use Rattle.ic_world.specs.Sound.{IsSound}
-use Rattle.ic_world.specs.Step.{Step}
+use Rattle.ic_world.specs.Prelude.{Reply, refused, Family, IsSound, Step}
 use Rattle.ic_world_laws.specs.Laws.{inserts, IsRefusedExactlyIfLinked, KeepsComparisonBound}
 use Rattle.ic_world_laws.specs.Sorted.{FindsFirst, FindsEnd, IsWithinBoth, GoesAfter}
 use Rattle.ic_world_laws.specs.InsertionOrder.{StaysSorted, KeepsOrder, StartsInOrder}

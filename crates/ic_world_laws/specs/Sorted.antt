@@ -4,8 +4,7 @@ use Rattle.std.specs.List.{filter}
 use Rattle.std.specs.declared.cmp.Ordering.{Ordering}
 use Rattle.ic_link_ops.specs.Prelude.{Place, first, last, values_at}
 use Rattle.ic_rbtree.specs.declared.keys.key_adapter.Bound.{Bound}
-use Rattle.ic_rbtree.specs.Borders.{IsSorted, equal_at, less_at}
-use Rattle.ic_rbtree.specs.Comparing.{meets_lower, meets_upper}
+use Rattle.ic_rbtree.specs.Prelude.{IsSorted, equal_at, less_at, meets_lower, meets_upper}
 use Rattle.ic_world.specs.declared.call.Command.{Command}
 use Rattle.ic_world.specs.declared.call.Command.TheVariants as call
 use Rattle.ic_world.specs.declared.calls.collection_call.Call.TheVariants as one

@@ -7,8 +7,7 @@
 #![tactic(auto)]
 
 ghost use Rattle.std.specs.Prelude.{◌≡◌, ◌++◌, List, map as map_list, OnOk, OnErr};
-ghost use Rattle.ic_world.specs.Answers.{reply_in};
-ghost use Rattle.ic_world.specs.Sound.{IsSound};
+ghost use Rattle.ic_world.specs.Prelude.{reply_in, IsSound};
 ghost use Rattle.ic_world_laws.specs.InsertionOrder.{RunKeepsInsertionOrder};
 ghost use Rattle.ic_world_laws.specs.Runs.{IsLawful, AreLawful};
 

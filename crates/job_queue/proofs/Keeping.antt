@@ -1,9 +1,7 @@
 -- Lemmas which say that each call of a queue maintains a list whose members have the waiting jobs.
-use Rattle.std.specs.Prelude.{Result, Ok, Err, IfErr, IsErr, IsErrAnd}
-use Rattle.std.proofs.Common.{◌≡◌, ◌^◌, leb, None, Some, List, [], ◌∷◌, drop, refl, sym, ap, subst, ◌∙◌, arith}
+use Rattle.std.proofs.Common.{◌≡◌, ◌^◌, leb, None, Some, List, [], ◌∷◌, drop, refl, sym, ap, subst, ◌∙◌, arith, Result, Ok, Err, IfErr, IsErr, IsErrAnd}
 use Rattle.std.proofs.lemmas.Bool.{false_from_ne_true}
-use Rattle.ic_link_ops.specs.Prelude.{Place, Objects, Frees, object_at, first, Unlinks, values_at}
-use Rattle.ic_link_ops.specs.Chains.{Ends, no_members}
+use Rattle.ic_link_ops.specs.Prelude.{Place, Objects, Frees, object_at, first, Unlinks, values_at, Ends, no_members}
 use Rattle.ic_link_ops.specs.DoublyEntries.{DoublyLinkOps, is_linked, neighbors_of, plain_table, PlainRepresents}
 use Rattle.ic_link_ops.proofs.DoublyLists.{plain_covered, plain_lists, plain_members}
 use Rattle.ic_link_ops.proofs.PlacedValues.{stand_first}

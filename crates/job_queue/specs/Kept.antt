@@ -1,7 +1,6 @@
 -- Definitions that say what a contract sees of a queue of jobs, and what the queue maintains for its pool and its list.
 use Rattle.std.specs.Prelude.{◌^◌, leb, Bool, List}
-use Rattle.ic_link_ops.specs.Prelude.{Objects, values_at}
-use Rattle.ic_link_ops.specs.Chains.{Ends}
+use Rattle.ic_link_ops.specs.Prelude.{Objects, values_at, Ends}
 use Rattle.ic_link_ops.specs.DoublyEntries.{DoublyLinkOps, is_linked, members_of, neighbors_of, plain_table}
 use Rattle.ic_linked_list.specs.ListedValues.{HasValues}
 use Rattle.job_queue.specs.declared.queue.Job.{Job}

@@ -1,8 +1,6 @@
 -- A builder with no members represents the empty sequence, whatever the table contains.
 use Rattle.std.proofs.Common.{◌≡◌, [], refl}
-use Rattle.ic_link_ops.specs.Chains.{Ends, no_members}
-use Rattle.ic_link_ops.specs.RedBlackTree.{Node}
-use Rattle.ic_link_ops.specs.Tables.{Table}
+use Rattle.ic_link_ops.specs.Prelude.{Ends, no_members, Node, Table}
 use Rattle.ic_rbtree.specs.Vines.{RepresentsVineSome}
 
 pub nothing_chained : {E : Type 0} (n : E → Node) (t : Table E) {ends : Ends} → ends ≡ no_members → RepresentsVineSome n t ends

@@ -1,16 +1,13 @@
 -- Lemmas on hash tables after a call of a test: the table still represents some sequence of members.
 use Rattle.std.proofs.Common.{◌≡◌, ◌↔◌, ℕ, IsTrue, Bool, true, false, Option, Some, None, List, [], ◌∷◌, ◌++◌, Result, Ok, Err, IfOk, IfErr, IfSome, IfNone, refl, subst}
 use Rattle.std.specs.Bool.{OnTrue, OnFalse}
-use Rattle.ic_link_ops.specs.Prelude.{Place, Objects, Cut, join, first, IsAfter, IsMember, Table}
+use Rattle.ic_link_ops.specs.Prelude.{Place, Objects, Cut, join, first, IsAfter, IsMember, Table, Successor}
 use Rattle.std.specs.Cmp.{IsPartialEquivalence}
-use Rattle.ic_link_ops.specs.SinglyLinkedList.{Successor}
 use Rattle.ic_link_ops.proofs.SequenceLemmas.{member_split}
 use Rattle.ic_hash_table.specs.declared.table.HashTable.{HashTable}
-use Rattle.ic_hash_table.specs.HashTable.{BelongsIn, IsNew}
-use Rattle.ic_hash_table.specs.SideBySide.{AreSideBySide, HoldsSideBySide}
+use Rattle.ic_hash_table.specs.Prelude.{BelongsIn, IsNew, AreSideBySide, HoldsSideBySide, Finds}
 use Rattle.ic_hash_table.proofs.Chains.{chains_nothing}
 use Rattle.ic_hash_table.proofs.SideBySideSequences.{take_beside}
-use Rattle.ic_hash_table.specs.Searches.{Finds}
 
 -- `Goal` holds for every result of an insert of a new key if it holds in three cases: the object is inserted, a member has the key, and the insert is
 -- refused

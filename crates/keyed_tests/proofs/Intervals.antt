@@ -1,14 +1,10 @@
 -- Lemmas for a loop that counts the intervals of a tree which pass a test.
-use Rattle.std.proofs.Common.{◌≡◌, ◌+◌, ◌<◌, ℕ, suc, Bool, not, Option, Some, None, List, [], ◌∷◌, ◌++◌, length, refl, sym, ap, ◌∙◌, subst, arith, append_assoc}
+use Rattle.std.proofs.Common.{◌≡◌, ◌+◌, ◌<◌, ℕ, suc, Bool, not, Option, Some, None, List, [], ◌∷◌, ◌++◌, length, refl, sym, ap, ◌∙◌, subst, arith, append_assoc, filter, nat_cmp}
 use Rattle.std.proofs.lemmas.List.Filters.{length-filter_both}
-use Rattle.std.specs.List.{filter}
-use Rattle.std.specs.Ordering.{nat_cmp}
 use Rattle.ic_link_ops.specs.Prelude.{Place, Objects, first, IsDistinct, Table, ArePlaced}
 use Rattle.ic_link_ops.specs.RedBlackTree.{Node, Represents}
-use Rattle.ic_link_ops.proofs.RepresentedTrees.{one_sequence}
-use Rattle.ic_link_ops.proofs.Walks.{few_places}
-use Rattle.ic_rbtree.specs.Borders.{IsSorted}
-use Rattle.ic_rbtree.specs.SortedObjects.{keys_at, RepresentsSorted}
+use Rattle.ic_link_ops.proofs.Prelude.{one_sequence, few_places}
+use Rattle.ic_rbtree.specs.Prelude.{IsSorted, keys_at, RepresentsSorted}
 use Rattle.ic_augmented.proofs.AllOverlaps.{FirstFound, first_found, none_passes}
 
 -- the start of an interval is its own key

@@ -1,18 +1,12 @@
 -- A tree with no members is ready for reads and edits, and calls do not reduce the room for summaries.
-use Rattle.std.proofs.Common.{◌≡◌, ◌<◌, Option, None, List, [], ◌∷◌, refl, subst, true, sym, ap, ◌∙◌, Bool, false, Result, Ok, Err, OnOk, OnErr, IfErr, arith}
-use Rattle.std.specs.declared.cmp.Ordering.{Ordering}
+use Rattle.std.proofs.Common.{◌≡◌, ◌<◌, Option, None, List, [], ◌∷◌, refl, subst, true, sym, ap, ◌∙◌, Bool, false, Result, Ok, Err, OnOk, OnErr, IfErr, arith, Ordering}
 use Rattle.std.specs.Result.{is_ok}
-use Rattle.ic_link_ops.specs.Prelude.{Place, index_of, insert, Table, Extent, IsCovered, IsLinked, LinkStep, acquires}
+use Rattle.ic_link_ops.specs.Prelude.{Place, index_of, insert, Table, Extent, IsCovered, IsLinked, LinkStep, acquires, leaf}
 use Rattle.ic_link_ops.specs.RedBlackTree.{Node, Represents}
-use Rattle.ic_link_ops.specs.Trees.{leaf}
-use Rattle.ic_rbtree.specs.Closed.{IsNode}
-use Rattle.ic_rbtree.specs.Ordered.{InsertsInOrder}
-use Rattle.ic_rbtree.specs.Tree.{root_of}
+use Rattle.ic_rbtree.specs.Prelude.{IsNode, InsertsInOrder, root_of}
 use Rattle.ic_rbtree.specs.declared.tree.RBTree.{RBTree}
-use Rattle.ic_augmented.specs.Consistent.{RepresentsConsistent, RepresentsAugmented}
-use Rattle.ic_augmented.specs.Augmented.{links_of, summaries_of}
+use Rattle.ic_augmented.specs.Prelude.{RepresentsConsistent, RepresentsAugmented, links_of, summaries_of, Summaries}
 use Rattle.ic_augmented.specs.AugmentedSteps.{TraceAugmented}
-use Rattle.ic_augmented.specs.Summaries.{Summaries}
 use Rattle.ic_augmented.specs.declared.augmented.Augmented.{Augmented}
 use Rattle.ic_augmented.proofs.StepLemmas.{inserted_right}
 

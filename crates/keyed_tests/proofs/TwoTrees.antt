@@ -1,10 +1,8 @@
 -- Lemmas on two trees of one table that share no member.
-use Rattle.std.proofs.Common.{◌≡◌, Bool, true, Option, None, IsSome, [], ◌∷◌, Result, Ok, Err, OnOk, sym, subst}
-use Rattle.std.specs.declared.cmp.Ordering.{Ordering}
+use Rattle.std.proofs.Common.{◌≡◌, Bool, true, Option, None, IsSome, [], ◌∷◌, Result, Ok, Err, OnOk, sym, subst, Ordering}
 use Rattle.ic_link_ops.specs.Prelude.{Place, Objects, object_at, is_placed, IsDisjoint, join, insert, Table, IsUnlinked, ArePlaced}
 use Rattle.ic_link_ops.specs.RedBlackTree.{Node, Represents}
-use Rattle.ic_link_ops.proofs.Each.{all_with}
-use Rattle.ic_link_ops.proofs.SequenceLemmas.{absent_swap, absent_with, disjoint_cons, disjoint_sym}
+use Rattle.ic_link_ops.proofs.Prelude.{all_with, absent_swap, absent_with, disjoint_cons, disjoint_sym}
 use Rattle.ic_link_ops.proofs.RepresentedTrees.{red_black_trees, represents_frame, represents_nothing}
 use Rattle.ic_rbtree.specs.Ordered.{InsertsInOrder}
 use Rattle.ic_tree_merges.specs.TwoTrees.{TwoRepresented}

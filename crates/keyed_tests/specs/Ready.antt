@@ -3,14 +3,9 @@
 use Rattle.std.specs.Prelude.{Option, ℕ, ◌<◌, List}
 use Rattle.ic_link_ops.specs.Prelude.{Place, index_of, Objects, Table, IsCovered}
 use Rattle.ic_link_ops.specs.RedBlackTree.{Node, Represents}
-use Rattle.ic_rbtree.specs.SortedObjects.{RepresentsSorted}
-use Rattle.ic_rbtree.specs.Tree.{root_of}
+use Rattle.ic_rbtree.specs.Prelude.{RepresentsSorted, root_of}
 use Rattle.ic_rbtree.specs.declared.tree.RBTree.{RBTree}
-use Rattle.ic_augmented.specs.Consistent.{RepresentsConsistent, RepresentsAugmented}
-use Rattle.ic_augmented.specs.Greatest.{greatest}
-use Rattle.ic_augmented.specs.Summaries.{Summaries}
-use Rattle.ic_augmented.specs.AugmentedTables.{room_of}
-use Rattle.ic_augmented.specs.Augmented.{links_of, summaries_of}
+use Rattle.ic_augmented.specs.Prelude.{RepresentsConsistent, RepresentsAugmented, greatest, Summaries, room_of, links_of, summaries_of}
 use Rattle.ic_augmented.specs.declared.augmented_table.AugmentedTable.{AugmentedTable}
 use Rattle.ic_augmented.specs.declared.augmented.Augmented.{Augmented}
 

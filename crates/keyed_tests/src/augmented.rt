@@ -2,16 +2,11 @@
 
 ghost use Rattle.std.specs.Prelude.{◌≡◌, ◌<◌, ◌≤◌, None, List, filter, length, map, min};
 ghost use Rattle.std.specs.Ordering.{nat_cmp};
-ghost use Rattle.ic_link_ops.specs.Prelude.{Place, index_of, first, IsCovered};
-ghost use Rattle.ic_link_ops.specs.ThreeWords.{node_of};
-ghost use Rattle.ic_rbtree.specs.Borders.{IsSorted};
+ghost use Rattle.ic_link_ops.specs.Prelude.{Place, index_of, first, IsCovered, node_of};
+ghost use Rattle.ic_rbtree.specs.Prelude.{IsSorted, root_of};
 ghost use Rattle.ic_rbtree.specs.KeyedTrees.{keyed_table};
-ghost use Rattle.ic_rbtree.specs.Tree.{root_of};
-ghost use Rattle.ic_augmented.specs.Consistent.{RepresentsAugmented};
-ghost use Rattle.ic_augmented.specs.Counts.{counts};
+ghost use Rattle.ic_augmented.specs.Prelude.{RepresentsAugmented, counts, start_in, overlaps, links_of, summaries_of};
 ghost use Rattle.ic_augmented.specs.Greatest.{greatest, number_at, is_greater};
-ghost use Rattle.ic_augmented.specs.Intervals.{start_in, overlaps};
-ghost use Rattle.ic_augmented.specs.Augmented.{links_of, summaries_of};
 ghost use Rattle.ic_augmented.specs.AugmentedTables.{joined, room_of};
 ghost use Rattle.keyed_tests.specs.Ready.{IsReady};
 

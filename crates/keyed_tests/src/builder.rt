@@ -2,14 +2,11 @@
 //! again.
 
 ghost use Rattle.std.specs.Prelude.{◌≡◌, ◌<◌, List};
-ghost use Rattle.ic_link_ops.specs.Prelude.{Place, first, IsCovered};
+ghost use Rattle.ic_link_ops.specs.Prelude.{Place, first, IsCovered, node_of};
 ghost use Rattle.ic_link_ops.specs.RedBlackTree.{Represents, RepresentsSome};
-ghost use Rattle.ic_link_ops.specs.ThreeWords.{node_of};
 ghost use Rattle.ic_rbtree.specs.Builder.{ends_of};
-ghost use Rattle.ic_rbtree.specs.Height.{IsLowest};
+ghost use Rattle.ic_rbtree.specs.Prelude.{IsLowest, root_of, RepresentsVine, RepresentsVineSome};
 ghost use Rattle.ic_rbtree.specs.KeyedTrees.{keyed_table};
-ghost use Rattle.ic_rbtree.specs.Tree.{root_of};
-ghost use Rattle.ic_rbtree.specs.Vines.{RepresentsVine, RepresentsVineSome};
 
 use crate::asserts::{assert_same, assert_true};
 use crate::keyed::{OwnKey, keyed_links};

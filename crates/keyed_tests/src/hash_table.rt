@@ -3,10 +3,8 @@
 
 ghost use Rattle.std.specs.Prelude.{◌≡◌, ◌<◌, None, length, true};
 ghost use Rattle.std.specs.List.{AllByRecursion};
-ghost use Rattle.ic_link_ops.specs.Prelude.{Place, index_of, is_placed};
+ghost use Rattle.ic_link_ops.specs.Prelude.{Place, index_of, is_placed, table, wide};
 ghost use Rattle.ic_link_ops.specs.OneWord.{no_word};
-ghost use Rattle.ic_link_ops.specs.PlainTables.{table};
-ghost use Rattle.ic_link_ops.specs.Widths.{wide};
 
 mod entry;
 mod equals;

@@ -3,8 +3,7 @@ use Rattle.std.specs.Prelude.{◌≡◌, ℕ, List, [], Contains}
 use Rattle.ic_unsafe_ref.specs.declared.place.Place.{Place}
 use Rattle.ic_lock_free_stack.specs.declared.step.Entry.{Entry}
 use Rattle.ic_lock_free_stack.specs.Counts.{puts, takes_out, in_all}
-use Rattle.ic_lock_free_stack.specs.OneHistory.{Party, IsHistory}
-use Rattle.ic_lock_free_stack.specs.Orders.{sent, got, of_record, of_history}
+use Rattle.ic_lock_free_stack.specs.Prelude.{Party, IsHistory, sent, got, of_record, of_history}
 use Rattle.stack_uses.specs.Mail.{IsOnlyReceiver, IsMail}
 
 -- each place was taken from the stack as often as it was pushed to the stack, and in the order of the pushes. If only one holder took places, this holder

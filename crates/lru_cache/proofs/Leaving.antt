@@ -1,9 +1,8 @@
 -- Lemmas which say which entry leaves the cache and which entries remain, in each of the three cases of an insertion.
-use Rattle.std.proofs.Common.{◌≡◌, is_some, ℕ, suc, ◌+◌, ◌≤◌, Bool, true, false, not, Option, None, Some, List, [], ◌∷◌, ◌++◌, length, take, filter, cond, refl, sym, ap, ◌∙◌, arith, length-append, true≢false}
+use Rattle.std.proofs.Common.{◌≡◌, is_some, ℕ, suc, ◌+◌, ◌≤◌, Bool, true, false, not, Option, None, Some, List, [], ◌∷◌, ◌++◌, length, take, filter, cond, refl, sym, ap, ◌∙◌, arith, length-append, true≢false, slice_get}
 use Rattle.std.proofs.lemmas.List.{take_all, take-append-le}
 use Rattle.std.proofs.lemmas.List.Filters.{length-filter_both}
 use Rattle.std.proofs.lemmas.Option.{slice_get_past}
-use Rattle.std.specs.List.{slice_get}
 use Rattle.std.specs.Option.{option_or}
 use Rattle.ic_link_ops.proofs.SequenceLemmas.{none_not}
 use Rattle.ic_keyed.specs.Keyed as keyed

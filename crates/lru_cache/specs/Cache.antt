@@ -1,5 +1,5 @@
 -- A contract sees the entries of a cache, from the one that was touched last to the oldest, and the cache's capacity.
-use Rattle.std.specs.Prelude.{ℕ, ◌≤◌, Option, List, ◌∷◌, length, take, slice_get}
+use Rattle.std.specs.Prelude.{◌≡◌, ℕ, ◌≤◌, Option, List, [], ◌∷◌, length, take, slice_get}
 use Rattle.std.specs.Option.{option_map, option_or}
 use Rattle.ic_keyed.specs.Keyed as keyed
 use Rattle.ic_keyed.specs.Keyed.{KeyedValues}
@@ -53,6 +53,12 @@ module _ {V : Type 0} where
   -- the cache with the given capacity, whose entries are the values of `kept`
   abbrev pub cache_of : ℕ → KeyedValues (Entry V) → Cache V
   cache_of capacity kept = record { entries = kept.values; capacity = capacity; parts = kept.parts }
+
+  -- the cache has no entry. Its capacity is `most`, and its index has `count` parts
+  pub record IsEmptyCache (most count : ℕ) (cache : Cache V) : Type 0 where
+    pub entries : cache.entries ≡ []
+    pub capacity : cache.capacity ≡ most
+    pub parts : cache.parts ≡ count
 
   -- in each cache no key occurs twice, and there are at most as many entries as the capacity
   pub record IsSound (cache : Cache V) : Type 0 where

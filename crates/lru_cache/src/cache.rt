@@ -10,6 +10,7 @@
 
 ghost use Rattle.std.specs.Prelude.{◌≡◌, ◌<◌, ◌≤◌, ◌↔◌, ◌++◌, ◌∷◌, [], None, length, IsTrue, IsSome, IsOk, IfNone, OnOk, IfOk, IfErr, MatchOption};
 ghost use Rattle.std.specs.Option.{option_copied, option_map};
+ghost use Rattle.lru_cache.specs.Cache.{IsEmptyCache};
 
 use crate::InsertError;
 use crate::entry::Entry;
@@ -52,9 +53,7 @@ impl<V, A: Allocator> LruCache<V, RBTree<ByKey<Entry<V>>>, A> {
     pub fn new(alloc: A, capacity: usize) -> TreeLruCache<V, A>
     where
         A: Copy,
-        ensures entries { result.entries ≡ [] }
-        ensures capacity { result.capacity ≡ capacity }
-        ensures parts { result.parts ≡ 1 }
+        ensures { IsEmptyCache capacity 1 result }
     {
         LruCache::by_tree(alloc, capacity)
     }
@@ -64,9 +63,7 @@ impl<V, A: Allocator> LruCache<V, RBTree<ByKey<Entry<V>>>, A> {
     pub fn unbounded(alloc: A) -> TreeLruCache<V, A>
     where
         A: Copy,
-        ensures entries { result.entries ≡ [] }
-        ensures capacity { result.capacity ≡ 18446744073709551615 }
-        ensures parts { result.parts ≡ 1 }
+        ensures { IsEmptyCache 18446744073709551615 1 result }
     {
         LruCache::by_tree(alloc, usize::MAX)
     }
@@ -78,9 +75,7 @@ impl<V, W: NodeWords, O: PrevPlace, A: Allocator> LruCache<V, RBTree<ByKey<Entry
     pub fn by_tree(alloc: A, capacity: usize) -> LruCache<V, RBTree<ByKey<Entry<V>, W, O>>, A>
     where
         A: Copy,
-        ensures entries { result.entries ≡ [] }
-        ensures capacity { result.capacity ≡ capacity }
-        ensures parts { result.parts ≡ 1 }
+        ensures { IsEmptyCache capacity 1 result }
     {
         LruCache {
             entries: Keyed::by_tree(alloc),
@@ -102,9 +97,7 @@ impl<V, I: Index<Entry<V>, A>, A: Allocator> LruCache<V, I, A> {
     where
         A: Copy,
         requires new { I.IsNew index }
-        ensures entries { result.entries ≡ [] }
-        ensures capacity { result.capacity ≡ capacity }
-        ensures parts { result.parts ≡ I.parts index }
+        ensures { IsEmptyCache capacity (I.parts index) result }
     {
         LruCache {
             entries: Keyed::with_index(alloc, index),

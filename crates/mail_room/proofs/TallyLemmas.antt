@@ -1,6 +1,5 @@
 -- Lemmas about the number of places that came in the order of their sender, after one further place.
-use Rattle.std.proofs.Common.{◌≡◌, ◌≢◌, ℕ, zero, suc, ◌+◌, ◌*◌, ◌/◌, ◌%◌, ◌<◌, ◌≤◌, eqb, cond, Bool, true, false, true≢false, List, [], ◌∷◌, ◌++◌, map, length, get_or, set, drop, All, refl, sym, ap, ◌∙◌, subst, arith, eq-eqb, eqb-true, ne_eqb}
-use Rattle.std.specs.Prelude.{sum_by, replicate, slice_index_or}
+use Rattle.std.proofs.Common.{◌≡◌, ◌≢◌, ℕ, zero, suc, ◌+◌, ◌*◌, ◌/◌, ◌%◌, ◌<◌, ◌≤◌, eqb, cond, Bool, true, false, true≢false, List, [], ◌∷◌, ◌++◌, map, length, get_or, set, drop, All, refl, sym, ap, ◌∙◌, subst, arith, eq-eqb, eqb-true, ne_eqb, sum_by, replicate, slice_index_or}
 use Rattle.std.specs.List.{range_with_len}
 use Rattle.std.specs.Bool.{OnTrue, OnFalse}
 use Rattle.std.proofs.lemmas.List.{get_or-set_same, get_or-set_other, length-set, length-replicate, length-map}

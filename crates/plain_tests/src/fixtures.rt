@@ -1,8 +1,7 @@
 //! The functions that the tests share. The functions make tables of a few places and references to unlinked objects.
 
 ghost use Rattle.std.specs.Prelude.{◌≡◌};
-ghost use Rattle.ic_link_ops.specs.PlainTables.{table, linked_by};
-ghost use Rattle.ic_link_ops.specs.Tables.{IsCovered, IsUnlinked};
+ghost use Rattle.ic_link_ops.specs.Prelude.{table, linked_by, IsCovered, IsUnlinked};
 
 use ic_link_ops::{PlainTable, Words};
 use ic_unsafe_ref::{Place, UnsafeRef};

@@ -3,9 +3,8 @@
 ghost use Rattle.std.specs.Prelude.{[]};
 ghost use Rattle.ic_link_ops.specs.DoublyEntries.{DoublyLink, RepresentsList, PlainRepresentsSome, neighbors_of};
 ghost use Rattle.ic_link_ops.specs.LinkedList.{RepresentsSome};
-ghost use Rattle.ic_link_ops.specs.PlainTables.{table};
+ghost use Rattle.ic_link_ops.specs.Prelude.{table, Table, IsCovered, IsUnlinked};
 ghost use Rattle.ic_link_ops.specs.Readings as readings;
-ghost use Rattle.ic_link_ops.specs.Tables.{Table, IsCovered, IsUnlinked};
 ghost use Rattle.ic_plain.specs.SinglyEntries as singly;
 ghost use Rattle.ic_plain.specs.XorEntries as xor;
 

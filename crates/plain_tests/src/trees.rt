@@ -1,12 +1,9 @@
 //! Tests of the tree by plain calls. The tests make each plain call at least once.
 
 ghost use Rattle.std.specs.Ordering.{nat_cmp};
-ghost use Rattle.ic_link_ops.specs.PlainTables.{table};
+ghost use Rattle.ic_link_ops.specs.Prelude.{table, IsCovered, node_of};
 ghost use Rattle.ic_link_ops.specs.RedBlackTree.{RepresentsSome};
-ghost use Rattle.ic_link_ops.specs.Tables.{IsCovered};
-ghost use Rattle.ic_link_ops.specs.ThreeWords.{node_of};
-ghost use Rattle.ic_rbtree.specs.PlainTrees.{node_by, plain_table, PlainRepresentsSome};
-ghost use Rattle.ic_rbtree.specs.Tree.{root_of};
+ghost use Rattle.ic_rbtree.specs.Prelude.{node_by, plain_table, PlainRepresentsSome, root_of};
 ghost use Rattle.ic_plain.specs.SortedTrees.{IsInOrder};
 
 use crate::fixtures::{check, covering, index, index_of, unlinked};

@@ -5,20 +5,15 @@ use Rattle.std.proofs.lemmas.Bool.{cases_eq, eqb-false, le-leb}
 use Rattle.std.proofs.lemmas.Bool.Decides.{nat_tests}
 use Rattle.std.specs.FinMap as map
 use Rattle.std.specs.List.{AllByRecursion}
-use Rattle.ic_link_ops.specs.Prelude.{Place, index_of, Objects, Places, object_at, with_object, first, IsAbsent, IsDistinct, IsMember, IsCovered, IsUnlinked, Unlinks, ChangesOnlyIn}
-use Rattle.ic_unsafe_ref.proofs.PlaceLemmas.{same_index, same_or_not}
+use Rattle.ic_link_ops.specs.Prelude.{Place, index_of, Objects, Places, object_at, with_object, first, IsAbsent, IsDistinct, IsMember, IsCovered, IsUnlinked, Unlinks, ChangesOnlyIn, link_of, entries, wide}
+use Rattle.ic_link_ops.proofs.Prelude.{same_index, same_or_not, distinct_remove, first_is, member_split, none_not, few_places}
 use Rattle.ic_unsafe_ref.proofs.Placing.{Puts, put_there, put_beside, put_others, placed_there, still_placed, placed_puts, exchanged_puts}
 use Rattle.ic_link_ops.specs.declared.one_word.OneWord.{OneWord}
 use Rattle.ic_link_ops.specs.declared.table.PlainTable.{PlainTable}
 use Rattle.ic_link_ops.specs.EntryLaws.{linked_in_range}
-use Rattle.ic_link_ops.specs.Links.{link_of}
 use Rattle.ic_link_ops.specs.OneWord.{no_word, has_word}
-use Rattle.ic_link_ops.specs.PlainTables.{entries}
 use Rattle.ic_link_ops.specs.SinglyLinkedList.{Front, list_from, Represents}
-use Rattle.ic_link_ops.specs.Widths.{wide}
-use Rattle.ic_link_ops.proofs.SequenceLemmas.{distinct_remove, first_is, member_split, none_not}
 use Rattle.ic_link_ops.proofs.SinglyLists.{members_represented, singly_lists}
-use Rattle.ic_link_ops.proofs.Walks.{few_places}
 use Rattle.ic_pool.specs.Pooled.{Grows}
 use Rattle.ic_pool.proofs.Pooling.{pooled_first, pooled_grown, pooled_placed, pooled_linked, pooled_unlinked, pooled_changed}
 use Rattle.ic_container.specs.Edited.{HasJoined}
@@ -86,7 +81,7 @@ module _ {T : Type 0} where
     }
 
 -- the list of vacant slots reads its table as a singly linked list does
-pub slot_reading : {K A : Type 0} → Reading {L = PlainTable (OneWord K) A ⊤} (Represents successor) is_linked (list_from None) plain_table members_of
+pub slot_reading : {K A : Type 0} → Reading {L = PlainTable (OneWord K ℕ) A ⊤} (Represents successor) is_linked (list_from None) plain_table members_of
 slot_reading = record {
   kind = singly_lists (λ e. refl);
   members_are = λ links list s shown. members_represented (plain_table links) (λ q linked. linked_in_range is_linked (link_of no_word) refl (entries links) (index_of q) linked) list s shown;
@@ -146,7 +141,7 @@ module _ {T : Type 0} {objects : Objects (Slot T)} {len : ℕ} (k : IsCounted ob
   some_value p here = let m = member_split p k.taken (k.owned.all p 0 here) in omega (arith, k.count, ap length m.2, length-append m.0 (p ∷ m.1))
 
 -- NEW SLOTS, which have no object and an empty table, maintain `IsKept`
-pub kept_none : {T K A : Type 0} (objects : Objects (Slot T)) (links : PlainTable (OneWord K) A ⊤) → ((p : Place) → object_at objects p ≡ None) → (plain_table links).extent.places ≡ 0
+pub kept_none : {T K A : Type 0} (objects : Objects (Slot T)) (links : PlainTable (OneWord K ℕ) A ⊤) → ((p : Place) → object_at objects p ≡ None) → (plain_table links).extent.places ≡ 0
     → IsKept objects links (list_from None) 0
 kept_none {T} objects links vacant no_links =
     let pooled = pooled_first wide has_word no_word refl links no_links vacant in
@@ -165,7 +160,7 @@ kept_none {T} objects links vacant no_links =
       };
     }
 
-module _ {T K A : Type 0} {objects : Objects (Slot T)} {links : PlainTable (OneWord K) A ⊤} {vacant : Front} {len : ℕ} (k : IsKept objects links vacant len) where
+module _ {T K A : Type 0} {objects : Objects (Slot T)} {links : PlainTable (OneWord K ℕ) A ⊤} {vacant : Front} {len : ℕ} (k : IsKept objects links vacant len) where
   abbrev pub members : List Place
   members = members_of links vacant
 
@@ -180,11 +175,11 @@ module _ {T K A : Type 0} {objects : Objects (Slot T)} {links : PlainTable (OneW
     by (p ∷ s) member = refl
 
   -- AFTER THE TABLE HAS GROWN, the slots still maintain `IsKept`
-  pub kept_grown : {grown : PlainTable (OneWord K) A ⊤} → Grows (plain_table links) (plain_table grown) → IsKept objects grown vacant len
+  pub kept_grown : {grown : PlainTable (OneWord K ℕ) A ⊤} → Grows (plain_table links) (plain_table grown) → IsKept objects grown vacant len
   kept_grown {grown} grows = record { holds = holds_grown slot_reading k.holds grown grows; pooled = pooled_grown k.pooled grows; counted = k.counted }
 
   -- A NEW SLOT is placed with a value, and the slots still maintain `IsKept`
-  pub kept_placed : {grown : PlainTable (OneWord K) A ⊤} {new : Objects (Slot T)} {p : Place} {value : T} → Grows (plain_table links) (plain_table grown) → Places objects new p (record { generation = 0; value = Some value })
+  pub kept_placed : {grown : PlainTable (OneWord K ℕ) A ⊤} {new : Objects (Slot T)} {p : Place} {value : T} → Grows (plain_table links) (plain_table grown) → Places objects new p (record { generation = 0; value = Some value })
       → IsCovered (plain_table grown) p → IsKept new grown vacant (len + 1)
   kept_placed {grown} {p = p} grows places room = record {
     holds = holds_changed slot_reading vacant_owner objects (holds_grown slot_reading k.holds grown grows) (placed_puts places) (sym (ap (owner_or vacant_owner) places.vacant));
@@ -193,7 +188,7 @@ module _ {T K A : Type 0} {objects : Objects (Slot T)} {links : PlainTable (OneW
   }
 
   -- THE FIRST VACANT SLOT is removed from the list and gets a value, and the slots still maintain `IsKept`
-  module _ (after : PlainTable (OneWord K) A ⊤) (front : Front) (value : T) {new : Objects (Slot T)} {p : Place} {g : ℕ} (answer : (s : List Place) → Represents successor (plain_table links) vacant s → Some p ≡ first s)
+  module _ (after : PlainTable (OneWord K ℕ) A ⊤) (front : Front) (value : T) {new : Objects (Slot T)} {p : Place} {g : ℕ} (answer : (s : List Place) → Represents successor (plain_table links) vacant s → Some p ≡ first s)
       (popped : (s : List Place) → Represents successor (plain_table links) vacant s → Represents successor (plain_table after) front (drop 1 s)) (off : Unlinks is_linked (plain_table links) (plain_table after) p)
       (frame : (s : List Place) → Represents successor (plain_table links) vacant s → ChangesOnlyIn (plain_table links) (plain_table after) s)
       (fills : (s : Slot T) → object_at objects p ≡ Some s → (g ≡ s.generation) × (new ≡ with_object objects p (record s { value = Some value }))) where
@@ -258,7 +253,7 @@ module _ {T K A : Type 0} {objects : Objects (Slot T)} {links : PlainTable (OneW
       counted = counted_less k.counted puts refl taken_was;
     }
 
-    pub kept_vacated : h.generation + 1 ≢ 18446744073709551615 → {more : PlainTable (OneWord K) A ⊤} {front : Front} {s : List Place}
+    pub kept_vacated : h.generation + 1 ≢ 18446744073709551615 → {more : PlainTable (OneWord K ℕ) A ⊤} {front : Front} {s : List Place}
         → HasJoined (Represents successor) is_linked (plain_table links) (plain_table more) vacant front [] h.place s → IsKept new more front (len - 1)
     kept_vacated last {more} {front} e = record {
       holds = holds_joined slot_reading k.holds 0 more (alone_others (list_from None) vacant front) e (usable_owner (object_at new h.place) (emptied_usable last)) (λ q n. ap (owner_or vacant_owner) (put_others puts q n));

@@ -1,19 +1,13 @@
 -- Lemmas about the waiting timers after each step of a call.
-use Rattle.std.proofs.Common.{◌≡◌, ◌≢◌, ℕ, ◌^◌, leb, ◌<◌, true, false, Option, Some, None, IsSome, is_some, List, [], ◌∷◌, ◌++◌, map, drop, arith, append_assoc, append-nil, inl, inr, refl, sym, ap, subst, ◌∙◌, true≢false}
+use Rattle.std.proofs.Common.{◌≡◌, ◌≢◌, ℕ, ◌^◌, leb, ◌<◌, true, false, Option, Some, None, IsSome, is_some, List, [], ◌∷◌, ◌++◌, map, drop, arith, append_assoc, append-nil, inl, inr, refl, sym, ap, subst, ◌∙◌, true≢false, nat_cmp}
 use Rattle.std.proofs.lemmas.Bool.Decides.{leb_tells}
 use Rattle.std.proofs.lemmas.List.{map_push}
 use Rattle.std.proofs.lemmas.List.Elements.{filter_map-append}
 use Rattle.std.specs.List.{AllByRecursion, cons_option}
-use Rattle.std.specs.Ordering.{nat_cmp}
 use Rattle.ic_link_ops.specs.Prelude.{Place, Objects, Places, Frees, object_at, is_placed, first, IsAbsent, IsDistinct, values_at}
-use Rattle.ic_unsafe_ref.proofs.Placing.{placed_there, others_placed, others_left}
-use Rattle.ic_link_ops.proofs.Each.{all_both}
-use Rattle.ic_link_ops.proofs.PlacedValues.{vacant_absent}
-use Rattle.ic_link_ops.proofs.SequenceLemmas.{distinct_middle, first_is}
+use Rattle.ic_link_ops.proofs.Prelude.{placed_there, others_placed, others_left, all_both, vacant_absent, distinct_middle, first_is}
 use Rattle.ic_pool.specs.Pooled.{Grows}
-use Rattle.ic_rbtree.specs.Borders.{IsSorted, if_passes}
-use Rattle.ic_rbtree.specs.PlainTrees.{TreeLinkOps, plain_table, members_of}
-use Rattle.ic_rbtree.specs.SortedObjects.{key_at, key_or}
+use Rattle.ic_rbtree.specs.Prelude.{IsSorted, if_passes, TreeLinkOps, plain_table, members_of, key_at, key_or}
 use Rattle.ic_rbtree.proofs.Passing.{passed}
 use Rattle.ic_container.specs.Trees.{HasAll, PutsInOrder}
 use Rattle.ic_container.specs.Values.{Without}

@@ -1,12 +1,10 @@
 -- The facts that `Slots` maintains for its pool and for its list of vacant slots.
 use Rattle.std.specs.Prelude.{◌≡◌, ◌<◌, ◌^◌, cond, leb, ℕ, Bool, Option, Some, None, IsSome, List, [], length, ⊤}
-use Rattle.ic_link_ops.specs.Prelude.{Place, Objects, object_at, IsDistinct, Table}
+use Rattle.ic_link_ops.specs.Prelude.{Place, Objects, object_at, IsDistinct, Table, linked_by, table, wide}
 use Rattle.ic_link_ops.specs.declared.link.Link.{Link}
 use Rattle.ic_link_ops.specs.declared.one_word.OneWord.{OneWord}
 use Rattle.ic_link_ops.specs.declared.table.PlainTable.{PlainTable}
 use Rattle.ic_link_ops.specs.OneWord.{no_word, has_word, next_word_of}
-use Rattle.ic_link_ops.specs.PlainTables.{linked_by, table}
-use Rattle.ic_link_ops.specs.Widths.{wide}
 use Rattle.ic_link_ops.specs.Readings.{successor_of}
 use Rattle.ic_link_ops.specs.SinglyLinkedList.{Front, Successor, Represents, list_from, members}
 use Rattle.ic_pool.specs.Pooled.{IsPooled}
@@ -17,16 +15,16 @@ use Rattle.pool_uses.specs.Slots.{Naming}
 
 -- These definitions say how contracts see the table of links of a singly linked list, and which members a list over the table has
 module _ {K : Type 0} where
-  abbrev pub is_linked : Link (OneWord K) ⊤ → Bool
+  abbrev pub is_linked : Link (OneWord K ℕ) ⊤ → Bool
   is_linked = linked_by has_word
 
-  abbrev pub successor : Link (OneWord K) ⊤ → Successor
+  abbrev pub successor : Link (OneWord K ℕ) ⊤ → Successor
   successor = successor_of next_word_of has_word
 
-  abbrev pub plain_table : {A : Type 0} → PlainTable (OneWord K) A ⊤ → Table (Link (OneWord K) ⊤)
+  abbrev pub plain_table : {A : Type 0} → PlainTable (OneWord K ℕ) A ⊤ → Table (Link (OneWord K ℕ) ⊤)
   plain_table links = table wide no_word links
 
-  abbrev pub members_of : {A : Type 0} → PlainTable (OneWord K) A ⊤ → Front → List Place
+  abbrev pub members_of : {A : Type 0} → PlainTable (OneWord K ℕ) A ⊤ → Front → List Place
   members_of links list = members successor (plain_table links) list
 
 module _ {T : Type 0} where
@@ -70,7 +68,7 @@ pub record IsCounted {T : Type 0} (objects : Objects (Slot T)) (len : ℕ) : Typ
 
 -- `Slots` maintains these facts. The list has exactly the slots without a value whose generation is not the last one. The table covers the place of each
 -- slot. `len` is the number of slots with a value
-pub record IsKept {T K A : Type 0} (objects : Objects (Slot T)) (links : PlainTable (OneWord K) A ⊤) (vacant : Front) (len : ℕ) : Type 0 where
+pub record IsKept {T K A : Type 0} (objects : Objects (Slot T)) (links : PlainTable (OneWord K ℕ) A ⊤) (vacant : Front) (len : ℕ) : Type 0 where
   pub holds : Holds (Represents successor) is_linked plain_table members_of links (alone (list_from None) vacant) (owner_of vacant_owner objects)
   pub pooled : IsPooled is_linked objects (plain_table links)
   pub counted : IsCounted objects len

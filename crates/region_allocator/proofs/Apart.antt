@@ -1,7 +1,6 @@
 -- Lemmas about lists of regions that are apart: what holds if a region is added, removed or replaced, and which addresses are then free.
-use Rattle.std.proofs.Common.{◌≡◌, ℕ, ◌<◌, ◌≤◌, ◌⊎◌, ◌↔◌, inl, inr, List, [], ◌∷◌, ◌++◌, map, refl, arith}
+use Rattle.std.proofs.Common.{◌≡◌, ℕ, ◌<◌, ◌≤◌, ◌⊎◌, ◌↔◌, inl, inr, List, [], ◌∷◌, ◌++◌, map, refl, arith, nat_cmp}
 use Rattle.std.specs.List.{AllByRecursion}
-use Rattle.std.specs.Ordering.{nat_cmp}
 use Rattle.ic_link_ops.proofs.Each.{all_map, all_front, all_back, all_with, all_without}
 use Rattle.ic_rbtree.specs.Borders.{IsSorted}
 use Rattle.ic_rbtree.proofs.SortedKeys.{is_up}

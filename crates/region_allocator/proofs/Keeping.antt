@@ -1,38 +1,25 @@
 -- Lemmas which say that each call of an allocator maintains `Keeps`, how the allocator's regions change, and what its searches find.
-use Rattle.std.proofs.Common.{◌≡◌, ◌≢◌, ◌<◌, ◌↔◌, ℕ, nat_lt, map, Option, Some, None, IsSome, List, [], ◌∷◌, ◌++◌, refl, sym, ap, ◌∙◌, subst, arith, true≢false, ◌≤◌, ◌-◌, Bool, true, false, cond}
+use Rattle.std.proofs.Common.{◌≡◌, ◌≢◌, ◌<◌, ◌↔◌, ℕ, nat_lt, map, Option, Some, None, IsSome, List, [], ◌∷◌, ◌++◌, refl, sym, ap, ◌∙◌, subst, arith, true≢false, ◌≤◌, ◌-◌, Bool, true, false, cond, nat_cmp, is_ge}
 use Rattle.std.proofs.lemmas.Bool.{lt-ltb, not-true, not-false, ltb-true, ltb-false}
 use Rattle.std.proofs.lemmas.Bool.Decides.{nat_tests}
 use Rattle.std.proofs.lemmas.List.Elements.{filter_map-append}
 use Rattle.std.specs.List.{AllByRecursion, cons_option, filter}
-use Rattle.std.specs.Ordering.{nat_cmp, is_ge}
-use Rattle.ic_link_ops.specs.Prelude.{Place, index_of, Objects, Places, Frees, object_at, with_object, Cut, join, first, last, but_last, LinksAlso, Unlinks, HasMember, ArePlaced, values_at}
-use Rattle.ic_unsafe_ref.proofs.Placing.{placed_there, others_placed, gone_there, others_left, put_there, put_others, puts_other}
+use Rattle.ic_link_ops.specs.Prelude.{Place, index_of, Objects, Places, Frees, object_at, with_object, Cut, join, first, last, but_last, LinksAlso, Unlinks, HasMember, ArePlaced, values_at, wide, times_in}
+use Rattle.ic_link_ops.proofs.Prelude.{placed_there, others_placed, gone_there, others_left, put_there, put_others, puts_other, kept_represented, all_map, all_both, all_front, all_back, no_root, no_members, one_sequence, nothing_last, split_last, first_placed, last_placed}
 use Rattle.ic_link_ops.specs.EntryLaws.{linked_in_range}
-use Rattle.ic_link_ops.specs.Widths.{wide}
 use Rattle.ic_link_ops.specs.ThreeWords.{no_words, has_link, node_of}
-use Rattle.ic_link_ops.specs.Times.{times_in}
-use Rattle.ic_link_ops.proofs.CollectionLaws.{kept_represented}
-use Rattle.ic_link_ops.proofs.Each.{all_map, all_both, all_front, all_back}
 use Rattle.ic_link_ops.proofs.LinkedSets.{everywhere}
-use Rattle.ic_link_ops.proofs.RepresentedTrees.{no_root, no_members, one_sequence}
-use Rattle.ic_link_ops.proofs.SequenceLemmas.{nothing_last, split_last}
-use Rattle.ic_link_ops.proofs.PlacedEnds.{first_placed, last_placed}
 use Rattle.ic_pool.specs.Pooled.{Grows}
 use Rattle.ic_pool.proofs.Pooling.{pooled_first}
-use Rattle.ic_rbtree.specs.Borders.{IsSorted, IsBorder}
-use Rattle.ic_rbtree.specs.Closed.{IsNode}
-use Rattle.ic_rbtree.specs.Comparing.{compared, own_order, answer_at, order_of, is_beyond}
+use Rattle.ic_rbtree.specs.Prelude.{IsSorted, IsBorder, IsNode, compared, own_order, answer_at, order_of, is_beyond, InsertsInOrder, TreeLinkOps, PlainRepresents, is_linked, plain_table}
 use Rattle.ic_rbtree.specs.EachObject.{HasEach}
-use Rattle.ic_rbtree.specs.Ordered.{InsertsInOrder}
-use Rattle.ic_rbtree.specs.PlainTrees.{TreeLinkOps, PlainRepresents, is_linked, plain_table}
 use Rattle.ic_rbtree.specs.declared.keys.key_adapter.Bound.TheVariants.{Included}
 use Rattle.ic_rbtree.proofs.EachObject.{each_none, each_covered, each_new, each_member, each_value, at_each, each_taken, each_changed}
 use Rattle.ic_rbtree.proofs.PlainTrees.{plain_members, plain_trees}
 use Rattle.ic_rbtree.proofs.SortedKeys.{front_is_least}
-use Rattle.ic_augmented.specs.Consistent.{IsConsistent, RepresentsConsistent}
+use Rattle.ic_augmented.specs.Prelude.{IsConsistent, RepresentsConsistent, blank, room_of}
 use Rattle.ic_augmented.specs.Greatest.{greatest, greatest_of, number_at, is_greater}
 use Rattle.ic_augmented.specs.Pooled.{GrowsSummed}
-use Rattle.ic_augmented.specs.AugmentedTables.{blank, room_of}
 use Rattle.ic_augmented.specs.declared.augmented_table.Cell.{Cell}
 use Rattle.ic_augmented.specs.declared.augmented_table.AugmentedTable.{AugmentedTable}
 use Rattle.ic_augmented.proofs.PooledTrees.{grown_consistent, inserts_represented, consistent_in, numbers_stay}

@@ -1,13 +1,9 @@
 -- The facts that an allocator maintains for its objects, their links and lengths, and its tree.
 use Rattle.std.specs.Prelude.{◌≡◌, ℕ, ◌^◌, leb, Option, Some, List}
-use Rattle.ic_link_ops.specs.Prelude.{Place, Objects, object_at, values_at}
-use Rattle.ic_link_ops.specs.ThreeWords.{node_of}
-use Rattle.ic_rbtree.specs.PlainTrees.{TreeLinkOps, PlainRepresents, plain_table, members_of}
-use Rattle.ic_rbtree.specs.Tree.{root_of}
+use Rattle.ic_link_ops.specs.Prelude.{Place, Objects, object_at, values_at, node_of}
+use Rattle.ic_rbtree.specs.Prelude.{TreeLinkOps, PlainRepresents, plain_table, members_of, root_of}
 use Rattle.ic_rbtree.specs.EachObject.{HasEach}
-use Rattle.ic_augmented.specs.Consistent.{IsConsistent}
-use Rattle.ic_augmented.specs.Greatest.{greatest, number_at}
-use Rattle.ic_augmented.specs.Augmented.{links_of, summaries_of}
+use Rattle.ic_augmented.specs.Prelude.{IsConsistent, greatest, number_at, links_of, summaries_of}
 use Rattle.ic_augmented.specs.declared.augmented_table.AugmentedTable.{AugmentedTable}
 use Rattle.region_allocator.specs.declared.region.Region.{Region}
 use Rattle.region_allocator.specs.declared.free_regions.FreeRegions.{FreeRegions}

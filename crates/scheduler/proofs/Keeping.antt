@@ -1,30 +1,23 @@
 -- Lemmas which say that each call of a scheduler maintains `IsKept`, and how the schedule of the scheduler changes.
-use Rattle.std.proofs.Common.{◌≡◌, ◌≢◌, ℕ, ◌≤◌, ◌<◌, ◌^◌, true, false, leb, Option, Some, None, is_some, Result, Ok, Err, OnOk, OnErr, ◌↔◌, List, [], ◌∷◌, ◌++◌, length, map, drop, filter, refl, sym, ap, ◌∙◌, subst, arith, append-nil, slice_index_or, true≢false}
+use Rattle.std.proofs.Common.{◌≡◌, ◌≢◌, ℕ, ◌≤◌, ◌<◌, ◌^◌, true, false, leb, Option, Some, None, is_some, Result, Ok, Err, OnOk, OnErr, ◌↔◌, List, [], ◌∷◌, ◌++◌, length, map, drop, filter, refl, sym, ap, ◌∙◌, subst, arith, append-nil, slice_index_or, true≢false, nat_cmp}
 use Rattle.std.proofs.Math.ListN.{get_or-map}
 use Rattle.std.proofs.lemmas.Bool.{lt-leb}
 use Rattle.std.proofs.lemmas.Bool.Decides.{nat_tests}
 use Rattle.std.proofs.lemmas.Cmp.{nat_cmp_total}
 use Rattle.std.specs.List.{AllByRecursion}
-use Rattle.std.specs.Ordering.{nat_cmp}
-use Rattle.ic_link_ops.specs.Prelude.{Place, Objects, Places, Frees, object_at, is_placed, at_front, first, IsAbsent, IsMember, IsDisjoint, IsLinked, IsUnlinked, ChangesOnlyIn, LinksAlso, Unlinks, values_at}
-use Rattle.ic_unsafe_ref.proofs.Placing.{others_placed, gone_there, others_left}
-use Rattle.ic_link_ops.specs.Chains.{Ends, no_members}
+use Rattle.ic_link_ops.specs.Prelude.{Place, Objects, Places, Frees, object_at, is_placed, at_front, first, IsAbsent, IsMember, IsDisjoint, IsLinked, IsUnlinked, ChangesOnlyIn, LinksAlso, Unlinks, values_at, Ends, no_members, Removes}
+use Rattle.ic_link_ops.proofs.Prelude.{others_placed, gone_there, others_left, new_represents_nothing, kept_represented, nothing_first}
 use Rattle.ic_link_ops.specs.NumberedCollections.{with_at}
-use Rattle.ic_link_ops.specs.Edits.{Removes}
 use Rattle.ic_link_ops.proofs.Calling.{accepted}
-use Rattle.ic_link_ops.proofs.CollectionLaws.{new_represents_nothing, kept_represented}
 use Rattle.ic_link_ops.proofs.Covering.{still_covered}
 use Rattle.ic_link_ops.proofs.LinkedSets.{everywhere}
 use Rattle.ic_link_ops.proofs.NumberedCollections.{at_number, at_others, numbered_none, numbered_covered, numbered_beside, numbered_pushed, numbered_first, numbered_own, numbered_taken, numbered_apart, numbered_free}
 use Rattle.ic_link_ops.proofs.PlacedValues.{few_values}
-use Rattle.ic_link_ops.proofs.SequenceLemmas.{nothing_first}
 use Rattle.ic_link_ops.proofs.TwoFields.{once_covered, once_placed, once_moved, once_taken, unlinked_first, unlinked_vacant, unlinked_second}
 use Rattle.ic_pool.specs.Pooled.{Grows}
 use Rattle.ic_container.proofs.HoldsLemmas.{list_off}
 use Rattle.ic_container.proofs.TreeLemmas.{tree_off}
-use Rattle.ic_rbtree.specs.Borders.{IsSorted, if_passes}
-use Rattle.ic_rbtree.specs.Ordered.{InsertsInOrder}
-use Rattle.ic_rbtree.specs.SortedObjects.{against, key_at, RepresentsSorted}
+use Rattle.ic_rbtree.specs.Prelude.{IsSorted, if_passes, InsertsInOrder, against, key_at, RepresentsSorted}
 use Rattle.ic_rbtree.specs.SortedValues.{HasSorted}
 use Rattle.ic_rbtree.proofs.Passing.{passed}
 use Rattle.ic_rbtree.proofs.PlainTrees.{plain_members, plain_trees}

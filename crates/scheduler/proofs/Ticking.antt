@@ -1,9 +1,8 @@
 -- Lemmas about lists of tasks that are sorted by their deadlines, and about a tick that moves one task after the other.
-use Rattle.std.proofs.Common.{◌≡◌, ℕ, ◌<◌, Bool, true, false, List, [], ◌∷◌, ◌++◌, filter, refl, sym, ap, ◌∙◌, arith, append-nil, ◌+◌, ◌≤◌, not, length, subst, append_assoc, length-append}
+use Rattle.std.proofs.Common.{◌≡◌, ℕ, ◌<◌, Bool, true, false, List, [], ◌∷◌, ◌++◌, filter, refl, sym, ap, ◌∙◌, arith, append-nil, ◌+◌, ◌≤◌, not, length, subst, append_assoc, length-append, nat_cmp}
 use Rattle.std.proofs.lemmas.List.Elements.{filter-append}
 use Rattle.std.proofs.lemmas.Bool.Decides.{nat_tests}
 use Rattle.std.specs.List.{AllByRecursion}
-use Rattle.std.specs.Ordering.{nat_cmp}
 use Rattle.ic_rbtree.specs.SortedValues.{InsertsValue}
 use Rattle.ic_rbtree.proofs.KeyLaws.{filter_front, filter_fail, filter_pass}
 use Rattle.ic_rbtree.proofs.SortedKeys.{sorted_filter}

@@ -1,23 +1,15 @@
 -- Lemmas about timers that are due and are removed, and about timers that still wait.
-use Rattle.std.proofs.Common.{◌≡◌, ℕ, ◌≤◌, ◌<◌, Bool, false, Option, Some, None, IfSome, List, [], ◌∷◌, sym, ap, ◌∙◌, arith, subst, leb, true, ◌++◌, length, drop, refl, append_assoc, append-nil}
+use Rattle.std.proofs.Common.{◌≡◌, ℕ, ◌≤◌, ◌<◌, Bool, false, Option, Some, None, IfSome, List, [], ◌∷◌, sym, ap, ◌∙◌, arith, subst, leb, true, ◌++◌, length, drop, refl, append_assoc, append-nil, nat_cmp}
 use Rattle.std.proofs.lemmas.Bool.Decides.{nat_tests}
 use Rattle.std.specs.List.{AllByRecursion}
-use Rattle.std.specs.Ordering.{nat_cmp}
-use Rattle.ic_link_ops.specs.Prelude.{Place, Objects, first, at_front, IsAbsent, Table, ChangesOnlyIn, IsCovered, object_there, CursorState, RepresentsAt, ArePlaced, values_at, LinkStep, releases, releases_each}
-use Rattle.ic_link_ops.proofs.Each.{all_map, all_both}
-use Rattle.ic_link_ops.proofs.SequenceLemmas.{some_same, absent_right, first_is}
-use Rattle.ic_rbtree.specs.Borders.{IsSorted, if_passes}
-use Rattle.ic_rbtree.specs.SortedObjects.{key_at, keys_at}
+use Rattle.ic_link_ops.specs.Prelude.{Place, Objects, first, at_front, IsAbsent, Table, ChangesOnlyIn, IsCovered, object_there, CursorState, RepresentsAt, ArePlaced, values_at, LinkStep, releases, releases_each, RemovesThere, Removes}
+use Rattle.ic_link_ops.proofs.Prelude.{all_map, all_both, some_same, absent_right, first_is, one_sequence, releases_append}
+use Rattle.ic_rbtree.specs.Prelude.{IsSorted, if_passes, key_at, keys_at, members}
 use Rattle.scheduler.specs.Timers.{due, is_due, ComesFirst}
 use Rattle.ic_rbtree.proofs.Passing.{passed}
 use Rattle.ic_rbtree.proofs.SortedKeys.{first_is_least}
-use Rattle.ic_link_ops.specs.EditsAt.{RemovesThere}
 use Rattle.ic_link_ops.specs.RedBlackTree.{Node, Represents}
-use Rattle.ic_link_ops.proofs.RepresentedTrees.{one_sequence}
-use Rattle.ic_link_ops.specs.Edits.{Removes}
 use Rattle.ic_link_ops.proofs.Covering.{frames_join}
-use Rattle.ic_link_ops.proofs.StepLemmas.{releases_append}
-use Rattle.ic_rbtree.specs.Members.{members}
 use Rattle.ic_rbtree.proofs.Members.{members_represented}
 
 module _ {T : Type 0} (deadline : T → ℕ) (objects : Objects T) where

@@ -1,8 +1,7 @@
 -- The facts that a scheduler maintains for its objects, its two tables, its tree and its lists.
 use Rattle.std.specs.Prelude.{◌≡◌, ℕ, ◌^◌, ◌<◌, true, leb, Option, List, map, slice_index_or}
 use Rattle.std.specs.Ordering.{nat_cmp}
-use Rattle.ic_link_ops.specs.Prelude.{Place, index_of, Objects, is_placed, IsCovered, values_at}
-use Rattle.ic_link_ops.specs.Chains.{Ends, no_members}
+use Rattle.ic_link_ops.specs.Prelude.{Place, index_of, Objects, is_placed, IsCovered, values_at, Ends, no_members}
 use Rattle.ic_link_ops.specs.DoublyEntries as lists
 use Rattle.ic_link_ops.specs.NumberedCollections.{HasNumbered}
 use Rattle.ic_link_ops.specs.TwoFields.{IsLinkedOnce}

@@ -9,8 +9,7 @@ ghost use Rattle.std.specs.Bool.{OnTrue, OnFalse};
 ghost use Rattle.std.specs.List.{AllByRecursion};
 ghost use Rattle.ic_link_ops.specs.Prelude.{Place, first};
 ghost use Rattle.ic_rbtree.specs.CursorMut.{tree_of, links_of, position, SameBorrows};
-ghost use Rattle.ic_rbtree.specs.PlainTrees.{PlainRepresents};
-ghost use Rattle.ic_rbtree.specs.Tree.{root_of};
+ghost use Rattle.ic_rbtree.specs.Prelude.{PlainRepresents, root_of};
 ghost use Rattle.scheduler.specs.Kept.{schedule_of, IsKept};
 ghost use Rattle.scheduler.specs.Schedule.{IsUnchanged, Ticks, MovesFirst, is_due};
 

@@ -1,8 +1,7 @@
 //! The eight queues of a scheduler, which are lists over one table of links.
 
 ghost use Rattle.std.specs.Prelude.{◌≡◌, ◌≢◌, ◌++◌, ◌∷◌, [], ℕ, List, IfSome, IfNone};
-ghost use Rattle.ic_link_ops.specs.Prelude.{Place, first, remove, at_front, IsCovered, IsUnlinked, ChangesOnlyIn, LinksAlso, Unlinks};
-ghost use Rattle.ic_link_ops.specs.Chains.{no_members};
+ghost use Rattle.ic_link_ops.specs.Prelude.{Place, first, remove, at_front, IsCovered, IsUnlinked, ChangesOnlyIn, LinksAlso, Unlinks, no_members};
 ghost use Rattle.ic_link_ops.specs.DoublyEntries.{is_linked, plain_table, PlainRepresents, PlainRepresentsSome};
 ghost use Rattle.scheduler.specs.Kept.{list_at};
 

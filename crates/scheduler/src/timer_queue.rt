@@ -12,13 +12,10 @@
 ghost use Rattle.std.specs.Prelude.{◌≡◌, ◌++◌, ◌∷◌, [], ◌≤◌, ◌<◌, true, List, OnOk, OnErr, OnSome, IfErr, IfSome, IfNone, vec_len, vec_capacity};
 ghost use Rattle.std.specs.List.{AllByRecursion};
 ghost use Rattle.std.specs.Option.{option_copied};
-ghost use Rattle.ic_link_ops.specs.Prelude.{Place, is_placed, first, at_front, IsCovered, ChangesOnlyIn, HasMember, RepresentsAt, acquires, releases, releases_each};
-ghost use Rattle.ic_link_ops.specs.Edits.{Removes};
+ghost use Rattle.ic_link_ops.specs.Prelude.{Place, is_placed, first, at_front, IsCovered, ChangesOnlyIn, HasMember, RepresentsAt, acquires, releases, releases_each, Removes};
 ghost use Rattle.ic_link_ops.specs.RedBlackTree.{Represents};
 ghost use Rattle.ic_rbtree.specs.CursorMut.{tree_of, links_of, site_of, SameBorrows};
-ghost use Rattle.ic_rbtree.specs.Tree.{root_of};
-ghost use Rattle.ic_rbtree.specs.Borders.{if_passes};
-ghost use Rattle.ic_rbtree.specs.Ordered.{InsertsInOrder};
+ghost use Rattle.ic_rbtree.specs.Prelude.{root_of, if_passes, InsertsInOrder};
 ghost use Rattle.ic_rbtree.specs.SortedObjects.{against, key_at, RepresentsSorted, StaysSorted};
 ghost use Rattle.scheduler.specs.Timers.{due, is_due, handed_back, ComesFirst, IsAtFront};
 

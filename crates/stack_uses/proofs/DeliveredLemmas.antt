@@ -16,15 +16,13 @@ use Rattle.ic_lock_free_stack.specs.declared.step.Step.{Step}
 use Rattle.ic_lock_free_stack.specs.declared.step.Step.TheVariants.{Claim, Release, Push, TakeAll}
 use Rattle.ic_lock_free_stack.specs.declared.step.Entry.{Entry}
 use Rattle.ic_lock_free_stack.specs.Moments.{Moment, nowhere, is_nowhere, is_stacked, at_first, same, is_in, moves, goes, after, Fits, IsLegal, steps_of, stack_after}
-use Rattle.ic_lock_free_stack.specs.OneHistory.{IsSound, IsSeen, GoesOn, Party, IsHistory}
+use Rattle.ic_lock_free_stack.specs.Prelude.{IsSound, IsSeen, GoesOn, Party, IsHistory, IsOf, Steps, name_of, record_of, seen_of, party_of, sent, got, of_record}
 use Rattle.ic_lock_free_stack.specs.Counts.{OneStepOn}
 use Rattle.ic_lock_free_stack.specs.declared.stacks.Stacks.{Stacks}
 use Rattle.ic_lock_free_stack.specs.declared.stacks.Holder.{Holder}
-use Rattle.ic_lock_free_stack.specs.Holders.{IsOf, Steps, name_of, record_of, seen_of, party_of}
 use Rattle.ic_lock_free_stack.proofs.HolderLemmas.{one_sequence}
 use Rattle.ic_lock_free_stack.proofs.CountLemmas.{in_turn}
 use Rattle.ic_lock_free_stack.proofs.LawLemmas.{take_more}
-use Rattle.ic_lock_free_stack.specs.Orders.{sent, got, of_record}
 use Rattle.ic_lock_free_stack.proofs.MomentLemmas.{by_test, one_place, same_place, in_here, in_rest, sound_after}
 use Rattle.ic_lock_free_stack.proofs.Lists.{at_or, at_inside, all_each, named_apart, contains_at}
 use Rattle.stack_uses.specs.Mail.{Letter, sent_from, IsMail, HasReceived, HasOpened}

@@ -6,9 +6,7 @@ use Rattle.std.proofs.lemmas.Grind.{flat_map-append}
 use Rattle.ic_unsafe_ref.specs.declared.place.Place.{Place}
 use Rattle.ic_lock_free_stack.specs.declared.step.Step.{Step}
 use Rattle.ic_lock_free_stack.specs.declared.step.Entry.{Entry}
-use Rattle.ic_lock_free_stack.specs.Moments.{steps_of, stack_after}
-use Rattle.ic_lock_free_stack.specs.OneHistory.{Party, IsHistory}
-use Rattle.ic_lock_free_stack.specs.Orders.{sent, got, of_record, of_history}
+use Rattle.ic_lock_free_stack.specs.Prelude.{steps_of, stack_after, Party, IsHistory, sent, got, of_record, of_history}
 use Rattle.ic_lock_free_stack.proofs.MomentLemmas.{by_test}
 use Rattle.ic_lock_free_stack.proofs.OrderLemmas.{comes_in_turn}
 use Rattle.stack_uses.specs.Mail.{Letter, sent_from, IsOnlyReceiver, IsMail}

@@ -1,6 +1,5 @@
 -- Lemmas about the calls of a receiver: which places it has returned after one further call.
-use Rattle.std.proofs.Common.{◌≡◌, ℕ, ◌+◌, ◌<◌, Bool, true, false, true≢false, Option, Some, None, List, [], ◌∷◌, ◌++◌, drop, reverse, refl, sym, ap, ◌∙◌, subst, append_assoc, append-nil, eq-eqb}
-use Rattle.std.specs.Prelude.{IfSome, IfNone}
+use Rattle.std.proofs.Common.{◌≡◌, ℕ, ◌+◌, ◌<◌, Bool, true, false, true≢false, Option, Some, None, List, [], ◌∷◌, ◌++◌, drop, reverse, refl, sym, ap, ◌∙◌, subst, append_assoc, append-nil, eq-eqb, IfSome, IfNone}
 use Rattle.std.specs.Bool.{OnTrue, OnFalse}
 use Rattle.std.proofs.lemmas.List.{reverse-append}
 use Rattle.ic_unsafe_ref.specs.declared.place.Place.{Place}
@@ -10,12 +9,7 @@ use Rattle.ic_lock_free_stack.specs.declared.step.Step.TheVariants.{Push, TakeAl
 use Rattle.ic_lock_free_stack.specs.declared.stacks.Stacks.{Stacks}
 use Rattle.ic_lock_free_stack.specs.declared.stacks.Holder.{Holder}
 use Rattle.ic_lock_free_stack.specs.declared.stacks.Chain.{Chain}
-use Rattle.ic_lock_free_stack.specs.Moments.{is_in}
-use Rattle.ic_lock_free_stack.specs.Records.{holds, on_head, pushes_and_takes}
-use Rattle.ic_lock_free_stack.specs.OneHistory.{GoesOn}
-use Rattle.ic_lock_free_stack.specs.Ends.{first, last}
-use Rattle.ic_lock_free_stack.specs.Orders.{sent, got, of_record}
-use Rattle.ic_lock_free_stack.specs.Holders.{places_of, name_of, record_of, seen_of, Steps, Stays, IsOf, HasChain}
+use Rattle.ic_lock_free_stack.specs.Prelude.{is_in, holds, on_head, pushes_and_takes, GoesOn, first, last, sent, got, of_record, places_of, name_of, record_of, seen_of, Steps, Stays, IsOf, HasChain}
 use Rattle.ic_lock_free_stack.proofs.MomentLemmas.{by_test}
 use Rattle.ic_lock_free_stack.proofs.HolderLemmas.{one_sequence}
 use Rattle.ic_lock_free_stack.proofs.PushLemmas.{from_first}

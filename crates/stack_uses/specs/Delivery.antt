@@ -7,8 +7,7 @@ use Rattle.ic_lock_free_stack.specs.declared.step.Step.{Step}
 use Rattle.ic_lock_free_stack.specs.declared.step.Step.TheVariants.{Claim, Release, Push, TakeAll}
 use Rattle.ic_lock_free_stack.specs.declared.stacks.Stacks.{Stacks}
 use Rattle.ic_lock_free_stack.specs.declared.stacks.Holder.{Holder}
-use Rattle.ic_lock_free_stack.specs.Orders.{got, of_record}
-use Rattle.ic_lock_free_stack.specs.Holders.{places_of, stacks_of, record_of, spent_by, IsOf}
+use Rattle.ic_lock_free_stack.specs.Prelude.{got, of_record, places_of, stacks_of, record_of, spent_by, IsOf}
 use Rattle.stack_uses.specs.Mail.{steps_to_send}
 use Rattle.stack_uses.specs.declared.delivery.Sender.{Sender}
 

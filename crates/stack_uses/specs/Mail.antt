@@ -6,11 +6,7 @@ use Rattle.ic_lock_free_stack.specs.declared.step.Step.{Step}
 use Rattle.ic_lock_free_stack.specs.declared.step.Step.TheVariants.{Claim, Push}
 use Rattle.ic_lock_free_stack.specs.declared.stacks.Stacks.{Stacks}
 use Rattle.ic_lock_free_stack.specs.declared.stacks.Holder.{Holder}
-use Rattle.ic_lock_free_stack.specs.Moments.{is_in}
-use Rattle.ic_lock_free_stack.specs.Records.{holds}
-use Rattle.ic_lock_free_stack.specs.OneHistory.{Party}
-use Rattle.ic_lock_free_stack.specs.Orders.{sent, got, of_record}
-use Rattle.ic_lock_free_stack.specs.Holders.{places_of, stacks_of, record_of, IsOf, HasChain}
+use Rattle.ic_lock_free_stack.specs.Prelude.{is_in, holds, Party, sent, got, of_record, places_of, stacks_of, record_of, IsOf, HasChain}
 use Rattle.stack_uses.specs.declared.mailbox.Receiver.{Receiver}
 
 -- `holder_of` returns a receiver's holder. `box_of` returns the number of the stack that is its mailbox

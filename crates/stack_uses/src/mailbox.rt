@@ -18,11 +18,7 @@ ghost use Rattle.ic_unsafe_ref.specs.declared.place.Place.{Place};
 ghost use Rattle.ic_unsafe_ref.specs.Places.{index_of};
 ghost use Rattle.ic_lock_free_stack.specs.declared.step.Entry.{Entry};
 ghost use Rattle.ic_lock_free_stack.specs.declared.step.Step.TheVariants.{TakeAll};
-ghost use Rattle.ic_lock_free_stack.specs.Moments.{stack_after};
-ghost use Rattle.ic_lock_free_stack.specs.Records.{most_steps, GivesUp};
-ghost use Rattle.ic_lock_free_stack.specs.OneHistory.{Party, IsHistory};
-ghost use Rattle.ic_lock_free_stack.specs.Orders.{got, of_record};
-ghost use Rattle.ic_lock_free_stack.specs.Holders.{places_of, stacks_of, name_of, record_of, spent_by, IsOf, Steps};
+ghost use Rattle.ic_lock_free_stack.specs.Prelude.{stack_after, most_steps, GivesUp, Party, IsHistory, got, of_record, places_of, stacks_of, name_of, record_of, spent_by, IsOf, Steps};
 ghost use Rattle.stack_uses.specs.Mail.{holder_of, box_of, sent_by, steps_to_send, HasReceived, HasOpened, IsOut, IsOnlyReceiver, IsMail};
 
 use ic_lock_free_stack::{Chain, Holder, Stacks};

@@ -16,9 +16,7 @@ ghost use Rattle.std.specs.Bool.{OnTrue, OnFalse};
 ghost use Rattle.ic_unsafe_ref.specs.declared.place.Place.{Place};
 ghost use Rattle.ic_unsafe_ref.specs.Places.{index_of};
 ghost use Rattle.ic_lock_free_stack.specs.declared.step.Step.TheVariants.{Push, TakeAll};
-ghost use Rattle.ic_lock_free_stack.specs.Moments.{is_in, same};
-ghost use Rattle.ic_lock_free_stack.specs.Records.{holds, most_steps, GivesUp};
-ghost use Rattle.ic_lock_free_stack.specs.Holders.{places_of, stacks_of, record_of, spent_by, Steps, IsOf, HasChain, KeepsChains};
+ghost use Rattle.ic_lock_free_stack.specs.Prelude.{is_in, same, holds, most_steps, GivesUp, places_of, stacks_of, record_of, spent_by, Steps, IsOf, HasChain, KeepsChains};
 ghost use Rattle.stack_uses.specs.Frees.{user_of, stack_of, HasFree};
 
 use ic_lock_free_stack::{Chain, Holder, Stacks};

@@ -1,7 +1,6 @@
 -- Lemmas on a list that has an object at each member, and on a second list, which is empty.
 use Rattle.std.proofs.Common.{◌≡◌, ◌<◌, ℕ, Option, [], refl, ap, ◌∙◌, subst}
-use Rattle.ic_link_ops.specs.Prelude.{Place, index_of, Objects, Extent, Table, IsCovered, RepresentsPlaced}
-use Rattle.ic_link_ops.specs.Chains.{ListHead, RepresentsChain, RepresentsSomeChain, empty_list}
+use Rattle.ic_link_ops.specs.Prelude.{Place, index_of, Objects, Extent, Table, IsCovered, RepresentsPlaced, ListHead, RepresentsChain, RepresentsSomeChain, empty_list}
 use Rattle.ic_link_ops.proofs.SequenceLemmas.{disjoint_nothing}
 use Rattle.ic_list_algorithms.specs.Runs.{TwoRepresented}
 use Rattle.ic_list_algorithms.specs.TwoLists.{TwoLists}

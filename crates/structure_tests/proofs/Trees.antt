@@ -1,10 +1,8 @@
 -- If there is an object at each covered place, then there is an object at each member of a tree.
 use Rattle.std.proofs.Common.{◌≡◌, true, Option, None, List, [], ◌∷◌, refl}
 use Rattle.std.specs.List.{AllByRecursion}
-use Rattle.ic_link_ops.specs.Prelude.{Place, index_of, Objects, is_placed, IsCovered, ArePlaced, RepresentsPlaced}
+use Rattle.ic_link_ops.specs.Prelude.{Place, index_of, Objects, is_placed, IsCovered, ArePlaced, RepresentsPlaced, link_of, entries, linked_by}
 use Rattle.ic_link_ops.specs.EntryLaws.{linked_in_range}
-use Rattle.ic_link_ops.specs.Links.{link_of}
-use Rattle.ic_link_ops.specs.PlainTables.{entries, linked_by}
 use Rattle.ic_link_ops.specs.ThreeWords.{no_words, has_link, node_of}
 use Rattle.ic_link_ops.proofs.Trees.{tree_covered}
 use Rattle.ic_rbtree.specs.PlainTrees.{TreeLinkOps, plain_table, PlainRepresents, PlainRepresentsSome}

@@ -1,7 +1,6 @@
 -- Each call in the tests of rings maintains these facts: a table covers eight places, and represents two rings that share no place.
 use Rattle.std.specs.Prelude.{◌≡◌, List, ◌∷◌}
-use Rattle.ic_link_ops.specs.Prelude.{Place, IsAbsent, Table}
-use Rattle.ic_link_ops.specs.LinkedList.{Neighbors}
+use Rattle.ic_link_ops.specs.Prelude.{Place, IsAbsent, Table, Neighbors}
 use Rattle.ic_ring.specs.Rings.{InRing, Represents}
 
 -- the table `t` covers eight places, and represents two rings that share no place. The heads of the rings are `ring` and `other`

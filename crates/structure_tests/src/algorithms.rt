@@ -1,8 +1,7 @@
 //! Tests of the algorithms over lists. Each algorithm is called on a list of eight objects, for every kind of list that has the algorithm.
 
 ghost use Rattle.std.specs.Prelude.{◌≡◌, ◌<◌, ◌≤◌, List, length, true};
-ghost use Rattle.ic_link_ops.specs.Prelude.{Place, index_of, is_placed};
-ghost use Rattle.ic_link_ops.specs.Chains.{RepresentsChain, RepresentsSomeChain};
+ghost use Rattle.ic_link_ops.specs.Prelude.{Place, index_of, is_placed, RepresentsChain, RepresentsSomeChain};
 ghost use Rattle.ic_list_algorithms.specs.Runs.{WithinComparisonBound};
 ghost use Rattle.structure_tests.specs.OfEight.{HoldsOfEight};
 

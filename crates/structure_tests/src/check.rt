@@ -2,12 +2,9 @@
 //! list that is read from a file is used only after a check has accepted it.
 
 ghost use Rattle.std.specs.Prelude.{◌≡◌, ◌<◌, ◌≤◌, length, IfSome};
-ghost use Rattle.ic_link_ops.specs.Prelude.{index_of, IsNameable};
+ghost use Rattle.ic_link_ops.specs.Prelude.{index_of, IsNameable, table, HasRoom, wide};
 ghost use Rattle.ic_link_ops.specs.DoublyEntries as doubly;
-ghost use Rattle.ic_link_ops.specs.PlainTables.{table};
-ghost use Rattle.ic_link_ops.specs.Widths.{HasRoom, wide};
-ghost use Rattle.ic_rbtree.specs.PlainTrees.{PlainRepresentsSome};
-ghost use Rattle.ic_rbtree.specs.Tree.{root_of};
+ghost use Rattle.ic_rbtree.specs.Prelude.{PlainRepresentsSome, root_of};
 
 use crate::asserts::assert_true;
 use ic_chain::LinkList;

@@ -2,8 +2,7 @@
 
 ghost use Rattle.std.specs.Prelude.{◌≡◌, [], All};
 ghost use Rattle.ic_link_ops.specs.DoublyEntries.{plain_table};
-ghost use Rattle.ic_atomic.specs.AtomicLinks.{links_of};
-ghost use Rattle.ic_atomic.specs.Holders.{places_of, record_of, IsOf};
+ghost use Rattle.ic_atomic.specs.Prelude.{links_of, places_of, record_of, IsOf};
 
 use crate::ring;
 use ic_atomic::linked_list::AtomicLinkOps;

@@ -6,9 +6,7 @@ use Rattle.ic_atomic.specs.declared.step.Event.{Event}
 use Rattle.ic_atomic.specs.declared.step.Step.TheVariants.{Claim}
 use Rattle.ic_atomic.specs.declared.claims.Claims.{Claims}
 use Rattle.ic_atomic.specs.declared.claims.Holder.{Holder}
-use Rattle.ic_atomic.specs.Records.{event, holds}
-use Rattle.ic_atomic.specs.OneList.{record_at, IsOneList}
-use Rattle.ic_atomic.specs.Holders.{holders_of, record_of, AreWholeList}
+use Rattle.ic_atomic.specs.Prelude.{event, holds, record_at, IsOneList, holders_of, record_of, AreWholeList}
 use Rattle.uses.specs.Race.{HasClaimed}
 use Rattle.ic_atomic.proofs.RecordLemmas.{holds_at}
 use Rattle.ic_atomic.proofs.LastStepLemmas.{same_last, snoc_not_nil, last_step}

@@ -1,9 +1,7 @@
 -- Lemmas about a walk that keeps the members that pass a test: one turn of its loop, and its end.
 use Rattle.std.proofs.Common.{◌≡◌, ◌<◌, ◌∙◌, sym, ap, inl, inr, Bool, true, false, true≢false, is_some, Option, Some, None, List, [], ◌∷◌, ◌++◌, length, refl, arith, append-nil, append_assoc}
-use Rattle.ic_link_ops.specs.Prelude.{Place, Objects, Cut, join, IsAfter, Table, IsCovered, CursorState, site, MovesOn, object_there, ArePlaced, LinkStep, releases_each}
-use Rattle.ic_link_ops.specs.Chains.{Ends}
+use Rattle.ic_link_ops.specs.Prelude.{Place, Objects, Cut, join, IsAfter, Table, IsCovered, CursorState, site, MovesOn, object_there, ArePlaced, LinkStep, releases_each, Ends, RemovesThere}
 use Rattle.ic_link_ops.specs.LinkedList.{Neighbors, Represents, members_between}
-use Rattle.ic_link_ops.specs.EditsAt.{RemovesThere}
 use Rattle.ic_link_ops.proofs.SequenceLemmas.{gap_after, none_not}
 use Rattle.ic_link_ops.proofs.DoublyLists.{members_after}
 use Rattle.ic_link_ops.proofs.EditingWalks.{Walked, walk_leaves, walk_takes}

@@ -1,7 +1,6 @@
 -- Lemmas on the removal of a job from a worker's list, if the job is linked in the worker's table.
 use Rattle.std.proofs.Common.{◌≡◌, List, ◌∷◌, ◌++◌, sym, ◌∙◌, subst, true≢false}
-use Rattle.ic_link_ops.specs.Prelude.{Place, Cut, join, insert, IsAbsent, IsMember, IsLinked, IsUnlinked, Unlinks}
-use Rattle.ic_link_ops.specs.Chains.{Ends}
+use Rattle.ic_link_ops.specs.Prelude.{Place, Cut, join, insert, IsAbsent, IsMember, IsLinked, IsUnlinked, Unlinks, Ends}
 use Rattle.ic_link_ops.specs.DoublyEntries.{DoublyLinkOps, is_linked, plain_table, PlainRepresents}
 use Rattle.ic_link_ops.proofs.LinkedSets.{everywhere}
 use Rattle.ic_link_ops.proofs.SequenceLemmas.{absent_with, member_split}

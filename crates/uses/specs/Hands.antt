@@ -1,5 +1,5 @@
 -- A walk is dealt to two vectors: items from its front are appended to one vector, and items from its back to the other.
-use Rattle.std.specs.Prelude.{◌≡◌, ◌⊎◌, Option, None, List, ◌++◌, length, take, drop}
+use Rattle.std.specs.Prelude.{◌≡◌, ◌⊎◌, ◌+◌, ◌≤◌, Option, None, Result, OnErr, List, ◌++◌, length, take, drop, Vec, vec_len, vec_capacity}
 use Rattle.ic_link_ops.specs.BothEnds.{Item, Leads, from_front, from_back}
 
 module _ {A : Type 0} where
@@ -10,6 +10,14 @@ module _ {A : Type 0} where
   -- the items that the vector `new` has after the items of `old`
   abbrev pub gained : List A → List A → List A
   gained old new = drop (length old) new
+
+-- Two vectors grow in turns: each keeps its items, and `fronts` gains as many items as `backs` or one more. If the result is an error, a vector has no room
+-- left. A name with a stroke is the vector after the call
+pub record GrowInTurns {X A E : Type 0} (fronts backs fronts' backs' : Vec X A) (result : Result Unit E) : Type 0 where
+  pub fronts_keep : Keeps fronts.items fronts'.items
+  pub backs_keep : Keeps backs.items backs'.items
+  pub turns : (vec_len backs' + vec_len fronts ≤ vec_len fronts' + vec_len backs) × (vec_len fronts' + vec_len backs ≤ vec_len backs' + vec_len fronts + 1)
+  pub refused : OnErr result ((vec_capacity fronts ≤ vec_len fronts') ⊎ (vec_capacity backs ≤ vec_len backs'))
 
 module _ {S A : Type 0} (next_gives next_back_gives : S → Option A → S → Type 0) where
   -- Calls to the walk led from its state `s` to its state `t`. The items that they returned from the front were appended to `fronts`, which gave

@@ -4,8 +4,7 @@ use Rattle.ic_link_ops.specs.Prelude.{Place, index_of}
 use Rattle.ic_atomic.specs.declared.step.Step.TheVariants.{Claim}
 use Rattle.ic_atomic.specs.declared.claims.Claims.{Claims}
 use Rattle.ic_atomic.specs.declared.claims.Holder.{Holder}
-use Rattle.ic_atomic.specs.Records.{event}
-use Rattle.ic_atomic.specs.Holders.{places_of, record_of, IsOf}
+use Rattle.ic_atomic.specs.Prelude.{event, places_of, record_of, IsOf}
 
 -- the place is one of the places of `claims`, and the holder was made with `claims`
 pub record CanClaim {A : Type 0} (claims : Claims A) (place : Place) (holder : Holder) : Type 0 where

@@ -1,7 +1,6 @@
 -- A worker has a list of jobs, and claims the place of a job when it links the job.
 use Rattle.std.specs.Prelude.{List}
-use Rattle.ic_link_ops.specs.Prelude.{Place, IsAbsent, IsUnlinked}
-use Rattle.ic_link_ops.specs.Chains.{Ends}
+use Rattle.ic_link_ops.specs.Prelude.{Place, IsAbsent, IsUnlinked, Ends}
 use Rattle.ic_link_ops.specs.DoublyEntries.{DoublyLinkOps, is_linked, plain_table, PlainRepresents}
 
 -- THE LIST HAS ALL LINKED PLACES of the table: the table represents the sequence `s` for the list `jobs`, and no place outside `s` is linked

@@ -9,7 +9,7 @@ ghost use Rattle.std.specs.Prelude.{◌≡◌, ◌+◌, ◌≤◌, ◌⊎◌, �
 ghost use Rattle.std.specs.Iterator.{IsFinite};
 ghost use Rattle.ic_link_ops.specs.Prelude.{Place, RepresentsPlaced, values_at};
 ghost use Rattle.ic_link_ops.specs.LinkedList.{Represents, RepresentsSome};
-ghost use Rattle.uses.specs.Hands.{Keeps, gained, HasDealt, IsOver};
+ghost use Rattle.uses.specs.Hands.{gained, GrowInTurns, HasDealt, IsOver};
 
 use ic_link_ops::linked_list::LinkedListOps;
 use ic_linked_list::LinkedList;
@@ -60,12 +60,7 @@ pub fn deal<T, L: LinkedListOps, A: Allocator>(
     requires shown { RepresentsSome L.neighbors (L.table links.old) list }
     ensures dealt { (s : List Place) → Represents L.neighbors (L.table links.old) list s
         → OnOk result (gained fronts.old.items fronts.new.items ++ reverse (gained backs.old.items backs.new.items) ≡ s) }
-    ensures fronts_keep { Keeps fronts.old.items fronts.new.items }
-    ensures backs_keep { Keeps backs.old.items backs.new.items }
-    ensures turns { (vec_len backs.new + vec_len fronts.old ≤ vec_len fronts.new + vec_len backs.old)
-        × (vec_len fronts.new + vec_len backs.old ≤ vec_len backs.new + vec_len fronts.old + 1) }
-    ensures refused { OnErr result
-        ((vec_capacity fronts.old ≤ vec_len fronts.new) ⊎ (vec_capacity backs.old ≤ vec_len backs.new)) }
+    ensures grown { GrowInTurns fronts.old backs.old fronts.new backs.new result }
 {
     in_turns(list.into_iter(links), fronts, backs)
 }
@@ -85,12 +80,7 @@ pub fn show<'a, T, L: LinkedListOps, A: Allocator, B: Allocator>(
     ensures shows { (s : List Place) → Represents L.neighbors (L.table links.now) list.now s
         → OnOk result (map (λ x. x.now) (gained fronts.old.items fronts.new.items)
         ++ reverse (map (λ x. x.now) (gained backs.old.items backs.new.items)) ≡ values_at objects.now s) }
-    ensures fronts_keep { Keeps fronts.old.items fronts.new.items }
-    ensures backs_keep { Keeps backs.old.items backs.new.items }
-    ensures turns { (vec_len backs.new + vec_len fronts.old ≤ vec_len fronts.new + vec_len backs.old)
-        × (vec_len fronts.new + vec_len backs.old ≤ vec_len backs.new + vec_len fronts.old + 1) }
-    ensures refused { OnErr result
-        ((vec_capacity fronts.old ≤ vec_len fronts.new) ⊎ (vec_capacity backs.old ≤ vec_len backs.new)) }
+    ensures grown { GrowInTurns fronts.old backs.old fronts.new backs.new result }
 {
     in_turns(list.iter(links, objects), fronts, backs)
 }

@@ -7,8 +7,7 @@
 
 ghost use Rattle.std.specs.Prelude.{◌≡◌, ◌<◌, ◌∷◌, [], false, not, map, vec_len, All};
 ghost use Rattle.ic_unsafe_ref.specs.Places.{index_of};
-ghost use Rattle.ic_atomic.specs.Records.{holds};
-ghost use Rattle.ic_atomic.specs.Holders.{places_of, holders_of, record_of, IsOf};
+ghost use Rattle.ic_atomic.specs.Prelude.{holds, places_of, holders_of, record_of, IsOf};
 ghost use Rattle.uses.specs.Race.{CanClaim, HasClaimed};
 
 use ic_atomic::{Claims, Holder};

@@ -6,8 +6,7 @@
 //! ```
 
 ghost use Rattle.std.specs.Prelude.{◌≡◌, List, [], ◌∷◌, ◌++◌, IfSome, IfNone, OnOk, OnErr, IfErr};
-ghost use Rattle.ic_link_ops.specs.Prelude.{Place, first, insert, remove, at_front, at_back, IsCovered, releases_each};
-ghost use Rattle.ic_link_ops.specs.Chains.{no_members};
+ghost use Rattle.ic_link_ops.specs.Prelude.{Place, first, insert, remove, at_front, at_back, IsCovered, releases_each, no_members};
 ghost use Rattle.ic_link_ops.specs.LinkedList.{Represents, RepresentsSome};
 ghost use Rattle.uses.specs.Notes.{noted};
 ghost use Rattle.uses.specs.declared.recorded_table.Note.{Note};

@@ -10,12 +10,10 @@
 //! Each call takes the ring and returns a cursor that owns the ring. The cursor is on a node, or at null.
 
 ghost use Rattle.std.specs.Prelude.{◌≡◌, List, filter};
-ghost use Rattle.ic_link_ops.specs.Prelude.{Place, first, site, IsValidCursor};
-ghost use Rattle.ic_link_ops.specs.EditsAt.{RemovesThere};
+ghost use Rattle.ic_link_ops.specs.Prelude.{Place, first, site, IsValidCursor, RemovesThere};
 ghost use Rattle.ic_link_ops.specs.RedBlackTree.{Represents};
 ghost use Rattle.ic_rbtree.specs.CursorOwning.{tree_of, position, site_of};
-ghost use Rattle.ic_rbtree.specs.Tree.{root_of};
-ghost use Rattle.ic_rbtree.specs.SortedObjects.{RepresentsSorted};
+ghost use Rattle.ic_rbtree.specs.Prelude.{root_of, RepresentsSorted};
 ghost use Rattle.uses.specs.Ring.{point, is_from, is_at, is_below, first_round, last_round};
 
 use ic_link_ops::LinkOps;

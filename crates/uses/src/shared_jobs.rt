@@ -10,8 +10,7 @@ ghost use Rattle.std.specs.Bool.{OnTrue, OnFalse};
 ghost use Rattle.ic_link_ops.specs.Prelude.{Place, Cut, join, insert, IsCovered};
 ghost use Rattle.ic_link_ops.specs.DoublyEntries.{plain_table};
 ghost use Rattle.ic_atomic.specs.declared.step.Step.TheVariants.{Release};
-ghost use Rattle.ic_atomic.specs.AtomicLinks.{claims_of, record_in, links_of};
-ghost use Rattle.ic_atomic.specs.Records.{event, holds};
+ghost use Rattle.ic_atomic.specs.Prelude.{claims_of, record_in, links_of, event, holds};
 ghost use Rattle.uses.specs.SharedJobs.{HasAll};
 
 use ic_atomic::linked_list::AtomicLinkOps;

@@ -1,8 +1,7 @@
 //! The functions that the tests share. The functions make tables of a few places and objects, and return the indices of places.
 
 ghost use Rattle.std.specs.Prelude.{◌≡◌, true};
-ghost use Rattle.ic_link_ops.specs.Prelude.{index_of, is_placed, IsCovered};
-ghost use Rattle.ic_link_ops.specs.PlainTables.{table};
+ghost use Rattle.ic_link_ops.specs.Prelude.{index_of, is_placed, IsCovered, table};
 ghost use Rattle.ic_link_ops.specs.DoublyEntries.{plain_table};
 
 use ic_link_ops::linked_list::LinkOps;

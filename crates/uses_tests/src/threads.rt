@@ -3,8 +3,7 @@
 ghost use Rattle.std.specs.Prelude.{◌≡◌, ◌≤◌, [], All};
 ghost use Rattle.ic_link_ops.specs.Prelude.{Place, IsUnlinked};
 ghost use Rattle.ic_link_ops.specs.DoublyEntries.{is_linked, plain_table};
-ghost use Rattle.ic_atomic.specs.AtomicLinks.{links_of};
-ghost use Rattle.ic_atomic.specs.Holders.{places_of, record_of, IsOf};
+ghost use Rattle.ic_atomic.specs.Prelude.{links_of, places_of, record_of, IsOf};
 
 use crate::fixtures::{MEMORY, UNLINKED, check, reference};
 use ic_atomic::linked_list::AtomicLinkOps;

@@ -1,13 +1,10 @@
 -- After calls that insert objects into a tree only by their own keys (`AreOrderly`), the call `show` returns the tree's members in the right order.
-use Rattle.std.proofs.Common.{◌≡◌, ℕ, List, Some, ap, sym, ◌∙◌, subst}
-use Rattle.std.specs.declared.cmp.Ordering.{Ordering}
+use Rattle.std.proofs.Common.{◌≡◌, ℕ, List, Some, ap, sym, ◌∙◌, subst, Ordering}
 use Rattle.ic_unsafe_ref.specs.declared.place.Place.{Place}
 use Rattle.ic_link_ops.proofs.SequenceLemmas.{some_same}
 use Rattle.ic_world.specs.declared.call.Command.{Command}
 use Rattle.ic_world.specs.declared.call.Command.TheVariants as call
-use Rattle.ic_world.specs.Calls.{Reply, items}
-use Rattle.ic_world.specs.Family.{Family, Sequence, collection}
-use Rattle.ic_world.specs.Step.{Step}
+use Rattle.ic_world.specs.Prelude.{Reply, items, Family, Sequence, collection, Step}
 use Rattle.ic_world_laws.specs.InsertionOrder.{KeepsInsertionOrder, IsInOrderOf, AreOrderly, RunKeepsInsertionOrder, insertion_order_over}
 
 module _ {A V K : Type 0} (cmp : K → K → Ordering) (key_of : A → V → K) where

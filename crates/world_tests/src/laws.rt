@@ -3,9 +3,8 @@
 ghost use Rattle.std.specs.Prelude.{◌≡◌, ◌≢◌, ◌≤◌, ◌++◌, [], ◌∷◌, List, true, Some, IfSome, IsTrue, length};
 ghost use Rattle.std.specs.FinSet as set;
 ghost use Rattle.ic_link_ops.specs.Prelude.{Place as AnyPlace, index_of, ArePlaced, IsDisjoint};
-ghost use Rattle.ic_world.specs.Answers.{reply_in};
+ghost use Rattle.ic_world.specs.Prelude.{reply_in, Step};
 ghost use Rattle.ic_world.specs.Family.{Sequence, collection as collection_of, linked_of, objects_of};
-ghost use Rattle.ic_world.specs.Step.{Step};
 ghost use Rattle.ic_world_laws.specs.InsertionOrder.{KeepsInsertionOrder};
 
 use ic_program::OwnKey;

@@ -3,8 +3,7 @@
 ghost use Rattle.std.specs.Prelude.{◌≡◌, ◌<◌, true};
 ghost use Rattle.ic_link_ops.specs.Prelude.{Place, index_of, is_placed, RepresentsPlaced};
 ghost use Rattle.ic_link_ops.specs.RedBlackTree.{RepresentsSome};
-ghost use Rattle.ic_rbtree.specs.PlainTrees.{plain_table, PlainRepresents};
-ghost use Rattle.ic_rbtree.specs.Tree.{root_of};
+ghost use Rattle.ic_rbtree.specs.Prelude.{plain_table, PlainRepresents, root_of};
 
 use crate::notes::assert_words;
 use crate::tree::trees::{OwnKey, TreeFixture, tree_of};

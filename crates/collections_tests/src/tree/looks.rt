@@ -3,9 +3,7 @@
 
 ghost use Rattle.std.specs.Prelude.{◌≡◌, true};
 ghost use Rattle.ic_link_ops.specs.Prelude.{is_placed, IsCovered, RepresentsPlaced};
-ghost use Rattle.ic_rbtree.specs.Kept.{RepresentsKept};
-ghost use Rattle.ic_rbtree.specs.PlainTrees.{PlainRepresents};
-ghost use Rattle.ic_rbtree.specs.Tree.{head_of, root_of};
+ghost use Rattle.ic_rbtree.specs.Prelude.{RepresentsKept, PlainRepresents, head_of, root_of};
 
 use crate::notes::assert_words;
 use crate::tree::summaries::member_at;
@@ -72,13 +70,8 @@ fn write_insert<E: TreeHead, L: RBTreeOps>(
 fn write_entry(notes: &mut Text, fixture: &mut TreeFixture)
     requires placed { RepresentsPlaced (PlainRepresents fixture.old.links (root_of fixture.old.tree)) fixture.old.objects }
 {
-    let TreeFixture {
-        objects,
-        links,
-        tree,
-    } = fixture;
-    let counted = Counted::of(objects);
-    let _ = tree.entry(links, &counted, &80);
+    let counted = Counted::of(&fixture.objects);
+    let _ = fixture.tree.entry(&mut fixture.links, &counted, &80);
     counted.write_reads(notes);
 }
 

@@ -1,8 +1,7 @@
 //! A test of the shape of a tree. The test reads the shape from the table of the tree's links.
 
 ghost use Rattle.std.specs.Prelude.{◌≡◌, ◌<◌};
-ghost use Rattle.ic_rbtree.specs.PlainTrees.{plain_table, PlainRepresentsSome};
-ghost use Rattle.ic_rbtree.specs.Tree.{root_of};
+ghost use Rattle.ic_rbtree.specs.Prelude.{plain_table, PlainRepresentsSome, root_of};
 
 use crate::notes::assert_words;
 use crate::tree::trees::{TreeFixture, filled, tree_of};

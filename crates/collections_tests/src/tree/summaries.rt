@@ -5,9 +5,7 @@ ghost use Rattle.std.specs.Prelude.{◌≡◌, ◌<◌, true, List};
 ghost use Rattle.ic_link_ops.specs.Prelude.{Place, index_of, is_placed, HasMember};
 ghost use Rattle.ic_rbtree.specs.Kept.{IsEmptied, RepresentsKept, RepresentsKeptSome};
 ghost use Rattle.ic_rbtree.specs.Tree.{head_of, root_in};
-ghost use Rattle.ic_augmented.specs.Consistent.{RepresentsAugmented};
-ghost use Rattle.ic_augmented.specs.Augmented.{links_of, summaries_of};
-ghost use Rattle.ic_augmented.specs.AugmentedTables.{room_of};
+ghost use Rattle.ic_augmented.specs.Prelude.{RepresentsAugmented, links_of, summaries_of, room_of};
 ghost use Rattle.collections_tests.specs.Ready.{IsReady};
 
 use crate::notes::assert_words;

@@ -2,8 +2,7 @@
 
 ghost use Rattle.std.specs.Prelude.{◌≡◌, ◌<◌, ◌≤◌, true};
 ghost use Rattle.ic_link_ops.specs.Prelude.{Place, index_of, is_placed, RepresentsPlaced};
-ghost use Rattle.ic_rbtree.specs.PlainTrees.{plain_table, PlainRepresents, PlainRepresentsSome};
-ghost use Rattle.ic_rbtree.specs.Tree.{root_of};
+ghost use Rattle.ic_rbtree.specs.Prelude.{plain_table, PlainRepresents, PlainRepresentsSome, root_of};
 
 use ic_link_ops::rbtree::LinkOps;
 use ic_rbtree::{KeyAdapter, RBTree};

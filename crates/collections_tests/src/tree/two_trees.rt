@@ -4,9 +4,7 @@
 ghost use Rattle.std.specs.Prelude.{◌≡◌, ◌<◌, ◌≤◌, None};
 ghost use Rattle.ic_link_ops.specs.Prelude.{Place, index_of, IsCovered};
 ghost use Rattle.ic_rbtree.specs.Tree.{root_of};
-ghost use Rattle.ic_augmented.specs.Counts.{counts};
-ghost use Rattle.ic_augmented.specs.Augmented.{links_of, summaries_of};
-ghost use Rattle.ic_augmented.specs.AugmentedTables.{room_of};
+ghost use Rattle.ic_augmented.specs.Prelude.{counts, links_of, summaries_of, room_of};
 ghost use Rattle.collections_tests.specs.Filled.{IsFilled};
 
 use crate::notes::assert_words;

@@ -2,8 +2,7 @@
 
 ghost use Rattle.ic_link_ops.specs.PlacedObjects.{RepresentsPlaced};
 ghost use Rattle.ic_link_ops.specs.RedBlackTree.{Represents};
-ghost use Rattle.ic_rbtree.specs.PlainTrees.{PlainRepresentsSome};
-ghost use Rattle.ic_rbtree.specs.Tree.{root_of};
+ghost use Rattle.ic_rbtree.specs.Prelude.{PlainRepresentsSome, root_of};
 
 use crate::lists::free_each;
 use crate::notes::{assert_words, write_object};

@@ -11,8 +11,7 @@
 //! ```
 
 ghost use Rattle.std.specs.Prelude.{◌<◌, Option, Some, List};
-ghost use Rattle.ic_link_ops.specs.RedBlackTree.{node_at};
-ghost use Rattle.ic_link_ops.specs.Prelude.{Cut, join, Table};
+ghost use Rattle.ic_link_ops.specs.Prelude.{node_at, Cut, join, Table};
 ghost use Rattle.ic_rbtree.specs.Closed.{IsNamed};
 ghost use Rattle.ic_rbtree.specs.Cuts.{CutUp, IsCutBelow, Detaches, CutsOff, AreCutApart};
 ghost use Rattle.ic_rbtree.specs.Insertion.{IsInsertPos};

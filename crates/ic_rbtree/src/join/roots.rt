@@ -5,12 +5,9 @@
 //! ```
 
 ghost use Rattle.std.specs.Prelude.{◌≡◌, ◌≤◌, ◌<◌, ◌++◌, ◌∷◌, [], List, Option, Some};
-ghost use Rattle.ic_link_ops.specs.Prelude.{Place, Table};
+ghost use Rattle.ic_link_ops.specs.Prelude.{Place, Table, node_at, weight, blacks, IsRight, Tree, in_order};
 ghost use Rattle.ic_rbtree.specs.Closed.{IsNode};
 ghost use Rattle.ic_link_ops.specs.Frames.{branch};
-ghost use Rattle.ic_link_ops.specs.RedBlackTree.{node_at};
-ghost use Rattle.ic_link_ops.specs.Shape.{weight, blacks, IsRight};
-ghost use Rattle.ic_link_ops.specs.Trees.{Tree, in_order};
 ghost use Rattle.ic_link_ops.specs.declared.color.Color.TheVariants.{Red};
 ghost use Rattle.ic_rbtree.specs.Height.{height, turns};
 ghost use Rattle.ic_rbtree.specs.Join.{Graft, IsGraft, Grafts, IsRootOf, EndsBlack, Pair, ArePair, AreMeasured, AreHigh, IsJoined};

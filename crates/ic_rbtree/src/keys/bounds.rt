@@ -5,10 +5,10 @@
 //! let to = tree.upper_bound(&links, &objects, Bound::Excluded(&9)); // the last with a key below 9
 //! ```
 
-ghost use Rattle.std.specs.Prelude.{◌≡◌, List};
-ghost use Rattle.ic_link_ops.specs.Prelude.{Place, IsValidCursor, RepresentsPlaced};
+ghost use Rattle.ic_link_ops.specs.Prelude.{RepresentsPlaced};
 ghost use Rattle.ic_rbtree.specs.Comparing.{compared_within, order_there, HasRoomWithin, LooksWithin};
 ghost use Rattle.ic_rbtree.specs.Borders.{IsLowerBorder, IsUpperBorder};
+ghost use Rattle.ic_rbtree.specs.BoundCursors.{ReadsAtBorder, ReadsAtBorderByProbe, EditsAtBorder, OwnsAtBorder};
 ghost use Rattle.ic_rbtree.specs.Kept.{RepresentsKept};
 ghost use Rattle.ic_rbtree.specs.Tree.{head_of, adapter_of};
 
@@ -20,10 +20,6 @@ use ic_link_ops::rbtree::RBTreeOps;
 use ic_unsafe_ref::Values;
 
 impl<A: KeyAdapter, E: TreeHead> RBTree<A, E> {
-    ghost use Rattle.ic_rbtree.specs.Cursor.{tree_of, links_of, position, site_of};
-    ghost use Rattle.ic_rbtree.specs.CursorMut as editing;
-    ghost use Rattle.ic_rbtree.specs.CursorOwning as owning;
-
     /// A cursor on the first member that meets the bound, null if there is none.
     ///
     /// It requires that all members are placed, and that the count of the bound's probe is at most `u64::MAX - 66`. If the tree
@@ -38,13 +34,8 @@ impl<A: KeyAdapter, E: TreeHead> RBTree<A, E> {
     ) -> Cursor<'a, A, L, E>
         requires placed { RepresentsPlaced (RepresentsKept E.kept L.node (L.table links.now) (head_of self.now)) (O.values objects.now) }
         requires room { HasRoomWithin P.count bound.old }
-        ensures tree { tree_of result ≡ self.now }
-        ensures links { links_of result ≡ links.now }
-        ensures border { (s : List Place) → RepresentsKept E.kept L.node (L.table links.now) (head_of self.now) s
-            → IsLowerBorder (compared_within P.order (O.values objects.now) bound.old) s (position result) }
-        ensures stands { IsValidCursor (RepresentsKept E.kept L.node) L.table (site_of result) }
-        ensures looks { (s : List Place) → RepresentsKept E.kept L.node (L.table links.now) (head_of self.now) s
-            → LooksWithin P.order P.count bound.old bound.new s }
+        ensures { ReadsAtBorderByProbe E.kept L.node L.table (IsLowerBorder (compared_within P.order (O.values objects.now) bound.old))
+            (LooksWithin P.order P.count) self.now links.now bound.old bound.new result }
     {
         Cursor::new(self, links, self.lower(links, objects, bound))
     }
@@ -58,12 +49,8 @@ impl<A: KeyAdapter, E: TreeHead> RBTree<A, E> {
         bound: Bound<&A::Key>,
     ) -> Cursor<'a, A, L, E>
         requires placed { RepresentsPlaced (RepresentsKept E.kept L.node (L.table links.now) (head_of self.now)) (O.values objects.now) }
-        ensures tree { tree_of result ≡ self.now }
-        ensures links { links_of result ≡ links.now }
-        ensures border { (s : List Place) → RepresentsKept E.kept L.node (L.table links.now) (head_of self.now) s
-            → IsLowerBorder (compared_within
-            (order_there A.Key.cmp (A.key_of (adapter_of self.now))) (O.values objects.now) bound.entry) s (position result) }
-        ensures stands { IsValidCursor (RepresentsKept E.kept L.node) L.table (site_of result) }
+        ensures { ReadsAtBorder E.kept L.node L.table (IsLowerBorder (compared_within (order_there A.Key.cmp
+            (A.key_of (adapter_of self.now))) (O.values objects.now) bound.entry)) self.now links.now result }
     {
         self.lower_bound_by(links, objects, &mut probe_in_bound(self.adapter, bound))
     }
@@ -78,11 +65,8 @@ impl<A: KeyAdapter, E: TreeHead> RBTree<A, E> {
         bound: Bound<&A::Key>,
     ) -> CursorMut<'a, A, L, E>
         requires placed { RepresentsPlaced (RepresentsKept E.kept L.node (L.table links.old) (head_of self.old)) (O.values objects.now) }
-        ensures borrows { editing.IsBorrowed self.entry links.entry result }
-        ensures border { (s : List Place) → RepresentsKept E.kept L.node (L.table links.old) (head_of self.old) s
-            → IsLowerBorder (compared_within
-            (order_there A.Key.cmp (A.key_of (adapter_of self.old))) (O.values objects.now) bound.entry) s (editing.position result) }
-        ensures stands { IsValidCursor (RepresentsKept E.kept L.node) L.table (editing.site_of result) }
+        ensures { EditsAtBorder E.kept L.node L.table (IsLowerBorder (compared_within (order_there A.Key.cmp
+            (A.key_of (adapter_of self.old))) (O.values objects.now) bound.entry)) self.entry links.entry result }
     {
         let current = self.lower(&*links, objects, &mut probe_in_bound(self.adapter, bound));
         CursorMut::new(self, links, current)
@@ -98,11 +82,8 @@ impl<A: KeyAdapter, E: TreeHead> RBTree<A, E> {
         bound: Bound<&A::Key>,
     ) -> CursorOwning<A, E>
         requires placed { RepresentsPlaced (RepresentsKept E.kept L.node (L.table links.now) (head_of self)) (O.values objects.now) }
-        ensures tree { owning.tree_of result ≡ self }
-        ensures border { (s : List Place) → RepresentsKept E.kept L.node (L.table links.now) (head_of self) s
-            → IsLowerBorder (compared_within
-            (order_there A.Key.cmp (A.key_of (adapter_of self))) (O.values objects.now) bound.entry) s (owning.position result) }
-        ensures stands { IsValidCursor (RepresentsKept E.kept L.node) L.table (owning.site_of links.now result) }
+        ensures { OwnsAtBorder E.kept L.node L.table (IsLowerBorder (compared_within (order_there A.Key.cmp
+            (A.key_of (adapter_of self))) (O.values objects.now) bound.entry)) self links.now result }
     {
         let current = self.lower(links, objects, &mut probe_in_bound(self.adapter, bound));
         CursorOwning::new(self, current)
@@ -122,13 +103,8 @@ impl<A: KeyAdapter, E: TreeHead> RBTree<A, E> {
     ) -> Cursor<'a, A, L, E>
         requires placed { RepresentsPlaced (RepresentsKept E.kept L.node (L.table links.now) (head_of self.now)) (O.values objects.now) }
         requires room { HasRoomWithin P.count bound.old }
-        ensures tree { tree_of result ≡ self.now }
-        ensures links { links_of result ≡ links.now }
-        ensures border { (s : List Place) → RepresentsKept E.kept L.node (L.table links.now) (head_of self.now) s
-            → IsUpperBorder (compared_within P.order (O.values objects.now) bound.old) s (position result) }
-        ensures stands { IsValidCursor (RepresentsKept E.kept L.node) L.table (site_of result) }
-        ensures looks { (s : List Place) → RepresentsKept E.kept L.node (L.table links.now) (head_of self.now) s
-            → LooksWithin P.order P.count bound.old bound.new s }
+        ensures { ReadsAtBorderByProbe E.kept L.node L.table (IsUpperBorder (compared_within P.order (O.values objects.now) bound.old))
+            (LooksWithin P.order P.count) self.now links.now bound.old bound.new result }
     {
         Cursor::new(self, links, self.upper(links, objects, bound))
     }
@@ -142,12 +118,8 @@ impl<A: KeyAdapter, E: TreeHead> RBTree<A, E> {
         bound: Bound<&A::Key>,
     ) -> Cursor<'a, A, L, E>
         requires placed { RepresentsPlaced (RepresentsKept E.kept L.node (L.table links.now) (head_of self.now)) (O.values objects.now) }
-        ensures tree { tree_of result ≡ self.now }
-        ensures links { links_of result ≡ links.now }
-        ensures border { (s : List Place) → RepresentsKept E.kept L.node (L.table links.now) (head_of self.now) s
-            → IsUpperBorder (compared_within
-            (order_there A.Key.cmp (A.key_of (adapter_of self.now))) (O.values objects.now) bound.entry) s (position result) }
-        ensures stands { IsValidCursor (RepresentsKept E.kept L.node) L.table (site_of result) }
+        ensures { ReadsAtBorder E.kept L.node L.table (IsUpperBorder (compared_within (order_there A.Key.cmp
+            (A.key_of (adapter_of self.now))) (O.values objects.now) bound.entry)) self.now links.now result }
     {
         self.upper_bound_by(links, objects, &mut probe_in_bound(self.adapter, bound))
     }
@@ -161,11 +133,8 @@ impl<A: KeyAdapter, E: TreeHead> RBTree<A, E> {
         bound: Bound<&A::Key>,
     ) -> CursorMut<'a, A, L, E>
         requires placed { RepresentsPlaced (RepresentsKept E.kept L.node (L.table links.old) (head_of self.old)) (O.values objects.now) }
-        ensures borrows { editing.IsBorrowed self.entry links.entry result }
-        ensures border { (s : List Place) → RepresentsKept E.kept L.node (L.table links.old) (head_of self.old) s
-            → IsUpperBorder (compared_within
-            (order_there A.Key.cmp (A.key_of (adapter_of self.old))) (O.values objects.now) bound.entry) s (editing.position result) }
-        ensures stands { IsValidCursor (RepresentsKept E.kept L.node) L.table (editing.site_of result) }
+        ensures { EditsAtBorder E.kept L.node L.table (IsUpperBorder (compared_within (order_there A.Key.cmp
+            (A.key_of (adapter_of self.old))) (O.values objects.now) bound.entry)) self.entry links.entry result }
     {
         let current = self.upper(&*links, objects, &mut probe_in_bound(self.adapter, bound));
         CursorMut::new(self, links, current)
@@ -181,11 +150,8 @@ impl<A: KeyAdapter, E: TreeHead> RBTree<A, E> {
         bound: Bound<&A::Key>,
     ) -> CursorOwning<A, E>
         requires placed { RepresentsPlaced (RepresentsKept E.kept L.node (L.table links.now) (head_of self)) (O.values objects.now) }
-        ensures tree { owning.tree_of result ≡ self }
-        ensures border { (s : List Place) → RepresentsKept E.kept L.node (L.table links.now) (head_of self) s
-            → IsUpperBorder (compared_within
-            (order_there A.Key.cmp (A.key_of (adapter_of self))) (O.values objects.now) bound.entry) s (owning.position result) }
-        ensures stands { IsValidCursor (RepresentsKept E.kept L.node) L.table (owning.site_of links.now result) }
+        ensures { OwnsAtBorder E.kept L.node L.table (IsUpperBorder (compared_within (order_there A.Key.cmp
+            (A.key_of (adapter_of self))) (O.values objects.now) bound.entry)) self links.now result }
     {
         let current = self.upper(links, objects, &mut probe_in_bound(self.adapter, bound));
         CursorOwning::new(self, current)

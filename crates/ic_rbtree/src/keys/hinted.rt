@@ -4,13 +4,14 @@
 //! timers.insert_with_hint(&mut links, &objects, &next, timer)?; // two looks where it goes before `next`
 //! ```
 
-ghost use Rattle.std.specs.Prelude.{◌≡◌, ◌+◌, true, OnOk, OnErr, IfErr, List, [], ◌∷◌};
-ghost use Rattle.ic_link_ops.specs.Prelude.{Place, is_placed, IsCovered, HasMember, RepresentsPlaced, acquires};
-ghost use Rattle.ic_rbtree.specs.Comparing.{compared, own_order, HasRoom};
+ghost use Rattle.std.specs.Prelude.{◌≡◌, ◌+◌, true};
+ghost use Rattle.ic_link_ops.specs.Prelude.{is_placed, IsCovered, HasMember, RepresentsPlaced};
+ghost use Rattle.ic_rbtree.specs.Comparing.{compared, own_compared, HasRoom};
 ghost use Rattle.ic_rbtree.specs.InsertPositions.{HintedLooks};
 ghost use Rattle.ic_rbtree.specs.Kept.{RepresentsKept};
 ghost use Rattle.ic_rbtree.specs.Ordered.{InsertsInOrder};
 ghost use Rattle.ic_rbtree.specs.Tree.{head_of, adapter_of};
+ghost use Rattle.ic_rbtree.specs.TreeEdits.{InsertsIntoTree, InsertsByProbe};
 
 use crate::head::TreeHead;
 use crate::keys::insert_pos::insert_pos_near;
@@ -39,16 +40,9 @@ impl<A: KeyAdapter, E: TreeHead> RBTree<A, E> {
         requires placed { RepresentsPlaced (RepresentsKept E.kept L.node (L.table links.old) (head_of self.old)) (O.values objects.now) }
         requires member { HasMember (RepresentsKept E.kept L.node (L.table links.old) (head_of self.old)) hint.now }
         requires room { HasRoom (P.count probe.old + 2) }
-        ensures inserted { (s : List Place) → RepresentsKept E.kept L.node (L.table links.old) (head_of self.old) s → OnOk result
-            (InsertsInOrder (RepresentsKept E.kept L.node) (compared (P.order probe.old) (O.values objects.now)) (L.table links.old)
-            (L.table links.new) (head_of self.new) s object) }
-        ensures acquired { OnOk result (L.Trace links.old links.new (acquires object ∷ [])) }
-        ensures adapter { adapter_of self.new ≡ adapter_of self.old }
-        ensures refused { OnErr result (L.Refused links.old links.new object) }
-        ensures unchanged { IfErr result (λ refused. (refused.0 ≡ object) × (self.new ≡ self.old)) }
-        ensures looks { (s : List Place) → RepresentsKept E.kept L.node (L.table links.old) (head_of self.old) s
-            → OnOk result (HintedLooks P.order P.count (O.values objects.now) hint.now probe.old probe.new s) }
-        ensures no_look { OnErr result (probe.new ≡ probe.old) }
+        ensures { InsertsByProbe E.kept L.node L.table L.Trace L.Refused
+            (InsertsInOrder (RepresentsKept E.kept L.node) (compared (P.order probe.old) (O.values objects.now)))
+            (HintedLooks P.order P.count (O.values objects.now) hint.now) links.old self.old probe.old object result links.new self.new probe.new }
     {
         let place = object.place();
         if !links.acquire_link(place) {
@@ -74,14 +68,8 @@ impl<A: KeyAdapter, E: TreeHead> RBTree<A, E> {
         requires placed { RepresentsPlaced (RepresentsKept E.kept L.node (L.table links.old) (head_of self.old)) (O.values objects.now) }
         requires member { HasMember (RepresentsKept E.kept L.node (L.table links.old) (head_of self.old)) hint.now }
         requires object { is_placed (O.values objects.now) object ≡ true }
-        ensures inserted { (s : List Place) → RepresentsKept E.kept L.node (L.table links.old) (head_of self.old) s → OnOk result
-            (InsertsInOrder (RepresentsKept E.kept L.node)
-            (compared (own_order A.Key.cmp (A.key_of (adapter_of self.old)) (O.values objects.now) object) (O.values objects.now))
-            (L.table links.old) (L.table links.new) (head_of self.new) s object) }
-        ensures acquired { OnOk result (L.Trace links.old links.new (acquires object ∷ [])) }
-        ensures adapter { adapter_of self.new ≡ adapter_of self.old }
-        ensures refused { OnErr result (L.Refused links.old links.new object) }
-        ensures unchanged { IfErr result (λ refused. (refused.0 ≡ object) × (self.new ≡ self.old)) }
+        ensures { InsertsIntoTree E.kept L.node L.table L.Trace L.Refused (InsertsInOrder (RepresentsKept E.kept L.node)
+            (own_compared A.Key.cmp (A.key_of (adapter_of self.old)) (O.values objects.now) object)) links.old self.old object result links.new self.new }
     {
         let value = objects.value(object.place());
         let mut probe = KeyProbe::new(self.adapter, self.adapter.get_key(value));

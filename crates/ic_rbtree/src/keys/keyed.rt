@@ -7,7 +7,7 @@
 
 ghost use Rattle.std.specs.Prelude.{◌≡◌, OnOk, OnErr, IfErr, List, [], ◌∷◌};
 ghost use Rattle.ic_link_ops.specs.Prelude.{Place, IsCovered, acquires};
-ghost use Rattle.ic_rbtree.specs.Comparing.{compared, own_order};
+ghost use Rattle.ic_rbtree.specs.Comparing.{compared, own_compared};
 ghost use Rattle.ic_rbtree.specs.Kept.{RepresentsKept, RepresentsKeptSome, HasRoomFor, InsertLooks};
 ghost use Rattle.ic_rbtree.specs.Ordered.{InsertsInOrder};
 ghost use Rattle.ic_rbtree.specs.Tree.{head_of, adapter_of};
@@ -73,8 +73,7 @@ impl<A: KeyAdapter, E: TreeHead> RBTree<A, E> {
         requires covered { IsCovered (L.table links.old) object }
         requires shown { RepresentsKeptSome E.kept L.node (L.table links.old) (head_of self.old) }
         ensures inserted { (s : List Place) → RepresentsKept E.kept L.node (L.table links.old) (head_of self.old) s → OnOk result
-            (InsertsInOrder (RepresentsKept E.kept L.node)
-            (compared (own_order A.Key.cmp (A.key_of (adapter_of self.old)) (L.values links.old) object) (L.values links.old))
+            (InsertsInOrder (RepresentsKept E.kept L.node) (own_compared A.Key.cmp (A.key_of (adapter_of self.old)) (L.values links.old) object)
             (L.table links.old) (L.table links.new) (head_of self.new) s object) }
         ensures values { L.values links.new ≡ L.values links.old }
         ensures acquired { OnOk result (L.Trace links.old links.new (acquires object ∷ [])) }

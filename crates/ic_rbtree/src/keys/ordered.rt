@@ -4,12 +4,13 @@
 //! tree.insert(&mut links, &objects, object)?; // after the members whose keys are not greater
 //! ```
 
-ghost use Rattle.std.specs.Prelude.{◌≡◌, true, OnOk, OnErr, IfErr, List, [], ◌∷◌};
-ghost use Rattle.ic_link_ops.specs.Prelude.{Place, is_placed, IsCovered, RepresentsPlaced, acquires};
-ghost use Rattle.ic_rbtree.specs.Comparing.{compared, own_order};
+ghost use Rattle.std.specs.Prelude.{◌≡◌, true};
+ghost use Rattle.ic_link_ops.specs.Prelude.{is_placed, IsCovered, RepresentsPlaced};
+ghost use Rattle.ic_rbtree.specs.Comparing.{compared, own_compared};
 ghost use Rattle.ic_rbtree.specs.Kept.{RepresentsKept, HasRoomFor, InsertLooks};
 ghost use Rattle.ic_rbtree.specs.Ordered.{InsertsInOrder};
 ghost use Rattle.ic_rbtree.specs.Tree.{head_of, adapter_of};
+ghost use Rattle.ic_rbtree.specs.TreeEdits.{InsertsIntoTree, InsertsByProbe};
 
 use crate::head::TreeHead;
 use crate::keys::probe::KeyFirst;
@@ -21,7 +22,7 @@ use ic_link_ops::{AlreadyLinked, LinkOps, PlaceWord};
 use ic_unsafe_ref::{Place, UnsafeRef, Values};
 
 impl<A: KeyAdapter, E: TreeHead, L: RBTreeOps> Ordered<L> for RBTree<A, E> {
-    ghost order_of = { λ tree objects object. compared (own_order A.Key.cmp (A.key_of (adapter_of tree)) objects object) objects };
+    ghost order_of = { λ tree objects object. own_compared A.Key.cmp (A.key_of (adapter_of tree)) objects object };
 
     // The insert takes O(log n): it makes at most 66 comparisons, and none if the link is refused.
     #[inline]
@@ -58,16 +59,10 @@ impl<A: KeyAdapter, E: TreeHead> RBTree<A, E> {
         requires covered { IsCovered (L.table links.old) object }
         requires placed { RepresentsPlaced (RepresentsKept E.kept L.node (L.table links.old) (head_of self.old)) (O.values objects.now) }
         requires room { HasRoomFor (E.kept (head_of self.old)) (P.count probe.old) }
-        ensures inserted { (s : List Place) → RepresentsKept E.kept L.node (L.table links.old) (head_of self.old) s → OnOk result
-            (InsertsInOrder (RepresentsKept E.kept L.node) (compared (P.order probe.old) (O.values objects.now)) (L.table links.old)
-            (L.table links.new) (head_of self.new) s object) }
-        ensures acquired { OnOk result (L.Trace links.old links.new (acquires object ∷ [])) }
-        ensures adapter { adapter_of self.new ≡ adapter_of self.old }
-        ensures refused { OnErr result (L.Refused links.old links.new object) }
-        ensures unchanged { IfErr result (λ refused. (refused.0 ≡ object) × (self.new ≡ self.old)) }
-        ensures looks { (s : List Place) → RepresentsKept E.kept L.node (L.table links.old) (head_of self.old) s
-            → OnOk result (InsertLooks P.order P.count (E.kept (head_of self.old)) (O.values objects.now) probe.old probe.new s) }
-        ensures no_look { OnErr result (probe.new ≡ probe.old) }
+        ensures { InsertsByProbe E.kept L.node L.table L.Trace L.Refused
+            (InsertsInOrder (RepresentsKept E.kept L.node) (compared (P.order probe.old) (O.values objects.now)))
+            (InsertLooks P.order P.count (E.kept (head_of self.old)) (O.values objects.now))
+            links.old self.old probe.old object result links.new self.new probe.new }
     {
         if !insert_in_order(links, &mut self.head, objects, probe, object.place()) {
             return Err(AlreadyLinked(object));
@@ -87,14 +82,8 @@ impl<A: KeyAdapter, E: TreeHead> RBTree<A, E> {
         requires covered { IsCovered (L.table links.old) object }
         requires placed { RepresentsPlaced (RepresentsKept E.kept L.node (L.table links.old) (head_of self.old)) (O.values objects.now) }
         requires object { is_placed (O.values objects.now) object ≡ true }
-        ensures inserted { (s : List Place) → RepresentsKept E.kept L.node (L.table links.old) (head_of self.old) s → OnOk result
-            (InsertsInOrder (RepresentsKept E.kept L.node)
-            (compared (own_order A.Key.cmp (A.key_of (adapter_of self.old)) (O.values objects.now) object) (O.values objects.now))
-            (L.table links.old) (L.table links.new) (head_of self.new) s object) }
-        ensures acquired { OnOk result (L.Trace links.old links.new (acquires object ∷ [])) }
-        ensures adapter { adapter_of self.new ≡ adapter_of self.old }
-        ensures refused { OnErr result (L.Refused links.old links.new object) }
-        ensures unchanged { IfErr result (λ refused. (refused.0 ≡ object) × (self.new ≡ self.old)) }
+        ensures { InsertsIntoTree E.kept L.node L.table L.Trace L.Refused (InsertsInOrder (RepresentsKept E.kept L.node)
+            (own_compared A.Key.cmp (A.key_of (adapter_of self.old)) (O.values objects.now) object)) links.old self.old object result links.new self.new }
     {
         let value = objects.value(object.place());
         let mut probe = KeyFirst::new(self.adapter, self.adapter.get_key(value));

@@ -1,8 +1,7 @@
 //! Functions that write children, parents and colors, also for a rotation and for the replacement of a member by a place.
 
 ghost use Rattle.std.specs.Prelude.{◌≡◌, ◌≢◌, Option, Some, [], ◌∷◌};
-ghost use Rattle.ic_link_ops.specs.Prelude.{Place, ChangesOnly};
-ghost use Rattle.ic_link_ops.specs.RedBlackTree.{node_at};
+ghost use Rattle.ic_link_ops.specs.Prelude.{Place, ChangesOnly, node_at};
 ghost use Rattle.ic_link_ops.specs.Frames.{with_child};
 ghost use Rattle.ic_rbtree.specs.Closed.{IsNode, IsNamed, IsSafe, IsSafeBut, StaysClosed, StaysClosedBut, ClosesAt};
 ghost use Rattle.ic_rbtree.specs.Transplants.{TakesPlace};

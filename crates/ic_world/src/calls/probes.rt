@@ -8,8 +8,7 @@
 
 ghost use Rattle.std.specs.Prelude.{◌≡◌, true};
 ghost use Rattle.ic_unsafe_ref.specs.Objects.{Objects as Placed, is_placed};
-ghost use Rattle.ic_rbtree.specs.Comparing.{compared_within, order_of, own_order};
-ghost use Rattle.ic_rbtree.specs.KeyProbe.{key_order, looks_of, HasAdapter};
+ghost use Rattle.ic_rbtree.specs.Prelude.{compared_within, order_of, own_order, key_order, looks_of, HasAdapter};
 ghost use Rattle.ic_world.specs.Looks.{looks_within};
 
 use ic_rbtree::{Bound, KeyAdapter, KeyProbe};

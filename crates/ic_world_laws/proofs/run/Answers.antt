@@ -1,6 +1,5 @@
 use Rattle.std.proofs.Common.{map, sym, subst}
-use Rattle.ic_world.specs.Answers.{reply_in}
-use Rattle.ic_world.specs.Sound.{IsSound}
+use Rattle.ic_world.specs.Prelude.{reply_in, IsSound}
 use Rattle.ic_world_laws.proofs.RunLaws.{are_lawful, keep_order, last_sound, of_result, on_ok}
 use Rattle.ic_world_laws.proofs.run.Goals as goal
 

@@ -4,10 +4,7 @@
 ghost use Rattle.std.specs.Prelude.{◌≡◌, ◌<◌, List, filter, length};
 ghost use Rattle.ic_link_ops.specs.Prelude.{Place, IsCovered};
 ghost use Rattle.ic_rbtree.specs.Tree.{root_of};
-ghost use Rattle.ic_augmented.specs.Consistent.{RepresentsAugmented};
-ghost use Rattle.ic_augmented.specs.Greatest.{greatest, number_at};
-ghost use Rattle.ic_augmented.specs.Intervals.{start_in, overlaps};
-ghost use Rattle.ic_augmented.specs.Augmented.{links_of, summaries_of};
+ghost use Rattle.ic_augmented.specs.Prelude.{RepresentsAugmented, greatest, number_at, start_in, overlaps, links_of, summaries_of};
 ghost use Rattle.keyed_tests.specs.Ready.{AreIntervals};
 
 use super::empty_tree;

@@ -2,8 +2,7 @@
 
 ghost use Rattle.std.specs.Prelude.{◌≡◌, ◌<◌, true};
 ghost use Rattle.ic_link_ops.specs.Prelude.{Place, index_of, is_placed};
-ghost use Rattle.ic_hash_table.specs.HashTable.{number, IsNew};
-ghost use Rattle.ic_hash_table.specs.SideBySide.{HoldsSideBySide};
+ghost use Rattle.ic_hash_table.specs.Prelude.{number, IsNew, HoldsSideBySide};
 
 use crate::hash_table::readings::has_members;
 use crate::hash_table::steps::eighth;

@@ -2,9 +2,7 @@
 
 ghost use Rattle.std.specs.Prelude.{◌≡◌, ◌≤◌, length};
 ghost use Rattle.ic_link_ops.specs.OneWord.{no_word};
-ghost use Rattle.ic_link_ops.specs.PlainTables.{table};
-ghost use Rattle.ic_link_ops.specs.Widths.{HasRoom, wide};
-ghost use Rattle.ic_link_ops.specs.Tables.{IsNameable};
+ghost use Rattle.ic_link_ops.specs.Prelude.{table, HasRoom, wide, IsNameable};
 
 use crate::asserts::assert_true;
 use crate::hash_table::{NUMBERS, OwnKey};

@@ -4,6 +4,7 @@ use crate::unique_keys::calls::{Answer, Call, Page, are, make};
 use ic_hash_index::{HashIndex, NarrowHashIndex};
 use ic_keyed::{Index, Keyed, NarrowTreeKeyed};
 use ic_link_ops::{NarrowPlaceWord, PlaceWord};
+use ic_test_support::indexes::By;
 use ic_test_support::rationed::Rationed;
 use std::alloc::{Allocator, Global};
 
@@ -87,15 +88,6 @@ fn play<I: Index<Page, A>, A: Allocator>(
         }
     }
     Some(refused)
-}
-
-// The index that the container has: a tree or a hash table, over links of 8-byte or of 4-byte words.
-#[derive(Clone, Copy)]
-enum By {
-    Tree,
-    HashTable,
-    NarrowTree,
-    NarrowHashTable,
 }
 
 // Makes the calls of the rows on a new container that takes its memory from `memory`, with the given index. A hash table has two chains. Returns how

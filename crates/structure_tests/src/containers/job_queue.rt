@@ -8,8 +8,7 @@
 
 ghost use Rattle.std.specs.Prelude.{◌≡◌, ℕ, None, IfOk, IfErr, IfSome, IfNone, [], List};
 ghost use Rattle.std.specs.Bool.{OnTrue, OnFalse};
-ghost use Rattle.ic_unsafe_ref.specs.Objects.{object_at};
-ghost use Rattle.ic_link_ops.specs.Chains.{no_members};
+ghost use Rattle.ic_link_ops.specs.Prelude.{object_at, no_members};
 ghost use Rattle.ic_container.specs.ListArray.{list_at, members_at, IsEmpty, IsUnchanged, Pushes, Renews, TakesFirst, TakesOut};
 ghost use Rattle.ic_pool.specs.Refusals.{value_of};
 ghost use Rattle.structure_tests.specs.Jobs.{job_of, list_index_of_job};

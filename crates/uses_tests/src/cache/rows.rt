@@ -4,6 +4,7 @@ use crate::cache::calls::{Answer, Call, make};
 use ic_hash_index::{HashIndex, NarrowHashIndex};
 use ic_indexed::Index;
 use ic_link_ops::{NarrowPlaceWord, PlaceWord};
+use ic_test_support::indexes::By;
 use ic_test_support::rationed::Rationed;
 use lru_cache::{Entry, LruCache, NarrowTreeLruCache};
 use std::alloc::{Allocator, Global};
@@ -90,15 +91,6 @@ fn play<I: Index<Entry<u64>, A>, A: Allocator>(
         }
     }
     Some(refused)
-}
-
-// The index that the cache has: a tree or a hash table, over links of 8-byte or of 4-byte words.
-#[derive(Clone, Copy)]
-enum By {
-    Tree,
-    HashTable,
-    NarrowTree,
-    NarrowHashTable,
 }
 
 // Makes the calls of the rows on a new cache that takes its memory from `memory`, with the given index. A hash table has two chains. Returns how many

@@ -1,10 +1,6 @@
-use Rattle.ic_unsafe_ref.specs.Places.{index_of}
+use Rattle.ic_link_ops.specs.Prelude.{index_of, link_of, entries, table, linked_by, nameable}
 use Rattle.ic_link_ops.specs.EntryLaws.{linked_in_range}
-use Rattle.ic_link_ops.specs.Links.{link_of}
-use Rattle.ic_link_ops.specs.PlainTables.{entries, table, linked_by}
-use Rattle.ic_link_ops.specs.Widths.{nameable}
 use Rattle.collections_tests.proofs.Placed.{chain_placed}
-use Rattle.ic_link_ops.specs.Widths.{nameable}
 use Rattle.collections_tests.proofs.lists.list_of.Goals as goal
 
 pub returns-clause-shown : goal.returns-clause-shown

@@ -1,7 +1,6 @@
 use Rattle.std.proofs.Common.{◌≡◌, ◌≢◌, ap, arith, refl, sym, ◌∙◌}
 use Rattle.ic_link_ops.specs.Times.{times_in}
-use Rattle.ic_link_ops.proofs.Times.{absent_times}
-use Rattle.ic_link_ops.proofs.EntryLemmas.{others_same}
+use Rattle.ic_link_ops.proofs.Prelude.{absent_times, others_same}
 use Rattle.ic_rbtree.proofs.RepresentedClosed.{among}
 use Rattle.ic_augmented.specs.declared.augmented_table.Cell.{Cell}
 use Rattle.ic_augmented.specs.AugmentedTables.{blank, joined_in}

@@ -1,6 +1,5 @@
 use Rattle.std.proofs.Common.{rules, sym, ap, ◌∙◌, Some}
-use Rattle.ic_link_ops.proofs.SequenceLemmas.{some_same}
-use Rattle.ic_link_ops.proofs.Walks.{is_end_yes, is_end_no}
+use Rattle.ic_link_ops.proofs.Prelude.{some_same, is_end_yes, is_end_no}
 use Rattle.ic_augmented.proofs.ChangeLemmas.{climbed_ends, climbed_on, climbed_there}
 use Rattle.ic_augmented.proofs.PathLemmas.{others_here, others_on}
 use Rattle.ic_augmented.proofs.SubtreeLemmas.{subtree_parent, subtree_up, fewer_above}

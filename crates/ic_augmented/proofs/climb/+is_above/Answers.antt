@@ -1,6 +1,5 @@
 use Rattle.std.proofs.Common.{rules, sym, ◌∙◌, Some}
-use Rattle.ic_link_ops.proofs.SequenceLemmas.{some_same}
-use Rattle.ic_link_ops.proofs.Walks.{is_end_yes}
+use Rattle.ic_link_ops.proofs.Prelude.{some_same, is_end_yes}
 use Rattle.ic_augmented.proofs.ChangeLemmas.{among_here, among_up}
 use Rattle.ic_augmented.proofs.SubtreeLemmas.{subtree_parent, subtree_up, fewer_above}
 use Rattle.ic_augmented.proofs.climb.+is_above.Goals as goal

@@ -1,7 +1,5 @@
 use Rattle.std.proofs.Common.{Option, refl, ap, subst, ◌++◌, ◌∷◌, ◌∙◌}
-use Rattle.ic_unsafe_ref.specs.declared.place.Place.{Place}
-use Rattle.ic_link_ops.specs.Times.{times}
-use Rattle.ic_link_ops.specs.Trees.{fork}
+use Rattle.ic_link_ops.specs.Prelude.{Place, times, fork}
 use Rattle.ic_link_ops.proofs.RepresentedTrees.{holds_out}
 use Rattle.ic_rbtree.specs.Closed.{IsIn}
 use Rattle.ic_augmented.specs.Consistent.{IsConsistentBut}

@@ -1,6 +1,5 @@
 use Rattle.std.proofs.Common.{◌≢◌, Option, Some, refl, sym, ap, subst, ◌∙◌}
-use Rattle.ic_unsafe_ref.specs.declared.place.Place.{Place}
-use Rattle.ic_link_ops.specs.Trees.{fork}
+use Rattle.ic_link_ops.specs.Prelude.{Place, fork}
 use Rattle.ic_link_ops.proofs.Walks.{is_end_yes, is_end_no}
 use Rattle.ic_augmented.specs.Consistent.{IsConsistentBut}
 use Rattle.ic_augmented.proofs.ChangeLemmas.{settled_here, kept_beside, others_settled_here}

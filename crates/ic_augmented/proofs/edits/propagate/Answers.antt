@@ -1,6 +1,5 @@
 use Rattle.std.proofs.Common.{refl, ap, ◌∙◌}
-use Rattle.ic_link_ops.specs.Times.{times}
-use Rattle.ic_link_ops.specs.Trees.{fork}
+use Rattle.ic_link_ops.specs.Prelude.{times, fork}
 use Rattle.ic_link_ops.proofs.RepresentedTrees.{holds_out}
 use Rattle.ic_augmented.proofs.EditLemmas.{still_consistent}
 use Rattle.ic_augmented.proofs.PathLemmas.{propagated}

@@ -1,7 +1,6 @@
 use Rattle.std.proofs.Common.{[], ◌∷◌, ◌++◌, ◌∙◌, sym, subst}
 use Rattle.ic_link_ops.specs.Sequences.{IsDisjoint}
-use Rattle.ic_link_ops.proofs.SequenceLemmas.{disjoint_right, disjoint_sym}
-use Rattle.ic_link_ops.proofs.RepresentedTrees.{one_sequence}
+use Rattle.ic_link_ops.proofs.Prelude.{disjoint_right, disjoint_sym, one_sequence}
 use Rattle.ic_rbtree.proofs.KeptHeads.{shown, shows, printed}
 use Rattle.ic_rbtree.proofs.Removing.{spot, spot_linked, represented_of}
 use Rattle.ic_augmented.proofs.EditLemmas.{all_fresh, beside_represents, beside_summed, unlinked, unlinked_absent}

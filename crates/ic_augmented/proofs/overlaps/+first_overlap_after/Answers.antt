@@ -1,7 +1,6 @@
 use Rattle.std.proofs.Common.{rules, ℕ, ◌≡◌, ◌<◌, ◌≤◌, Some, None, arith, refl, sym, ap, ◌∙◌}
 use Rattle.ic_rbtree.specs.SortedObjects.{key_or}
-use Rattle.ic_augmented.specs.Greatest.{number_at}
-use Rattle.ic_augmented.specs.Intervals.{start_in}
+use Rattle.ic_augmented.specs.Prelude.{number_at, start_in}
 use Rattle.ic_augmented.proofs.OverlapLemmas.{after_up, after_here, after_tree, after_right, after_none, after_this, after_below, after_on}
 use Rattle.ic_augmented.proofs.SubtreeLemmas.{subtree_parent}
 use Rattle.ic_augmented.proofs.overlaps.+first_overlap_after.Goals as goal

@@ -1,7 +1,6 @@
 use Rattle.std.proofs.Common.{rules, ℕ, ◌≡◌, ◌<◌, ◌≤◌, arith, refl, sym, ap, ◌∙◌}
 use Rattle.ic_rbtree.specs.SortedObjects.{key_or}
-use Rattle.ic_augmented.specs.Greatest.{number_at}
-use Rattle.ic_augmented.specs.Intervals.{start_in}
+use Rattle.ic_augmented.specs.Prelude.{number_at, start_in}
 use Rattle.ic_augmented.proofs.OverlapLemmas.{has_left, has_right, has_here, overlap_left, overlap_none, overlap_here, overlap_right}
 use Rattle.ic_augmented.proofs.overlaps.+first_overlap_below.Goals as goal
 

@@ -1,7 +1,6 @@
 use Rattle.std.proofs.Common.{Some, ◌∷◌, refl, sym, ◌∙◌, subst}
 use Rattle.ic_link_ops.specs.Frames.{after}
-use Rattle.ic_link_ops.specs.PlacedObjects.{ArePlaced}
-use Rattle.ic_link_ops.specs.Trees.{fork, in_order}
+use Rattle.ic_link_ops.specs.Prelude.{ArePlaced, fork, in_order}
 use Rattle.ic_augmented.specs.Intervals.{start_in}
 use Rattle.ic_augmented.proofs.OverlapLemmas.{placed_left, placed_right, next_below, next_after}
 use Rattle.ic_augmented.proofs.SubtreeLemmas.{member_subtree, subtree_linked}

@@ -1,7 +1,6 @@
 use Rattle.std.proofs.Common.{Option, suc, ◌-◌, rules, arith, ap, sym, subst, ◌∙◌}
 use Rattle.ic_unsafe_ref.specs.declared.place.Place.{Place}
-use Rattle.ic_augmented.specs.Summaries.{is_fresh}
-use Rattle.ic_augmented.specs.Consistent.{IsConsistentTree, IsConsistentBelow, Refreshes}
+use Rattle.ic_augmented.specs.Prelude.{is_fresh, IsConsistentTree, IsConsistentBelow, Refreshes}
 use Rattle.ic_augmented.proofs.ConsistencyLemmas.{refreshes_fresh, refreshes_below, refreshes_more, refreshes_joined, tree_right}
 use Rattle.ic_augmented.proofs.stale.+refresh.Goals as goal
 

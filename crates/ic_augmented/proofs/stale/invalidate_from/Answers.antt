@@ -2,8 +2,7 @@ use Rattle.std.proofs.Common.{Option, Some, refl, sym, ap, subst, ◌∙◌, inl
 use Rattle.ic_unsafe_ref.specs.declared.place.Place.{Place}
 use Rattle.ic_link_ops.proofs.Walks.{is_end_yes}
 use Rattle.ic_rbtree.specs.Closed.{IsIn}
-use Rattle.ic_augmented.specs.Consistent.{IsConsistentBut}
-use Rattle.ic_augmented.specs.MarkLaws.{marks_still, inside_still}
+use Rattle.ic_augmented.specs.Prelude.{IsConsistentBut, marks_still, inside_still}
 use Rattle.ic_augmented.proofs.ConsistencyLemmas.{stale_none, invalidated_none, invalidated_starts}
 use Rattle.ic_augmented.proofs.stale.invalidate_from.Goals as goal
 

@@ -1,6 +1,5 @@
 use Rattle.std.proofs.Common.{sym, ◌∙◌, Some}
-use Rattle.ic_link_ops.proofs.SequenceLemmas.{some_same}
-use Rattle.ic_link_ops.proofs.Walks.{is_end_yes}
+use Rattle.ic_link_ops.proofs.Prelude.{some_same, is_end_yes}
 use Rattle.ic_augmented.proofs.ConsistencyLemmas.{edge_there}
 use Rattle.ic_augmented.proofs.stale.invalidate_up_to.Goals as goal
 

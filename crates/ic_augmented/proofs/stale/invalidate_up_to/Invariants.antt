@@ -2,8 +2,7 @@ use Rattle.std.proofs.Common.{◌≡◌, true, Bool, Some, List}
 use Rattle.ic_unsafe_ref.specs.declared.place.Place.{Place}
 use Rattle.ic_rbtree.specs.Closed.{IsIn}
 use Rattle.ic_augmented.specs.Beside.{IsWrittenIn, IsSameBeside}
-use Rattle.ic_augmented.specs.Consistent.{IsConsistentBut}
-use Rattle.ic_augmented.specs.Summaries.{WritesNoSummary}
+use Rattle.ic_augmented.specs.Prelude.{IsConsistentBut, WritesNoSummary}
 use Rattle.ic_augmented.proofs.stale.invalidate_up_to.Given as goal
 
 abbrev pub invariant-loop-from : goal.invariant-loop-from

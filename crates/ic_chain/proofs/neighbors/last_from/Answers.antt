@@ -1,6 +1,5 @@
 use Rattle.std.proofs.Common.{refl, sym, ◌∙◌}
-use Rattle.ic_link_ops.proofs.Walks.{stretch_first, stretch_through}
-use Rattle.ic_link_ops.proofs.Clearing.{releases_fewer}
+use Rattle.ic_link_ops.proofs.Prelude.{stretch_first, stretch_through, releases_fewer}
 use Rattle.ic_chain.proofs.Walking.{rest_goes_on, rest_ends}
 use Rattle.ic_chain.proofs.neighbors.last_from.Goals as goal
 

@@ -1,7 +1,5 @@
 use Rattle.std.proofs.Common.{◌≡◌, Some, None, List, length}
-use Rattle.ic_link_ops.specs.Prelude.{Place, last}
-use Rattle.ic_link_ops.specs.Chains.{IsStretch}
-use Rattle.ic_link_ops.specs.Walk.{walked}
+use Rattle.ic_link_ops.specs.Prelude.{Place, last, IsStretch, walked}
 use Rattle.ic_chain.proofs.neighbors.last_from.Given as goal
 
 -- the members left to walk over, from `member` on, have the same last member as the whole list, whichever sequence the list has

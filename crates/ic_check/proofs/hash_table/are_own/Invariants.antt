@@ -1,8 +1,6 @@
 use Rattle.std.proofs.Common.{List, length}
-use Rattle.ic_unsafe_ref.specs.declared.place.Place.{Place}
-use Rattle.ic_link_ops.specs.SinglyLinkedList.{IsFollowed, members_from}
-use Rattle.ic_hash_table.specs.Chains.{RepresentsFrom}
-use Rattle.ic_hash_table.specs.HashTable.{number}
+use Rattle.ic_link_ops.specs.Prelude.{Place, IsFollowed, members_from}
+use Rattle.ic_hash_table.specs.Prelude.{RepresentsFrom, number}
 use Rattle.ic_check.specs.HashTables.{IsPlacedIn}
 use Rattle.ic_check.proofs.HashTables.{Owns}
 use Rattle.ic_check.proofs.hash_table.are_own.Given as goal

@@ -1,6 +1,5 @@
 use Rattle.std.proofs.Common.{sym, ap, ◌∙◌}
-use Rattle.ic_hash_table.specs.HashTable.{number}
-use Rattle.ic_hash_table.specs.Slots.{slot_of}
+use Rattle.ic_hash_table.specs.Prelude.{number, slot_of}
 use Rattle.ic_check.proofs.HashTables.{nothing_own, own_exactly}
 use Rattle.ic_check.proofs.hash_table.is_own.Goals as goal
 

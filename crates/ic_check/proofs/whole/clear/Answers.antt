@@ -1,5 +1,4 @@
-use Rattle.std.proofs.Common.{false, ◌∙◌, arith}
-use Rattle.std.proofs.lemmas.List.{length-set}
+use Rattle.std.proofs.Common.{false, ◌∙◌, arith, length-set}
 use Rattle.ic_unsafe_ref.specs.Places.{index_of}
 use Rattle.ic_check.proofs.Marking.{cleared_more, cleared_all, none_marked}
 use Rattle.ic_check.proofs.whole.clear.Goals as goal

@@ -1,8 +1,7 @@
 use Rattle.std.proofs.Common.{subst}
 use Rattle.ic_raw.specs.declared.gap.GapSide.TheVariants.{After}
-use Rattle.ic_raw.specs.LinkWords.{narrow_words}
+use Rattle.ic_raw.specs.Prelude.{narrow_words, place_of}
 use Rattle.ic_raw.specs.ListCalls.{InsertCall}
-use Rattle.ic_raw.specs.Words.{place_of}
 use Rattle.ic_raw.proofs.Numbers.{none_named}
 use Rattle.ic_ffi.proofs.narrow_list_calls.ic_list32_push_front.Goals as goal
 

@@ -1,7 +1,6 @@
 use Rattle.std.proofs.Common.{◌≡◌, ◌+◌, false, length, refl, sym, ap, ◌∙◌, arith}
-use Rattle.ic_link_ops.proofs.Clearing.{next_between, releases_fewer}
+use Rattle.ic_link_ops.proofs.Prelude.{next_between, releases_fewer, few_places}
 use Rattle.ic_link_ops.proofs.SinglyLists.{successors_covered, members_uncleared}
-use Rattle.ic_link_ops.proofs.Walks.{few_places}
 use Rattle.ic_hash_table.specs.Searches.{matches}
 use Rattle.ic_hash_table.proofs.ChainWalks.{passed_none, passed_more, stops_there, stops_last, done_all, done_length, done_fewer, rest_placed}
 use Rattle.ic_hash_table.proofs.chain_search.find_in_chain.Goals as goal

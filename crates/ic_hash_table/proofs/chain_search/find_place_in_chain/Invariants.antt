@@ -1,10 +1,8 @@
 use Rattle.std.proofs.Common.{List, length}
-use Rattle.ic_unsafe_ref.specs.declared.place.Place.{Place}
-use Rattle.ic_link_ops.specs.SinglyLinkedList.{IsFollowed, members_from}
-use Rattle.ic_hash_table.specs.Searches.{is_place}
+use Rattle.ic_link_ops.specs.Prelude.{Place, IsFollowed, members_from}
+use Rattle.ic_hash_table.specs.Prelude.{is_place, RepresentsFrom}
 use Rattle.ic_hash_table.proofs.ChainWalks.{HasPassed}
 use Rattle.ic_hash_table.proofs.chain_search.find_place_in_chain.Given as goal
-use Rattle.ic_hash_table.specs.Chains.{RepresentsFrom}
 
 -- whichever sequence the chain represents, the searched place is no member before `current`
 abbrev pub invariant-loop-current : goal.invariant-loop-current

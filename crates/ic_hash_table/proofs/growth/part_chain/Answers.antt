@@ -1,8 +1,7 @@
 use Rattle.std.proofs.Common.{IsSome, [], refl, sym, subst, ◌∙◌}
 use Rattle.ic_link_ops.specs.Prelude.{object_at, IsAbsent}
-use Rattle.ic_link_ops.proofs.Clearing.{releases_fewer}
+use Rattle.ic_link_ops.proofs.Prelude.{releases_fewer, gap_after_linked}
 use Rattle.ic_link_ops.proofs.Naming.{end_named}
-use Rattle.ic_link_ops.proofs.RepresentedLists.{gap_after_linked}
 use Rattle.ic_link_ops.proofs.SinglyLists.{followed_linked, successors_covered, members_represented}
 use Rattle.ic_hash_table.proofs.ChainParts.{of_member, part_none, left_linked, left_member, part_either}
 use Rattle.ic_hash_table.proofs.growth.part_chain.Goals as goal

@@ -1,11 +1,8 @@
 use Rattle.std.proofs.Common.{[], List, length}
-use Rattle.ic_link_ops.specs.Prelude.{Place, ChangesOnlyIn}
-use Rattle.ic_link_ops.specs.SinglyLinkedList.{members_from}
+use Rattle.ic_link_ops.specs.Prelude.{Place, ChangesOnlyIn, members_from}
 use Rattle.ic_hash_table.specs.Growth.{belongs_at, IsParted}
-use Rattle.ic_hash_table.specs.HashTable.{number}
-use Rattle.ic_hash_table.specs.Searches.{matches}
+use Rattle.ic_hash_table.specs.Prelude.{number, matches, RepresentsFrom}
 use Rattle.ic_hash_table.proofs.growth.part_chain.Given as goal
-use Rattle.ic_hash_table.specs.Chains.{RepresentsFrom}
 
 abbrev pub invariant-loop-rest : goal.invariant-loop-rest
 invariant-loop-rest g l = record {

@@ -1,5 +1,4 @@
-use Rattle.std.proofs.Common.{sym, ap, ◌∙◌}
-use Rattle.std.specs.Option.{option_copied}
+use Rattle.std.proofs.Common.{sym, ap, ◌∙◌, option_copied}
 use Rattle.ic_unsafe_ref.proofs.Placing.{exchanged_puts, leaves, places_other, without}
 use Rattle.ic_indexed.proofs.replace_keyed.replace_keyed.Goals as goal
 

@@ -1,7 +1,5 @@
 use Rattle.std.proofs.Common.{None, IsSome, List, length}
-use Rattle.ic_link_ops.specs.Prelude.{Place, object_at, ArePlaced}
-use Rattle.ic_link_ops.specs.Chains.{RepresentsChain}
-use Rattle.ic_link_ops.specs.Walk.{walked}
+use Rattle.ic_link_ops.specs.Prelude.{Place, object_at, ArePlaced, RepresentsChain, walked}
 use Rattle.ic_list_algorithms.specs.Asked.{AsksBeside}
 use Rattle.ic_list_algorithms.specs.Sifts.{keep_at}
 use Rattle.ic_list_algorithms.proofs.AskedLemmas.{AskedSoFar}

@@ -1,8 +1,6 @@
 use Rattle.std.proofs.Common.{◌≡◌, None, List, length}
 use Rattle.std.specs.Fn.{ComputesKey, CalledAt}
-use Rattle.ic_unsafe_ref.specs.declared.place.Place.{Place}
-use Rattle.ic_link_ops.specs.Chains.{RepresentsChain}
-use Rattle.ic_link_ops.specs.Walk.{walked}
+use Rattle.ic_link_ops.specs.Prelude.{Place, RepresentsChain, walked}
 use Rattle.ic_list_algorithms.proofs.WalkLemmas.{WalksTo}
 use Rattle.ic_list_algorithms.specs.Asked.{AnswersNo, AsksAt}
 use Rattle.ic_list_algorithms.specs.Walks.{test_at, HoldsNowhere}

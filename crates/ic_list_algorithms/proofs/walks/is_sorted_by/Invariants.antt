@@ -1,7 +1,5 @@
 use Rattle.std.proofs.Common.{◌≡◌, None, List, length}
-use Rattle.ic_unsafe_ref.specs.declared.place.Place.{Place}
-use Rattle.ic_link_ops.specs.Chains.{RepresentsChain}
-use Rattle.ic_link_ops.specs.Walk.{walked}
+use Rattle.ic_link_ops.specs.Prelude.{Place, RepresentsChain, walked}
 use Rattle.ic_list_algorithms.proofs.AskedLemmas.{OrderedSoFar}
 use Rattle.ic_list_algorithms.proofs.WalkLemmas.{WalksTo}
 use Rattle.ic_list_algorithms.specs.Asked.{AsksAfter}

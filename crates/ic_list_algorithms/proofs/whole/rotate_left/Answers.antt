@@ -1,5 +1,4 @@
-use Rattle.std.proofs.Common.{[], inl, drop, refl, sym, ◌∙◌, append-nil}
-use Rattle.std.specs.Prelude.{take}
+use Rattle.std.proofs.Common.{[], inl, drop, refl, sym, ◌∙◌, append-nil, take}
 use Rattle.ic_link_ops.specs.Sequences.{at_back}
 use Rattle.ic_link_ops.proofs.RepresentedLists.{last_linked, gap_linked, gap_after_linked}
 use Rattle.ic_list_algorithms.proofs.TurnedLists.{cut_represented, parts_apart, turned_frame}

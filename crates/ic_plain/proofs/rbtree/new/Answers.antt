@@ -6,7 +6,3 @@ use Rattle.ic_plain.proofs.rbtree.new.Goals as goal
 pub returns-clause-sorted : goal.returns-clause-sorted
 unfolding IsInOrder
 returns-clause-sorted g c t objects = nothing_in_order (g.K.KeyAdapter.key_of (adapter_of c.new.result)) t objects c.new.ensures.empty
-
-pub returns-clause-narrow_sorted : goal.returns-clause-narrow_sorted
-unfolding IsInOrder
-returns-clause-narrow_sorted g c t objects = nothing_in_order (g.K.KeyAdapter.key_of (adapter_of c.new.result)) t objects c.new.ensures.empty

@@ -1,6 +1,5 @@
 use Rattle.std.proofs.Common.{◌∷◌, [], ◌++◌, ◌∙◌, sym, append_assoc}
-use Rattle.ic_link_ops.proofs.Positions.{stands_on}
-use Rattle.ic_link_ops.proofs.SequenceLemmas.{last_of_push}
+use Rattle.ic_link_ops.proofs.Prelude.{stands_on, last_of_push}
 use Rattle.ic_plain.proofs.rbtree.next.Goals as goal
 
 pub next_of-requires : goal.next_of-requires

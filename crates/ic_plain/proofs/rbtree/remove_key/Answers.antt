@@ -1,6 +1,5 @@
 use Rattle.std.proofs.Common.{Some, ap, ◌∙◌}
-use Rattle.ic_rbtree.specs.Borders.{equal_at}
-use Rattle.ic_rbtree.specs.Comparing.{compared, order_of}
+use Rattle.ic_rbtree.specs.Prelude.{equal_at, compared, order_of}
 use Rattle.ic_rbtree.specs.Tree.{adapter_of}
 use Rattle.ic_plain.specs.SortedTrees.{IsInOrder}
 use Rattle.ic_plain.proofs.KeyOrder.{passing_member}

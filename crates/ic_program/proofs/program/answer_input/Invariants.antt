@@ -1,5 +1,4 @@
-use Rattle.std.proofs.Common.{◌≡◌, [], true}
-use Rattle.std.specs.Prelude.{OnSome, IsSome}
+use Rattle.std.proofs.Common.{◌≡◌, [], true, OnSome, IsSome}
 use Rattle.ic_program.specs.Played.{IsNew}
 use Rattle.ic_program.specs.HowFar.{AnsweredFirst, IsLeftToRead}
 use Rattle.ic_program.proofs.RunEnds.{lines_in}

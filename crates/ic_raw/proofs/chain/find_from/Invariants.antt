@@ -1,6 +1,5 @@
 use Rattle.std.proofs.Common.{◌≡◌, List, Option}
-use Rattle.ic_unsafe_ref.specs.declared.place.Place.{Place}
-use Rattle.ic_link_ops.specs.SinglyLinkedList.{list_from}
+use Rattle.ic_link_ops.specs.Prelude.{Place, list_from}
 use Rattle.ic_raw.specs.Hash.{has_key}
 use Rattle.ic_raw.specs.Singly.{Represents, lent_table}
 use Rattle.ic_raw.proofs.HashWalks.{Comes, WalksTo}

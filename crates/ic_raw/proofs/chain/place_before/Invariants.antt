@@ -1,10 +1,8 @@
 use Rattle.std.proofs.Common.{◌≡◌, List}
-use Rattle.ic_unsafe_ref.specs.declared.place.Place.{Place}
-use Rattle.ic_link_ops.specs.SinglyLinkedList.{list_from}
+use Rattle.ic_link_ops.specs.Prelude.{Place, list_from}
 use Rattle.ic_hash_table.specs.Searches.{is_place}
-use Rattle.ic_raw.specs.Gaps.{IsNoneOrLinked}
+use Rattle.ic_raw.specs.Prelude.{IsNoneOrLinked, is_linked_one}
 use Rattle.ic_raw.specs.Singly.{Represents, lent_table, next_from}
-use Rattle.ic_raw.specs.Words.{is_linked_one}
 use Rattle.ic_raw.proofs.HashWalks.{Comes}
 use Rattle.ic_raw.proofs.Own.{IsPast}
 use Rattle.ic_raw.proofs.chain.place_before.Given as goal

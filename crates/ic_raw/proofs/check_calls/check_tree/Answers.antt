@@ -1,8 +1,7 @@
 use Rattle.std.proofs.Common.{sym, ap, rules}
 use Rattle.ic_link_ops.specs.PlainTables.{entry_at}
-use Rattle.ic_raw.specs.MarkedTree.{marked_table}
+use Rattle.ic_raw.specs.Prelude.{marked_table, no_tree_words}
 use Rattle.ic_raw.specs.Tree.{Represents, root_in}
-use Rattle.ic_raw.specs.Words.{no_tree_words}
 use Rattle.ic_raw.proofs.Trees.{kept}
 use Rattle.ic_raw.proofs.check_calls.check_tree.Goals as goal
 

@@ -1,8 +1,6 @@
 use Rattle.std.proofs.Common.{Some, None, refl, sym, ◌∙◌, arith}
-use Rattle.ic_raw.specs.Hash.{bucket_at}
+use Rattle.ic_raw.specs.Prelude.{bucket_at, front_of, no_word}
 use Rattle.ic_raw.specs.CheckCalls.{BelongsIn}
-use Rattle.ic_raw.specs.Singly.{front_of}
-use Rattle.ic_raw.specs.Words.{no_word}
 use Rattle.ic_raw.proofs.HashChecks.{own_none, own_more, own_ended, own_there, same_left}
 use Rattle.ic_raw.proofs.HashWalks.{comes_first, comes_on}
 use Rattle.ic_raw.proofs.Lists.{kept}

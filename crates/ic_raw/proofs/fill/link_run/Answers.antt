@@ -1,7 +1,6 @@
 use Rattle.std.proofs.Common.{◌≡◌, ◌≢◌, true, ◌+◌, ◌-◌, ◌++◌, ◌∷◌, refl, sym, ap, ◌∙◌, subst, arith}
-use Rattle.ic_link_ops.specs.Prelude.{Place, index_of}
+use Rattle.ic_link_ops.specs.Prelude.{Place, index_of, HasRoom, nameable, nameable_has_room}
 use Rattle.ic_link_ops.specs.EntryLaws.{linked_in_range}
-use Rattle.ic_link_ops.specs.Widths.{HasRoom, nameable, nameable_has_room}
 use Rattle.ic_link_ops.proofs.Naming.{end_named}
 use Rattle.ic_link_ops.proofs.SequenceLemmas.{some_same}
 use Rattle.ic_raw.specs.Fills.{IsFreeRun}

@@ -1,9 +1,7 @@
 use Rattle.std.proofs.Common.{◌≡◌, ◌<◌, true, Option}
-use Rattle.ic_link_ops.specs.Prelude.{Place, Cut, join}
-use Rattle.ic_link_ops.specs.Chains.{RepresentsChain}
+use Rattle.ic_link_ops.specs.Prelude.{Place, Cut, join, RepresentsChain}
 use Rattle.ic_raw.specs.Fills.{IsFreeRun}
-use Rattle.ic_raw.specs.Gaps.{IsNoneOrLinked, gap_of}
-use Rattle.ic_raw.specs.Tables.{nameable_table}
+use Rattle.ic_raw.specs.Prelude.{IsNoneOrLinked, gap_of, nameable_table}
 use Rattle.ic_raw.proofs.Runs.{Fills, LinksRun}
 use Rattle.ic_raw.proofs.fill.link_run.Given as goal
 

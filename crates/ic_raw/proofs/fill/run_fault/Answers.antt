@@ -1,7 +1,6 @@
 use Rattle.std.proofs.Common.{◌+◌, ◌-◌, ◌∷◌, sym, ap, ◌∙◌, arith}
 use Rattle.ic_raw.specs.Fills.{run_faults, first_fault}
-use Rattle.ic_raw.specs.Tables.{nameable_table, place_fault}
-use Rattle.ic_raw.specs.Words.{place_of}
+use Rattle.ic_raw.specs.Prelude.{nameable_table, place_fault, place_of}
 use Rattle.ic_raw.proofs.Runs.{number_small, faults_left, free_of}
 use Rattle.ic_raw.proofs.fill.run_fault.Goals as goal
 

@@ -1,12 +1,10 @@
 use Rattle.std.proofs.Common.{None, refl, ap, subst, ◌∙◌, rules}
-use Rattle.ic_link_ops.specs.Sequences.{at_back, join}
-use Rattle.ic_raw.specs.Words.{no_words, is_linked_two}
+use Rattle.ic_link_ops.specs.Prelude.{at_back, join, Ends}
+use Rattle.ic_raw.specs.Prelude.{no_words, is_linked_two, gap_between}
 use Rattle.ic_raw.specs.declared.gap.GapSide.TheVariants.{Before}
 use Rattle.ic_raw.specs.Doubly.{Represents, TellsGap, ends_of}
 use Rattle.ic_raw.specs.LinkWords.{lent_table, wide_words}
-use Rattle.ic_link_ops.specs.Chains.{Ends}
 use Rattle.ic_raw.specs.declared.gap.Gap.{Gap}
-use Rattle.ic_raw.specs.Gaps.{gap_between}
 use Rattle.ic_raw.proofs.Views.{viewed, spliced_back}
 use Rattle.ic_raw.proofs.Lists.{kept}
 use Rattle.ic_raw.proofs.Doubly.{law, told_back}

@@ -1,9 +1,8 @@
 use Rattle.std.proofs.Common.{None, refl, sym, ap, ◌∙◌, rules}
-use Rattle.ic_link_ops.specs.Sequences.{at_front}
+use Rattle.ic_link_ops.specs.Prelude.{at_front, end_of}
 use Rattle.ic_raw.specs.Words.{no_word, is_linked_one, place_of}
 use Rattle.ic_raw.specs.Singly.{Represents, lent_table}
 use Rattle.ic_raw.specs.declared.gap.Gap.{Gap}
-use Rattle.ic_link_ops.specs.Chains.{end_of}
 use Rattle.ic_link_ops.proofs.SequenceLemmas.{none_not}
 use Rattle.ic_raw.proofs.Views.{viewed, spliced_back}
 use Rattle.ic_raw.proofs.Lists.{kept}

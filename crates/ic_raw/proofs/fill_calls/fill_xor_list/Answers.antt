@@ -1,12 +1,9 @@
 use Rattle.std.proofs.Common.{None, refl, ap, subst, ◌∙◌, rules}
-use Rattle.ic_link_ops.specs.Sequences.{at_back, join}
-use Rattle.ic_raw.specs.Words.{no_word, is_linked_one}
+use Rattle.ic_link_ops.specs.Prelude.{at_back, join, Ends}
+use Rattle.ic_raw.specs.Prelude.{no_word, is_linked_one, ends_of, gap_between}
 use Rattle.ic_raw.specs.Xor.{Represents, TellsGap}
 use Rattle.ic_raw.specs.Singly.{lent_table, table_of}
-use Rattle.ic_raw.specs.Doubly.{ends_of}
-use Rattle.ic_link_ops.specs.Chains.{Ends}
 use Rattle.ic_raw.specs.declared.gap.Gap.{Gap}
-use Rattle.ic_raw.specs.Gaps.{gap_between}
 use Rattle.ic_raw.proofs.Views.{viewed, spliced_back}
 use Rattle.ic_raw.proofs.Lists.{kept}
 use Rattle.ic_link_ops.proofs.XorLists.{joined_linked}

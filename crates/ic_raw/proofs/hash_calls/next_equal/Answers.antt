@@ -1,9 +1,6 @@
 use Rattle.std.proofs.Common.{◌≡◌, ◌++◌, ◌∷◌, Option, Some, sym, ap, subst, ◌∙◌, rules}
-use Rattle.ic_unsafe_ref.specs.declared.place.Place.{Place}
-use Rattle.ic_link_ops.proofs.SequenceLemmas.{some_same}
-use Rattle.ic_link_ops.proofs.RepresentedLists.{represents_middle}
-use Rattle.ic_link_ops.specs.PlainTables.{entry_at}
-use Rattle.ic_link_ops.specs.SinglyLinkedList.{list_from}
+use Rattle.ic_link_ops.specs.Prelude.{Place, entry_at, list_from}
+use Rattle.ic_link_ops.proofs.Prelude.{some_same, represents_middle}
 use Rattle.ic_raw.specs.Singly.{Represents, lent_table, list_of, successor, word_of_front}
 use Rattle.ic_raw.specs.Words.{no_word}
 use Rattle.ic_raw.proofs.Entries.{place_kept}

@@ -1,6 +1,5 @@
 use Rattle.std.proofs.Common.{Some, sym, ap, ◌∙◌}
-use Rattle.ic_link_ops.proofs.SequenceLemmas.{some_same}
-use Rattle.ic_link_ops.proofs.RepresentedLists.{represents_middle}
+use Rattle.ic_link_ops.proofs.Prelude.{some_same, represents_middle}
 use Rattle.ic_raw.proofs.Doubly.{told_after, told_before}
 use Rattle.ic_raw.proofs.Gaps.{gap_is}
 use Rattle.ic_raw.proofs.Own.{sides_are}

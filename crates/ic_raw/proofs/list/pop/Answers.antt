@@ -2,9 +2,8 @@ use Rattle.std.proofs.Common.{◌≡◌, ◌∷◌, Some, sym, ap, ◌∙◌, su
 use Rattle.ic_link_ops.proofs.SequenceLemmas.{some_same}
 use Rattle.ic_raw.proofs.Lists.{removed}
 use Rattle.ic_raw.specs.Doubly.{around}
-use Rattle.ic_raw.specs.Gaps.{TakenOut}
+use Rattle.ic_raw.specs.Prelude.{TakenOut, sides}
 use Rattle.ic_raw.proofs.Own.{taken_out}
-use Rattle.ic_raw.specs.Touches.{sides}
 use Rattle.ic_raw.proofs.Touches.{touches_remove, touches_same}
 use Rattle.ic_raw.specs.LinkWords.{lent_table}
 use Rattle.ic_raw.proofs.LinkViews.{link_words, end_has_room, linked_has_room}

@@ -1,6 +1,5 @@
 use Rattle.std.proofs.Common.{◌≡◌, ◌∷◌, Some, None, [], refl, sym, subst, ◌∙◌}
-use Rattle.ic_link_ops.proofs.SequenceLemmas.{some_same}
-use Rattle.ic_link_ops.proofs.RepresentedLists.{represents_middle}
+use Rattle.ic_link_ops.proofs.Prelude.{some_same, represents_middle}
 use Rattle.ic_raw.specs.declared.gap.GapSide.TheVariants.{After}
 use Rattle.ic_raw.specs.Doubly.{TellsGap, around}
 use Rattle.ic_raw.proofs.Doubly.{told_after}

@@ -1,8 +1,7 @@
 use Rattle.std.proofs.Common.{◌∷◌, Some, refl, sym, ap, ◌∙◌, subst, rules}
 use Rattle.ic_link_ops.proofs.SequenceLemmas.{some_same}
-use Rattle.ic_raw.specs.Words.{HasNumber}
+use Rattle.ic_raw.specs.Prelude.{HasNumber, sides}
 use Rattle.ic_raw.specs.Doubly.{TellsGap, end_on, ends_of}
-use Rattle.ic_raw.specs.Touches.{sides}
 use Rattle.ic_raw.proofs.Doubly.{around_viewed, told_back}
 use Rattle.ic_raw.specs.LinkWords.{table_of}
 use Rattle.ic_raw.proofs.LinkViews.{link_words, touched_back}

@@ -2,10 +2,9 @@ use Rattle.std.proofs.Common.{◌∷◌, Some, refl, sym, ap, ◌∙◌, subst, 
 use Rattle.ic_link_ops.specs.Chains.{Ends}
 use Rattle.ic_link_ops.proofs.SequenceLemmas.{some_same}
 use Rattle.ic_raw.specs.declared.gap.GapSide.TheVariants.{After}
-use Rattle.ic_raw.specs.Words.{HasNumber}
+use Rattle.ic_raw.specs.Prelude.{HasNumber, sides}
 use Rattle.ic_raw.specs.Doubly.{Represents}
 use Rattle.ic_raw.specs.ListCalls.{PopCall}
-use Rattle.ic_raw.specs.Touches.{sides}
 use Rattle.ic_raw.proofs.Doubly.{around_viewed}
 use Rattle.ic_raw.proofs.Views.{renamed}
 use Rattle.ic_raw.proofs.Lists.{kept}

@@ -1,11 +1,9 @@
 use Rattle.std.proofs.Common.{◌≡◌, ◌∷◌, None, Some, refl, sym, ap, ◌∙◌, rules}
-use Rattle.ic_link_ops.specs.Chains.{Ends}
-use Rattle.ic_link_ops.specs.Sequences.{at_back, join}
+use Rattle.ic_link_ops.specs.Prelude.{Ends, at_back, join}
 use Rattle.ic_raw.specs.declared.gap.GapSide.TheVariants.{Before}
-use Rattle.ic_raw.specs.Words.{place_of}
+use Rattle.ic_raw.specs.Prelude.{place_of, sides}
 use Rattle.ic_raw.specs.Doubly.{Represents, RepresentsList}
 use Rattle.ic_raw.specs.ListCalls.{InsertCall}
-use Rattle.ic_raw.specs.Touches.{sides}
 use Rattle.ic_raw.proofs.Doubly.{at_end, gap_viewed}
 use Rattle.ic_raw.proofs.Views.{renamed}
 use Rattle.ic_raw.proofs.Lists.{kept}

@@ -1,7 +1,6 @@
 use Rattle.std.proofs.Common.{refl, sym, subst, rules}
 use Rattle.ic_link_ops.specs.Sequences.{join}
-use Rattle.ic_raw.specs.Touches.{sides}
-use Rattle.ic_raw.specs.Words.{place_of}
+use Rattle.ic_raw.specs.Prelude.{sides, place_of}
 use Rattle.ic_raw.specs.Doubly.{Represents, TellsGap, ends_of}
 use Rattle.ic_raw.proofs.Doubly.{gap_viewed, split_back, told_back}
 use Rattle.ic_raw.proofs.Ends.{cut_same}

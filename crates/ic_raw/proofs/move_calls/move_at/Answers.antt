@@ -1,8 +1,7 @@
 use Rattle.std.proofs.Common.{◌≡◌, inl, inr, Some, ◌∷◌, ◌++◌, refl, sym, ap, subst, ◌∙◌, rules}
 use Rattle.ic_link_ops.proofs.SequenceLemmas.{some_same, distinct_middle}
 use Rattle.ic_raw.specs.declared.gap.GapSide.TheVariants.{After, Before}
-use Rattle.ic_raw.specs.Touches.{sides}
-use Rattle.ic_raw.specs.Words.{place_of}
+use Rattle.ic_raw.specs.Prelude.{sides, place_of}
 use Rattle.ic_raw.specs.Doubly.{Represents, TellsGap, ends_of}
 use Rattle.ic_raw.specs.ListCalls.{MoveCall}
 use Rattle.ic_raw.proofs.Doubly.{around_viewed, gap_viewed, told_back}

@@ -1,9 +1,7 @@
 use Rattle.std.proofs.Common.{◌≡◌, Some, ◌∷◌, ◌++◌, refl, sym, ap, subst, ◌∙◌, rules}
 use Rattle.ic_link_ops.proofs.SequenceLemmas.{some_same}
-use Rattle.ic_raw.specs.Gaps.{outermost, toward}
+use Rattle.ic_raw.specs.Prelude.{outermost, toward, sides, place_of}
 use Rattle.ic_raw.specs.declared.gap.GapSide.TheVariants.{After, Before}
-use Rattle.ic_raw.specs.Touches.{sides}
-use Rattle.ic_raw.specs.Words.{place_of}
 use Rattle.ic_raw.specs.Doubly.{Represents, TellsGap, end_on, ends_of}
 use Rattle.ic_raw.proofs.Doubly.{around_viewed, gap_viewed, told_back, told_viewed}
 use Rattle.ic_raw.proofs.Lists.{kept}

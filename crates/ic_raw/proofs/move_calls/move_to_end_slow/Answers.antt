@@ -1,10 +1,8 @@
 use Rattle.std.proofs.Common.{◌≡◌, Some, None, [], ◌∷◌, ◌++◌, refl, sym, ap, subst, ◌∙◌, rules}
 use Rattle.ic_link_ops.proofs.SequenceLemmas.{some_same}
-use Rattle.ic_raw.specs.Answers.{refusal}
+use Rattle.ic_raw.specs.Prelude.{refusal, Touches, sides, place_of}
 use Rattle.ic_raw.specs.declared.gap.GapSide.TheVariants.{After, Before}
 use Rattle.ic_raw.specs.Gaps.{IsApart, IsMoved, outermost, toward}
-use Rattle.ic_raw.specs.Touches.{Touches, sides}
-use Rattle.ic_raw.specs.Words.{place_of}
 use Rattle.ic_raw.specs.Doubly.{Represents, TellsGap, around, end_on, ends_of, gap_from}
 use Rattle.ic_raw.proofs.Doubly.{around_viewed, gap_viewed, told_viewed}
 use Rattle.ic_raw.proofs.Numbers.{none_named}

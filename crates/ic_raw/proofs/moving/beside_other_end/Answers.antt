@@ -1,6 +1,5 @@
 use Rattle.std.proofs.Common.{sym, ap, ◌∙◌}
-use Rattle.ic_link_ops.proofs.SequenceLemmas.{some_same}
-use Rattle.ic_link_ops.proofs.RepresentedLists.{represents_middle}
+use Rattle.ic_link_ops.proofs.Prelude.{some_same, represents_middle}
 use Rattle.ic_raw.proofs.Gaps.{gap_is}
 use Rattle.ic_raw.proofs.Own.{sides_are}
 use Rattle.ic_raw.proofs.moving.beside_other_end.Goals as goal

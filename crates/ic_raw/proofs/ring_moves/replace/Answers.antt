@@ -1,6 +1,5 @@
 use Rattle.std.proofs.Common.{◌≡◌, ◌≢◌, Some, None, [], ◌∷◌, ◌++◌, refl, sym, ap, ◌∙◌, inl, inr}
-use Rattle.ic_unsafe_ref.proofs.PlaceLemmas.{same_or_not}
-use Rattle.ic_link_ops.proofs.SequenceLemmas.{absent_both, first_not, last_or-append, none_not, some_same}
+use Rattle.ic_link_ops.proofs.Prelude.{same_or_not, absent_both, first_not, last_or-append, none_not, some_same}
 use Rattle.ic_ring.proofs.Circles.{circle_beside, free_outside, rotated}
 use Rattle.ic_raw.specs.declared.gap.GapSide.TheVariants.{Before}
 use Rattle.ic_raw.specs.LinkWords.{lent_table, neighbors}

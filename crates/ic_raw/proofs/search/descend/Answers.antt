@@ -2,8 +2,7 @@ use Rattle.std.proofs.Common.{◌≡◌, ◌+◌, [], refl, sym, ◌∙◌, subs
 use Rattle.ic_link_ops.proofs.SequenceLemmas.{none_not}
 use Rattle.ic_rbtree.proofs.Closed.{in_there}
 use Rattle.ic_rbtree.proofs.Sending.{sent_over}
-use Rattle.ic_raw.specs.Keys.{against}
-use Rattle.ic_raw.specs.Seen.{seen_node}
+use Rattle.ic_raw.specs.Prelude.{against, seen_node}
 use Rattle.ic_raw.specs.Tree.{lent_table}
 use Rattle.ic_raw.proofs.Keys.{IsAt, at_next, at_end, comes_first, turned_nowhere}
 use Rattle.ic_raw.proofs.Trees.{in_range, has}

@@ -1,9 +1,7 @@
-use Rattle.std.proofs.Common.{Some, None, cond, refl, sym, ap, ◌∙◌}
-use Rattle.std.specs.Ordering.{is_eq, is_lt}
+use Rattle.std.proofs.Common.{Some, None, cond, refl, sym, ap, ◌∙◌, is_eq, is_lt}
 use Rattle.ic_link_ops.proofs.SequenceLemmas.{some_same}
 use Rattle.ic_link_ops.specs.Sequences.{Cut, last}
-use Rattle.ic_rbtree.specs.Borders.{if_passes, equal_at}
-use Rattle.ic_rbtree.specs.Comparing.{goes_left, is_beyond}
+use Rattle.ic_rbtree.specs.Prelude.{if_passes, equal_at, goes_left, is_beyond}
 use Rattle.ic_rbtree.specs.declared.keys.key_adapter.Bound.TheVariants.{Included}
 use Rattle.ic_rbtree.proofs.Closed.{in_there, read_in}
 use Rattle.ic_rbtree.proofs.Gaps.{gap_same}

@@ -3,8 +3,7 @@ use Rattle.ic_unsafe_ref.specs.Places.{index_of}
 use Rattle.ic_link_ops.specs.declared.side.Side.TheVariants.{Right}
 use Rattle.ic_link_ops.proofs.SequenceLemmas.{some_same}
 use Rattle.ic_rbtree.proofs.Closed.{read_in}
-use Rattle.ic_raw.specs.Keys.{against, key_of}
-use Rattle.ic_raw.specs.Seen.{has_place}
+use Rattle.ic_raw.specs.Prelude.{against, key_of, has_place}
 use Rattle.ic_raw.specs.Tree.{lent_table}
 use Rattle.ic_raw.proofs.Gaps.{never}
 use Rattle.ic_raw.proofs.Keys.{fits, ends_at}

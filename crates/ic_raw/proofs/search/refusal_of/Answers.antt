@@ -1,8 +1,6 @@
 use Rattle.std.proofs.Common.{refl, sym, ap, ◌∙◌}
-use Rattle.ic_raw.specs.Keys.{keys_fault}
-use Rattle.ic_raw.specs.Tables.{member_fault}
+use Rattle.ic_raw.specs.Prelude.{keys_fault, member_fault, is_linked_three}
 use Rattle.ic_raw.specs.Tree.{lent_table}
-use Rattle.ic_raw.specs.Words.{is_linked_three}
 use Rattle.ic_raw.proofs.Numbers.{none_named}
 use Rattle.ic_raw.proofs.Faults.{by_first, by_others}
 use Rattle.ic_raw.proofs.Keys.{lacking, enough}

@@ -1,7 +1,6 @@
 use Rattle.std.proofs.Common.{[], ◌∷◌, ◌≤◌, length, refl, ◌∙◌, sym, subst, rules}
 use Rattle.ic_link_ops.specs.LinkSteps.{acquires}
-use Rattle.ic_raw.specs.Keys.{against, key_of}
-use Rattle.ic_raw.specs.Words.{no_tree_words}
+use Rattle.ic_raw.specs.Prelude.{against, key_of, no_tree_words}
 use Rattle.ic_raw.proofs.Gaps.{never}
 use Rattle.ic_raw.proofs.Views.{free_viewed, viewed, ordered_back}
 use Rattle.ic_raw.proofs.Trees.{kept}

@@ -1,6 +1,5 @@
 use Rattle.std.proofs.Common.{◌≡◌, refl, sym, ◌∙◌}
-use Rattle.ic_link_ops.proofs.SequenceLemmas.{none_not, some_same}
-use Rattle.ic_link_ops.proofs.RepresentedLists.{represents_middle}
+use Rattle.ic_link_ops.proofs.Prelude.{none_not, some_same, represents_middle}
 use Rattle.ic_raw.proofs.Gaps.{never}
 use Rattle.ic_raw.proofs.Singly.{law, touches_exchanged}
 use Rattle.ic_raw.proofs.Lists.{replaced}

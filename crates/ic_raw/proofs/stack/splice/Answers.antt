@@ -1,8 +1,6 @@
 use Rattle.std.proofs.Common.{Some, refl, sym, ap, subst, ◌∙◌}
-use Rattle.ic_link_ops.specs.Sequences.{first, join}
-use Rattle.ic_link_ops.specs.SinglyLinkedList.{list_from}
-use Rattle.ic_link_ops.proofs.SequenceLemmas.{none_not, nothing_last}
-use Rattle.ic_link_ops.proofs.RepresentedLists.{last_linked}
+use Rattle.ic_link_ops.specs.Prelude.{first, join, list_from}
+use Rattle.ic_link_ops.proofs.Prelude.{none_not, nothing_last, last_linked}
 use Rattle.ic_raw.specs.Singly.{Represents, lent_table}
 use Rattle.ic_raw.proofs.Gaps.{never}
 use Rattle.ic_raw.proofs.Lists.{begin_apart}

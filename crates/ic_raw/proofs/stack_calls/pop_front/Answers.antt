@@ -1,7 +1,6 @@
 use Rattle.std.proofs.Common.{◌≡◌, Option, Some, None, [], ◌∷◌, refl, sym, ap, subst, ◌∙◌, rules}
-use Rattle.ic_unsafe_ref.specs.declared.place.Place.{Place}
+use Rattle.ic_link_ops.specs.Prelude.{Place, Front}
 use Rattle.ic_link_ops.proofs.SequenceLemmas.{some_same}
-use Rattle.ic_link_ops.specs.SinglyLinkedList.{Front}
 use Rattle.ic_raw.specs.Words.{no_word, is_linked_one, HasNumber}
 use Rattle.ic_raw.specs.Singly.{Represents, lent_table}
 use Rattle.ic_raw.proofs.Views.{viewed, removed_back, unlinked_back}

@@ -1,6 +1,5 @@
 use Rattle.std.proofs.Common.{[], ◌∷◌, refl, sym, ap, ◌∙◌, rules}
-use Rattle.ic_link_ops.specs.Sequences.{join, last}
-use Rattle.ic_link_ops.specs.SinglyLinkedList.{Front}
+use Rattle.ic_link_ops.specs.Prelude.{join, last, Front}
 use Rattle.ic_raw.specs.Singly.{Represents, lent_table}
 use Rattle.ic_raw.specs.Words.{no_word}
 use Rattle.ic_raw.proofs.Gaps.{accepts, apart_same, never, refuses, three}

@@ -1,11 +1,8 @@
 use Rattle.std.proofs.Common.{length, slice_set, sym, subst}
 use Rattle.ic_link_ops.specs.PlainTables.{entry_at}
-use Rattle.ic_link_ops.proofs.EntryLemmas.{entry_same}
-use Rattle.ic_link_ops.proofs.SequenceLemmas.{some_same}
+use Rattle.ic_link_ops.proofs.Prelude.{entry_same, some_same}
 use Rattle.ic_raw.specs.declared.words.RawThree.{RawThree}
-use Rattle.ic_raw.specs.Seen.{NamesWithin}
-use Rattle.ic_raw.specs.Tables.{raw_entries}
-use Rattle.ic_raw.specs.Words.{no_tree_words}
+use Rattle.ic_raw.specs.Prelude.{NamesWithin, raw_entries, no_tree_words}
 use Rattle.ic_raw.proofs.Seen.{bare_within}
 use Rattle.ic_raw.proofs.Trees.{in_range}
 use Rattle.ic_raw.proofs.tree.acquire.Goals as goal

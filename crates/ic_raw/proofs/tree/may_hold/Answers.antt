@@ -2,8 +2,7 @@ use Rattle.std.proofs.Common.{◌≡◌, refl, sym, ap, ◌∙◌, arith}
 use Rattle.ic_link_ops.specs.declared.side.Side.TheVariants.{Left}
 use Rattle.ic_unsafe_ref.specs.Places.{word_of}
 use Rattle.ic_raw.specs.declared.words.RawThree.{RawThree}
-use Rattle.ic_raw.specs.Gaps.{before}
-use Rattle.ic_raw.specs.Words.{place_in}
+use Rattle.ic_raw.specs.Prelude.{before, place_in}
 use Rattle.ic_raw.proofs.Entries.{same_word}
 use Rattle.ic_raw.proofs.Gaps.{never}
 use Rattle.ic_raw.proofs.Trees.{root_by_parent}

@@ -5,9 +5,8 @@ use Rattle.ic_rbtree.specs.Pieces.{loose}
 use Rattle.ic_rbtree.proofs.Attaching.{acquired_represented, insert_pos_kept, inserts}
 use Rattle.ic_rbtree.proofs.Closed.{weaker}
 use Rattle.ic_rbtree.proofs.Removing.{represents_of}
-use Rattle.ic_raw.specs.Words.{is_linked_three}
+use Rattle.ic_raw.specs.Prelude.{is_linked_three, seen, seen_node, has_place}
 use Rattle.ic_raw.specs.Tree.{node, lent_table}
-use Rattle.ic_raw.specs.Seen.{seen, seen_node, has_place}
 use Rattle.ic_raw.proofs.Seen.{seen_changes}
 use Rattle.ic_raw.proofs.Trees.{in_range, in_kept, has, closed, seen_represented, seen_insert_pos, told_kept, told_with, links_back, frame_told}
 use Rattle.ic_raw.proofs.TreeSets.{came_within}

@@ -2,9 +2,8 @@ use Rattle.std.proofs.Common.{Some, [], refl}
 use Rattle.ic_link_ops.proofs.SequenceLemmas.{absent_without, distinct_middle}
 use Rattle.ic_link_ops.proofs.RepresentedTrees.{represents_beside}
 use Rattle.ic_rbtree.proofs.Removing.{represented_of, represents_of, removes}
-use Rattle.ic_raw.specs.Gaps.{before}
+use Rattle.ic_raw.specs.Prelude.{before, seen, seen_node, has_place}
 use Rattle.ic_raw.specs.Tree.{node, lent_table}
-use Rattle.ic_raw.specs.Seen.{seen, seen_node, has_place}
 use Rattle.ic_raw.proofs.Gaps.{never}
 use Rattle.ic_raw.proofs.Seen.{seen_changes}
 use Rattle.ic_raw.proofs.Trees.{in_range, has, end_in, closed, seen_represented, told_kept, members_told, links_back, frame_told}

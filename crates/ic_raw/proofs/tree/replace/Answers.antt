@@ -7,10 +7,8 @@ use Rattle.ic_rbtree.proofs.Attaching.{acquired_represented}
 use Rattle.ic_rbtree.proofs.Closed.{weaker}
 use Rattle.ic_rbtree.proofs.Removing.{spot, placed, represents_of, loose_absent}
 use Rattle.ic_rbtree.proofs.Replacing.{replaces}
-use Rattle.ic_raw.specs.Gaps.{before}
-use Rattle.ic_raw.specs.Words.{is_linked_three}
+use Rattle.ic_raw.specs.Prelude.{before, is_linked_three, seen, seen_node, has_place}
 use Rattle.ic_raw.specs.Tree.{node, lent_table}
-use Rattle.ic_raw.specs.Seen.{seen, seen_node, has_place}
 use Rattle.ic_raw.proofs.Gaps.{never}
 use Rattle.ic_raw.proofs.Seen.{seen_changes}
 use Rattle.ic_raw.proofs.Trees.{in_range, in_kept, has, end_in, closed, seen_represented, told_kept, told_with, links_back, frame_told}

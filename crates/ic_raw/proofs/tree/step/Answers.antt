@@ -1,14 +1,10 @@
 use Rattle.std.proofs.Common.{◌≡◌, [], Some, None, Option, refl, sym, ◌∙◌, subst}
 use Rattle.ic_link_ops.specs.Frames.{across}
 use Rattle.ic_rbtree.proofs.Removing.{represented_of, represents_of}
-use Rattle.ic_rbtree.specs.Sides.{IsBeside}
-use Rattle.ic_raw.specs.Answers.{IsFound}
-use Rattle.ic_raw.specs.Gaps.{IsNoneOrLinked}
+use Rattle.ic_rbtree.specs.Prelude.{IsBeside, StepsTo, root_of}
+use Rattle.ic_raw.specs.Prelude.{IsFound, IsNoneOrLinked, is_linked_three, place_of}
 use Rattle.ic_raw.specs.Tree.{node, lent_table}
 use Rattle.ic_raw.specs.Seen.{seen, seen_node, has_place, HandsOutStep, StepEndsIn}
-use Rattle.ic_rbtree.specs.StepsTo.{StepsTo}
-use Rattle.ic_rbtree.specs.Tree.{root_of}
-use Rattle.ic_raw.specs.Words.{is_linked_three, place_of}
 use Rattle.ic_unsafe_ref.specs.declared.place.Place.{Place}
 use Rattle.ic_link_ops.proofs.SequenceLemmas.{none_not}
 use Rattle.ic_raw.proofs.Faults.{by_others, faultless}

@@ -1,11 +1,8 @@
 use Rattle.std.proofs.Common.{[], subst}
 use Rattle.ic_link_ops.specs.Frames.{across}
 use Rattle.ic_rbtree.proofs.Removing.{represented_of, represents_of}
-use Rattle.ic_raw.specs.Answers.{IsFound}
-use Rattle.ic_raw.specs.Gaps.{IsNoneOrLinked}
+use Rattle.ic_raw.specs.Prelude.{IsFound, IsNoneOrLinked, seen_node, has_place, is_linked_three}
 use Rattle.ic_raw.specs.Tree.{node, lent_table}
-use Rattle.ic_raw.specs.Seen.{seen_node, has_place}
-use Rattle.ic_raw.specs.Words.{is_linked_three}
 use Rattle.ic_raw.proofs.Trees.{in_range, end_in, closed, beside_stands, one_beside, seen_represented}
 use Rattle.ic_raw.proofs.tree.step_from_none.Goals as goal
 

@@ -1,6 +1,5 @@
 use Rattle.std.proofs.Common.{None, refl, rules}
-use Rattle.ic_raw.specs.Tree.{root_in}
-use Rattle.ic_raw.specs.Words.{no_tree_words, is_linked_three}
+use Rattle.ic_raw.specs.Prelude.{root_in, no_tree_words, is_linked_three}
 use Rattle.ic_raw.proofs.Gaps.{never}
 use Rattle.ic_raw.proofs.Trees.{kept}
 use Rattle.ic_raw.proofs.TreeSteps.{leads_back}

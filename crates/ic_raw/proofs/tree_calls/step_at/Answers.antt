@@ -1,6 +1,5 @@
 use Rattle.std.proofs.Common.{rules}
-use Rattle.ic_raw.specs.Tree.{root_in}
-use Rattle.ic_raw.specs.Words.{place_of}
+use Rattle.ic_raw.specs.Prelude.{root_in, place_of}
 use Rattle.ic_raw.proofs.TreeSteps.{end_back, step_back}
 use Rattle.ic_raw.proofs.tree_calls.step_at.Goals as goal
 

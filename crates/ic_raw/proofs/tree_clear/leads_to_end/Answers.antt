@@ -1,10 +1,8 @@
 use Rattle.std.proofs.Common.{◌≡◌, false, not, Option, Some, None, is_some, true≢false, [], ◌∷◌, refl, sym, ap, ◌∙◌, subst, arith, rules}
 use Rattle.ic_link_ops.specs.Prelude.{Place, at_front, IsLinked}
-use Rattle.ic_link_ops.proofs.SequenceLemmas.{none_not, some_same}
-use Rattle.ic_link_ops.proofs.RepresentedTrees.{holds_linked}
-use Rattle.ic_raw.specs.Gaps.{IsNoneOrLinked}
+use Rattle.ic_link_ops.proofs.Prelude.{none_not, some_same, holds_linked}
+use Rattle.ic_raw.specs.Prelude.{IsNoneOrLinked, is_linked_three}
 use Rattle.ic_raw.specs.Tree.{lent_table}
-use Rattle.ic_raw.specs.Words.{is_linked_three}
 use Rattle.ic_raw.proofs.Gaps.{never}
 use Rattle.ic_raw.proofs.Trees.{in_range, end_in, seen_represents}
 use Rattle.ic_raw.proofs.TreeWalks.{seen_length, walk_starts, walk_member, walk_goes_on, walk_over}

@@ -1,14 +1,10 @@
 use Rattle.std.proofs.Common.{◌≡◌, List, Option, Some, None}
 use Rattle.ic_unsafe_ref.specs.declared.place.Place.{Place}
 use Rattle.ic_link_ops.specs.declared.side.Side.TheVariants.{Right}
-use Rattle.ic_rbtree.specs.Closed.{IsIn}
-use Rattle.ic_rbtree.specs.StepsTo.{StepsTo}
-use Rattle.ic_rbtree.specs.Tree.{root_of}
-use Rattle.ic_raw.specs.Gaps.{IsNoneOrLinked}
-use Rattle.ic_raw.specs.Seen.{seen, seen_node, has_place, StepEndsIn}
+use Rattle.ic_rbtree.specs.Prelude.{IsIn, StepsTo, root_of}
+use Rattle.ic_raw.specs.Prelude.{IsNoneOrLinked, seen, seen_node, has_place, StepEndsIn, is_linked_three}
 use Rattle.ic_raw.specs.Tree.{lent_table}
 use Rattle.ic_raw.specs.TreeShape.{IsSeen, LeadsToEnd}
-use Rattle.ic_raw.specs.Words.{is_linked_three}
 use Rattle.ic_raw.proofs.TreeWalks.{HasComeTo}
 use Rattle.ic_raw.proofs.tree_clear.leads_to_end.Given as goal
 

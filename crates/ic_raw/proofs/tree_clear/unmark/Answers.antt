@@ -2,10 +2,9 @@ use Rattle.std.proofs.Common.{[], ◌∷◌, refl, sym, ap, ◌∙◌, slice_set
 use Rattle.ic_link_ops.specs.PlainTables.{table_with}
 use Rattle.ic_link_ops.proofs.EntryLemmas.{entry_same, entry_read}
 use Rattle.ic_raw.specs.declared.words.RawThree.{RawThree}
-use Rattle.ic_raw.specs.Tables.{raw_entries}
+use Rattle.ic_raw.specs.Prelude.{raw_entries, no_tree_words}
 use Rattle.ic_raw.specs.Tree.{lent_table}
 use Rattle.ic_raw.specs.TreeShape.{unmarked}
-use Rattle.ic_raw.specs.Words.{no_tree_words}
 use Rattle.ic_raw.proofs.Entries.{changes_only}
 use Rattle.ic_raw.proofs.TreeWalks.{seen_unmarked}
 use Rattle.ic_raw.proofs.tree_clear.unmark.Goals as goal

@@ -1,8 +1,6 @@
 use Rattle.std.proofs.Common.{◌≡◌, Option, None, List, [], ◌∷◌, ◌++◌, ◌<◌, ℕ, refl, sym, ap, ◌∙◌, subst, inl, inr, arith}
 use Rattle.ic_link_ops.specs.Prelude.{Place, index_of, at_front, IsAbsent, IsMember, Extent, Table, IsUnlinked}
-use Rattle.ic_unsafe_ref.proofs.PlaceLemmas.{same_or_not}
-use Rattle.ic_link_ops.proofs.SequenceLemmas.{absent_left, absent_right, absent_both}
-use Rattle.ic_link_ops.proofs.RepresentedTrees.{holds_linked}
+use Rattle.ic_link_ops.proofs.Prelude.{same_or_not, absent_left, absent_right, absent_both, holds_linked}
 use Rattle.ic_raw.specs.declared.words.RawThree.{RawThree}
 use Rattle.ic_raw.specs.Calls.{Clears}
 use Rattle.ic_raw.specs.Tree.{lent_table}

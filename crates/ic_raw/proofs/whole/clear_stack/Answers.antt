@@ -1,8 +1,6 @@
 use Rattle.std.proofs.Common.{◌≡◌, Some, [], refl, sym, ap, ◌∙◌}
-use Rattle.ic_link_ops.specs.Sequences.{first}
-use Rattle.ic_link_ops.specs.SinglyLinkedList.{list_from}
-use Rattle.ic_link_ops.proofs.SequenceLemmas.{none_not, nothing_last}
-use Rattle.ic_link_ops.proofs.StepLemmas.{each_unlinked}
+use Rattle.ic_link_ops.specs.Prelude.{first, list_from}
+use Rattle.ic_link_ops.proofs.Prelude.{none_not, nothing_last, each_unlinked}
 use Rattle.ic_raw.specs.Words.{is_linked_one}
 use Rattle.ic_raw.specs.Singly.{Represents, lent_table}
 use Rattle.ic_raw.proofs.DoublyWalks.{nothing_first}

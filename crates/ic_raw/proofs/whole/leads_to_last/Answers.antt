@@ -1,9 +1,8 @@
 use Rattle.std.proofs.Common.{◌≡◌, [], ◌∷◌, length, refl, sym, ap, ◌∙◌, arith, rules}
 use Rattle.ic_link_ops.specs.Sequences.{last}
 use Rattle.ic_link_ops.specs.LinkedList.{next_of}
-use Rattle.ic_link_ops.proofs.SequenceLemmas.{some_same}
+use Rattle.ic_link_ops.proofs.Prelude.{some_same, stretch_first, stretch_of}
 use Rattle.ic_link_ops.proofs.DoublyLists.{represented_length}
-use Rattle.ic_link_ops.proofs.Walks.{stretch_first, stretch_of}
 use Rattle.ic_chain.proofs.Walking.{rest_more, rest_goes_on, rest_ends}
 use Rattle.ic_raw.proofs.Entries.{same_word}
 use Rattle.ic_raw.proofs.Gaps.{never}

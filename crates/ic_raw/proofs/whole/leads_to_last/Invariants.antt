@@ -1,7 +1,5 @@
 use Rattle.std.proofs.Common.{◌≡◌, ◌≤◌, Some, None, List, length}
-use Rattle.ic_link_ops.specs.Prelude.{Place, last}
-use Rattle.ic_link_ops.specs.Chains.{IsStretch}
-use Rattle.ic_link_ops.specs.LinkedList.{IsBetween}
+use Rattle.ic_link_ops.specs.Prelude.{Place, last, IsStretch, IsBetween}
 use Rattle.ic_raw.specs.Doubly.{Represents}
 use Rattle.ic_raw.proofs.DoublyWalks.{LeadsTo}
 use Rattle.ic_raw.specs.LinkWords.{lent_table, neighbors}

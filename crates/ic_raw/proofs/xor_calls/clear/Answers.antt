@@ -1,6 +1,5 @@
 use Rattle.std.proofs.Common.{refl, subst, rules}
-use Rattle.ic_raw.specs.Words.{no_word, is_linked_one}
-use Rattle.ic_raw.specs.Doubly.{ends_of}
+use Rattle.ic_raw.specs.Prelude.{no_word, is_linked_one, ends_of}
 use Rattle.ic_raw.specs.Singly.{lent_table}
 use Rattle.ic_raw.specs.Xor.{LeadsThrough}
 use Rattle.ic_raw.proofs.Gaps.{never}

@@ -1,6 +1,5 @@
 use Rattle.std.proofs.Common.{ap, ◌∙◌}
-use Rattle.ic_raw.specs.Words.{is_linked_one}
-use Rattle.ic_raw.specs.Tables.{member_fault}
+use Rattle.ic_raw.specs.Prelude.{is_linked_one, member_fault}
 use Rattle.ic_raw.specs.Singly.{lent_table}
 use Rattle.ic_raw.proofs.Faults.{by_first, by_others}
 use Rattle.ic_raw.proofs.xor_calls.refusal_with_both.Goals as goal

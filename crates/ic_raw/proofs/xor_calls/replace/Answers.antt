@@ -1,8 +1,7 @@
 use Rattle.std.proofs.Common.{◌≡◌, Some, [], ◌∷◌, refl, sym, ap, ◌∙◌, rules}
 use Rattle.ic_link_ops.proofs.SequenceLemmas.{some_same}
-use Rattle.ic_raw.specs.Words.{no_word, is_linked_one}
+use Rattle.ic_raw.specs.Prelude.{no_word, is_linked_one, beyond}
 use Rattle.ic_raw.specs.Singly.{table_of}
-use Rattle.ic_raw.specs.Xor.{beyond}
 use Rattle.ic_raw.proofs.Gaps.{never}
 use Rattle.ic_raw.proofs.Touches.{touched_back}
 use Rattle.ic_raw.proofs.Views.{free_viewed, viewed, replaced_back, unlinked_back}

@@ -1,7 +1,6 @@
 use Rattle.std.proofs.Common.{Some, [], ◌∷◌, sym, ap, rules}
 use Rattle.ic_raw.specs.Singly.{table_of}
-use Rattle.ic_raw.specs.Xor.{beyond}
-use Rattle.ic_raw.specs.Words.{no_word}
+use Rattle.ic_raw.specs.Prelude.{beyond, no_word}
 use Rattle.ic_raw.proofs.Touches.{touched_back}
 use Rattle.ic_raw.proofs.xor_calls.take.Goals as goal
 

@@ -1,6 +1,5 @@
 use Rattle.std.proofs.Common.{◌≡◌, ◌≤◌, Some, None, List, length}
-use Rattle.ic_link_ops.specs.Prelude.{Place, last}
-use Rattle.ic_link_ops.specs.Chains.{IsStretch}
+use Rattle.ic_link_ops.specs.Prelude.{Place, last, IsStretch}
 use Rattle.ic_link_ops.specs.XorLinkedList.{IsJoined}
 use Rattle.ic_raw.specs.Words.{is_linked_one}
 use Rattle.ic_raw.specs.Singly.{lent_table}

@@ -2,9 +2,8 @@ use Rattle.std.proofs.Common.{◌≡◌, [], refl, sym, ◌∙◌, Some, None, s
 use Rattle.ic_link_ops.proofs.SequenceLemmas.{some_same}
 use Rattle.ic_raw.proofs.Lists.{removed}
 use Rattle.ic_raw.proofs.Xor.{next_represented}
-use Rattle.ic_raw.specs.Gaps.{TakenOut, gap_between}
+use Rattle.ic_raw.specs.Prelude.{TakenOut, gap_between, beyond}
 use Rattle.ic_raw.specs.Singly.{lent_table}
-use Rattle.ic_raw.specs.Xor.{beyond}
 use Rattle.ic_raw.proofs.Own.{sides_are, taken_out}
 use Rattle.ic_raw.proofs.Touches.{touches_remove}
 use Rattle.ic_raw.proofs.xor_list.pop_before_others.Goals as goal

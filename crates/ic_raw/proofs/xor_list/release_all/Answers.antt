@@ -3,13 +3,11 @@ use Rattle.ic_link_ops.specs.Prelude.{Place, first, last, Table, releases_each}
 use Rattle.ic_link_ops.specs.StepLaws.{replays_on}
 use Rattle.ic_link_ops.specs.XorLinkedList.{IsJoined}
 use Rattle.ic_link_ops.proofs.Clearing.{Releases, releases_none, releases_more, releases_all, next_between}
-use Rattle.ic_link_ops.proofs.SequenceLemmas.{last_of_push}
-use Rattle.ic_link_ops.proofs.StepLemmas.{releases_append, each_unlinked, unlinks_only}
+use Rattle.ic_link_ops.proofs.Prelude.{last_of_push, releases_append, each_unlinked, unlinks_only}
 use Rattle.ic_link_ops.proofs.XorLists.{represented_length}
 use Rattle.ic_raw.specs.declared.words.RawOne.{RawOne}
-use Rattle.ic_raw.specs.Words.{is_linked_one}
+use Rattle.ic_raw.specs.Prelude.{is_linked_one, HasNeighbors, other}
 use Rattle.ic_raw.specs.Singly.{lent_table}
-use Rattle.ic_raw.specs.Xor.{HasNeighbors, other}
 use Rattle.ic_raw.proofs.Gaps.{never}
 use Rattle.ic_raw.proofs.Singly.{covered}
 use Rattle.ic_raw.proofs.Views.{unlinks_none}

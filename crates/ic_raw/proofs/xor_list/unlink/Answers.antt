@@ -1,7 +1,6 @@
 use Rattle.std.proofs.Common.{◌∙◌}
 use Rattle.ic_link_ops.proofs.EntryLemmas.{entry_same}
-use Rattle.ic_raw.specs.Tables.{raw_entries}
-use Rattle.ic_raw.specs.Words.{no_word}
+use Rattle.ic_raw.specs.Prelude.{raw_entries, no_word}
 use Rattle.ic_raw.proofs.Entries.{changes_only}
 use Rattle.ic_raw.proofs.Singly.{covered}
 use Rattle.ic_raw.proofs.xor_list.unlink.Goals as goal

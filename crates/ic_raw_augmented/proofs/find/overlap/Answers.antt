@@ -1,10 +1,8 @@
-use Rattle.std.proofs.Common.{◌≡◌, ◌<◌, ◌≤◌, Option, Some, None, [], sym, ap, ◌∙◌, subst, arith, inl, inr}
-use Rattle.std.proofs.lemmas.Bool.{ltb-true}
+use Rattle.std.proofs.Common.{◌≡◌, ◌<◌, ◌≤◌, Option, Some, None, [], sym, ap, ◌∙◌, subst, arith, inl, inr, ltb-true}
 use Rattle.ic_link_ops.specs.Prelude.{Place, index_of}
 use Rattle.ic_link_ops.proofs.SequenceLemmas.{some_same}
 use Rattle.ic_rbtree.proofs.Closed.{in_there}
-use Rattle.ic_raw.specs.Keys.{key_of}
-use Rattle.ic_raw.specs.Seen.{has_place}
+use Rattle.ic_raw.specs.Prelude.{key_of, has_place}
 use Rattle.ic_raw.specs.Tree.{lent_table}
 use Rattle.ic_raw.proofs.Trees.{closed}
 use Rattle.ic_raw_augmented.specs.declared.sums.Kind.TheVariants.{Greatest}

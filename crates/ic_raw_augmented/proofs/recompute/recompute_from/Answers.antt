@@ -1,10 +1,6 @@
-use Rattle.std.proofs.Common.{◌<◌, Option, sym, ◌∙◌, subst}
-use Rattle.std.proofs.lemmas.Bool.{ltb-true}
-use Rattle.ic_unsafe_ref.specs.declared.place.Place.{Place}
-use Rattle.ic_unsafe_ref.specs.Places.{index_of}
-use Rattle.ic_link_ops.proofs.SequenceLemmas.{none_not, some_same}
-use Rattle.ic_link_ops.proofs.RepresentedTrees.{holds_linked}
-use Rattle.ic_link_ops.proofs.Walks.{is_end_not}
+use Rattle.std.proofs.Common.{◌<◌, Option, sym, ◌∙◌, subst, ltb-true}
+use Rattle.ic_link_ops.specs.Prelude.{Place, index_of}
+use Rattle.ic_link_ops.proofs.Prelude.{none_not, some_same, holds_linked, is_end_not}
 use Rattle.ic_raw.specs.Seen.{also}
 use Rattle.ic_raw.specs.Tree.{lent_table}
 use Rattle.ic_raw.proofs.Gaps.{never}

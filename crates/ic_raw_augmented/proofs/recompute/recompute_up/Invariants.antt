@@ -1,9 +1,8 @@
 use Rattle.std.proofs.Common.{◌≡◌, ◌-◌, Bool, true, Option, Some, None, List}
 use Rattle.ic_unsafe_ref.specs.declared.place.Place.{Place}
 use Rattle.ic_rbtree.specs.Closed.{IsClosed}
-use Rattle.ic_raw.specs.Seen.{also, has_place, seen, seen_node}
+use Rattle.ic_raw.specs.Prelude.{also, has_place, seen, seen_node, IsSeen}
 use Rattle.ic_raw.specs.Tree.{lent_table}
-use Rattle.ic_raw.specs.TreeShape.{IsSeen}
 use Rattle.ic_raw_augmented.specs.Sums.{IsNear, IsSummedBut, KeepsValues, StaysBeside}
 use Rattle.ic_raw_augmented.proofs.recompute.recompute_up.Given as goal
 

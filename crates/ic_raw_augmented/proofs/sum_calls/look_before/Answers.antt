@@ -1,7 +1,6 @@
 use Rattle.std.proofs.Common.{◌≡◌, true, refl, sym, ◌∙◌, subst}
 use Rattle.ic_unsafe_ref.specs.declared.place.Place.{Place}
-use Rattle.ic_link_ops.proofs.SequenceLemmas.{none_not, some_same, split_member}
-use Rattle.ic_link_ops.proofs.RepresentedTrees.{holds_linked}
+use Rattle.ic_link_ops.proofs.Prelude.{none_not, some_same, split_member, holds_linked}
 use Rattle.ic_raw.specs.Tree.{lent_table}
 use Rattle.ic_raw.specs.Words.{is_linked_three}
 use Rattle.ic_raw.proofs.Gaps.{never}

@@ -1,6 +1,5 @@
 use Rattle.std.proofs.Common.{[], ◌∷◌, ◌≤◌, length, sym, subst, rules}
-use Rattle.ic_raw.specs.Tree.{root_in}
-use Rattle.ic_raw.specs.Words.{no_tree_words, place_of}
+use Rattle.ic_raw.specs.Prelude.{root_in, no_tree_words, place_of}
 use Rattle.ic_raw.proofs.Views.{viewed}
 use Rattle.ic_raw.proofs.Trees.{kept}
 use Rattle.ic_raw.proofs.TreeSets.{reached_back}

@@ -1,10 +1,9 @@
 use Rattle.std.proofs.Common.{◌≡◌, ◌≤◌, false, length, Option, Some, List, refl, sym, ◌∙◌, subst, rules}
 use Rattle.ic_unsafe_ref.specs.declared.place.Place.{Place}
 use Rattle.ic_link_ops.proofs.SequenceLemmas.{none_not, some_same}
-use Rattle.ic_raw.specs.Gaps.{IsNoneOrLinked}
+use Rattle.ic_raw.specs.Prelude.{IsNoneOrLinked, is_linked_three, no_tree_words, place_of}
 use Rattle.ic_raw.specs.Tree.{lent_table}
 use Rattle.ic_raw.specs.declared.words.RawThree.{RawThree}
-use Rattle.ic_raw.specs.Words.{is_linked_three, no_tree_words, place_of}
 use Rattle.ic_raw.proofs.Gaps.{never}
 use Rattle.ic_raw.proofs.Trees.{in_range, kept, seen_represents}
 use Rattle.ic_raw.proofs.Views.{viewed}

@@ -3,10 +3,8 @@ use Rattle.ic_link_ops.specs.Prelude.{Place, join}
 use Rattle.ic_link_ops.specs.declared.side.Side.TheVariants.{Right}
 use Rattle.ic_link_ops.proofs.SequenceLemmas.{some_same}
 use Rattle.ic_rbtree.proofs.Closed.{in_there, read_in}
-use Rattle.ic_raw.specs.Gaps.{IsNoneOrLinked}
+use Rattle.ic_raw.specs.Prelude.{IsNoneOrLinked, IsSeen, is_linked_three}
 use Rattle.ic_raw.specs.Tree.{lent_table}
-use Rattle.ic_raw.specs.TreeShape.{IsSeen}
-use Rattle.ic_raw.specs.Words.{is_linked_three}
 use Rattle.ic_raw.proofs.Gaps.{never}
 use Rattle.ic_raw.proofs.Trees.{beside_stands, in_range, root_stands, seen_represents}
 use Rattle.ic_raw_augmented.specs.Find.{IsFirstBeyond}

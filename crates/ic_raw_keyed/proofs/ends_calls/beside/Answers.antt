@@ -1,7 +1,6 @@
 use Rattle.std.proofs.Common.{Some}
-use Rattle.ic_raw.specs.Seen.{has_place}
+use Rattle.ic_raw.specs.Prelude.{has_place, no_tree_words}
 use Rattle.ic_raw.specs.Tree.{lent_table, root_in}
-use Rattle.ic_raw.specs.Words.{no_tree_words}
 use Rattle.ic_raw.proofs.Gaps.{never}
 use Rattle.ic_raw.proofs.Trees.{beside_stands, closed, end_in, in_range, kept, root_stands, seen_represents}
 use Rattle.ic_raw.proofs.TreeSteps.{end_back}

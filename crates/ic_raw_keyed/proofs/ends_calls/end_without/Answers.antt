@@ -2,8 +2,7 @@ use Rattle.std.proofs.Common.{Some, sym, ◌∙◌, subst}
 use Rattle.ic_link_ops.specs.Frames.{across}
 use Rattle.ic_link_ops.specs.Sequences.{Cut, join}
 use Rattle.ic_link_ops.specs.declared.side.Side.{Side}
-use Rattle.ic_link_ops.proofs.SequenceLemmas.{some_same}
-use Rattle.ic_link_ops.proofs.Walks.{is_end_no, is_end_yes}
+use Rattle.ic_link_ops.proofs.Prelude.{some_same, is_end_no, is_end_yes}
 use Rattle.ic_rbtree.specs.Sides.{IsBeside}
 use Rattle.ic_rbtree.proofs.EndsKept.{end_stays, end_steps}
 use Rattle.ic_raw.specs.Tree.{RepresentsTree, node, root_in, table_of}

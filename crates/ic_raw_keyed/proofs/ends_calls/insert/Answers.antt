@@ -3,8 +3,7 @@ use Rattle.ic_link_ops.specs.Sequences.{Cut, insert, join}
 use Rattle.ic_link_ops.specs.declared.side.Side.{Side}
 use Rattle.ic_link_ops.specs.declared.side.Side.TheVariants.{Left, Right}
 use Rattle.ic_link_ops.proofs.SequenceLemmas.{some_same}
-use Rattle.ic_rbtree.specs.Ends.{end_on}
-use Rattle.ic_rbtree.specs.Closed.{AreIn}
+use Rattle.ic_rbtree.specs.Prelude.{end_on, AreIn}
 use Rattle.ic_raw.specs.Seen.{has_place}
 use Rattle.ic_raw.specs.Tree.{RepresentsTree, root_in, table_of}
 use Rattle.ic_raw_keyed.specs.Ends.{EndWith, SaysEnds, end_in}

@@ -1,7 +1,6 @@
 use Rattle.std.proofs.Common.{◌≡◌, Some, None, [], refl, sym, ◌∙◌, rules}
 use Rattle.ic_link_ops.specs.declared.side.Side.TheVariants.{Left}
-use Rattle.ic_link_ops.proofs.SequenceLemmas.{none_not, some_same}
-use Rattle.ic_link_ops.proofs.Walks.{is_end_no, is_end_yes}
+use Rattle.ic_link_ops.proofs.Prelude.{none_not, some_same, is_end_no, is_end_yes}
 use Rattle.ic_raw.specs.Words.{place_of}
 use Rattle.ic_raw_keyed.specs.Ends.{end_in}
 use Rattle.ic_raw_keyed.proofs.ends_calls.pop_first.Goals as goal

@@ -3,10 +3,9 @@ use Rattle.ic_unsafe_ref.specs.declared.place.Place.{Place}
 use Rattle.ic_link_ops.proofs.SequenceLemmas.{some_same}
 use Rattle.ic_rbtree.specs.Closed.{IsIn}
 use Rattle.ic_raw.specs.declared.words.RawThree.{RawThree}
-use Rattle.ic_raw.specs.Seen.{has_place}
+use Rattle.ic_raw.specs.Prelude.{has_place, place_of}
 use Rattle.ic_raw.specs.Tree.{IsNoneOrLinkedIn, root_in, table_of}
 use Rattle.ic_raw.specs.TreeCalls as trees
-use Rattle.ic_raw.specs.Words.{place_of}
 use Rattle.ic_raw_keyed.proofs.TreeEnds.{stands_in}
 use Rattle.ic_raw_keyed.proofs.ends_calls.remove.Goals as goal
 

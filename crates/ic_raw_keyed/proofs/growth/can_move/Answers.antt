@@ -1,9 +1,7 @@
 use Rattle.std.proofs.Common.{◌≡◌, ◌+◌, ℕ, false, not, is_some, true≢false, Option, Some, None, refl, sym, ap, ◌∙◌, subst}
 use Rattle.ic_unsafe_ref.specs.declared.place.Place.{Place}
-use Rattle.ic_raw.specs.Gaps.{IsNoneOrLinked}
-use Rattle.ic_raw.specs.Hash.{bucket_at}
+use Rattle.ic_raw.specs.Prelude.{IsNoneOrLinked, bucket_at, is_linked_one}
 use Rattle.ic_raw.specs.Singly.{front_of, lent_table}
-use Rattle.ic_raw.specs.Words.{is_linked_one}
 use Rattle.ic_raw.proofs.Gaps.{never}
 use Rattle.ic_raw.proofs.HashChecks.{own_ended, own_more, own_none, own_there}
 use Rattle.ic_raw.proofs.HashWalks.{comes_first, comes_linked, comes_on}

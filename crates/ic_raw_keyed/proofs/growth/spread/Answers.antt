@@ -1,7 +1,5 @@
-use Rattle.std.proofs.Common.{◌≡◌, ◌-◌, Option, Some, List, true, length, refl, sym, ap, ◌∙◌, subst, arith}
-use Rattle.std.proofs.lemmas.List.{length-set}
-use Rattle.ic_link_ops.specs.Prelude.{Place, Extent}
-use Rattle.ic_link_ops.specs.SinglyLinkedList.{list_from, successor_at}
+use Rattle.std.proofs.Common.{◌≡◌, ◌-◌, Option, Some, List, true, length, refl, sym, ap, ◌∙◌, subst, arith, length-set}
+use Rattle.ic_link_ops.specs.Prelude.{Place, Extent, list_from, successor_at}
 use Rattle.ic_link_ops.proofs.SinglyLists.{represented_length}
 use Rattle.ic_raw.specs.declared.words.RawFront.{RawFront}
 use Rattle.ic_raw.specs.Singly.{lent_table, successor, word_of_front}

@@ -1,6 +1,5 @@
 use Rattle.std.proofs.Common.{◌≡◌, List, length}
-use Rattle.ic_link_ops.specs.Prelude.{Place, KeepsLinked}
-use Rattle.ic_link_ops.specs.SinglyLinkedList.{list_from}
+use Rattle.ic_link_ops.specs.Prelude.{Place, KeepsLinked, list_from}
 use Rattle.ic_raw.specs.Singly.{Represents, lent_table}
 use Rattle.ic_raw.specs.Words.{is_linked_one}
 use Rattle.ic_raw_keyed.proofs.MovedChains.{SpreadsTo}

@@ -2,9 +2,8 @@ use Rattle.std.proofs.Common.{List, refl, sym, subst, rules}
 use Rattle.std.specs.List.{AllByRecursion}
 use Rattle.ic_link_ops.specs.SinglyLinkedList.{list_from}
 use Rattle.ic_raw.specs.declared.words.RawOne.{RawOne}
-use Rattle.ic_raw.specs.Hash.{HoldsChains}
+use Rattle.ic_raw.specs.Prelude.{HoldsChains, no_word}
 use Rattle.ic_raw.specs.Singly.{Represents, lent_table, table_of}
-use Rattle.ic_raw.specs.Words.{no_word}
 use Rattle.ic_raw.proofs.Gaps.{never}
 use Rattle.ic_raw.proofs.Lists.{kept}
 use Rattle.ic_raw.proofs.Views.{frame_back, represented_back, viewed}

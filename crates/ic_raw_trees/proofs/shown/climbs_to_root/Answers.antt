@@ -1,13 +1,9 @@
 use Rattle.std.proofs.Common.{refl, sym, ◌∙◌, arith}
 use Rattle.ic_unsafe_ref.specs.Places.{index_of}
 use Rattle.ic_link_ops.specs.EntryLaws.{linked_in_range}
-use Rattle.ic_link_ops.proofs.SequenceLemmas.{split_member}
-use Rattle.ic_link_ops.proofs.RepresentedTrees.{root_member}
-use Rattle.ic_link_ops.proofs.Walks.{is_end_yes}
+use Rattle.ic_link_ops.proofs.Prelude.{split_member, root_member, is_end_yes}
 use Rattle.ic_rbtree.proofs.Climbed.{at_root, child_member, climbs, has_child, is_end_there, starts}
-use Rattle.ic_raw.specs.MarkedTree.{marked_entries}
-use Rattle.ic_raw.specs.Tree.{node}
-use Rattle.ic_raw.specs.Words.{is_linked_three, no_tree_words}
+use Rattle.ic_raw.specs.Prelude.{marked_entries, node, is_linked_three, no_tree_words}
 use Rattle.ic_raw_trees.proofs.Checks.{member_of}
 use Rattle.ic_raw_trees.proofs.shown.climbs_to_root.Goals as goal
 

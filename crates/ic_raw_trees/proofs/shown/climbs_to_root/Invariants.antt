@@ -2,9 +2,8 @@ use Rattle.std.proofs.Common.{List, ◌-◌, ◌≤◌}
 use Rattle.ic_link_ops.specs.Prelude.{Place, IsMember, IsLinked}
 use Rattle.ic_rbtree.specs.Tree.{root_of}
 use Rattle.ic_rbtree.proofs.Climbed.{Climbs}
-use Rattle.ic_raw.specs.MarkedTree.{marked_table}
+use Rattle.ic_raw.specs.Prelude.{marked_table, is_linked_three}
 use Rattle.ic_raw.specs.Tree.{Represents, node}
-use Rattle.ic_raw.specs.Words.{is_linked_three}
 use Rattle.ic_raw_trees.proofs.shown.climbs_to_root.Given as goal
 
 abbrev pub invariant-loop-steps : goal.invariant-loop-steps

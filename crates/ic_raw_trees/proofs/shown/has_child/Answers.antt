@@ -3,8 +3,7 @@ use Rattle.ic_unsafe_ref.specs.Places.{index_of}
 use Rattle.ic_link_ops.specs.EntryLaws.{linked_in_range}
 use Rattle.ic_link_ops.proofs.Walks.{is_end_yes, is_end_no}
 use Rattle.ic_rbtree.proofs.Climbed.{is_end_there}
-use Rattle.ic_raw.specs.MarkedTree.{marked_entries}
-use Rattle.ic_raw.specs.Words.{is_linked_three, no_tree_words}
+use Rattle.ic_raw.specs.Prelude.{marked_entries, is_linked_three, no_tree_words}
 use Rattle.ic_raw_trees.proofs.shown.has_child.Goals as goal
 
 pub returns-then-is_at : goal.returns-then-is_at

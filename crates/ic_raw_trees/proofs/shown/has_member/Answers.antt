@@ -1,6 +1,5 @@
 use Rattle.std.proofs.Common.{sym, ◌∙◌}
-use Rattle.ic_link_ops.proofs.SequenceLemmas.{split_member}
-use Rattle.ic_link_ops.proofs.RepresentedTrees.{holds_linked}
+use Rattle.ic_link_ops.proofs.Prelude.{split_member, holds_linked}
 use Rattle.ic_raw_trees.proofs.shown.has_member.Goals as goal
 
 pub returns-then-not-tells_linked : goal.returns-then-not-tells_linked

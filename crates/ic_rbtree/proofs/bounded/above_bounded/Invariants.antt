@@ -1,10 +1,7 @@
 use Rattle.std.proofs.Common.{◌≡◌, ◌+◌, Bool, true, List, Option, Some, length}
-use Rattle.ic_link_ops.specs.Prelude.{Place, Table}
-use Rattle.ic_link_ops.specs.Trees.{Tree, top}
+use Rattle.ic_link_ops.specs.Prelude.{Place, Table, Tree, top}
 use Rattle.ic_link_ops.specs.Frames.{Frame}
-use Rattle.ic_rbtree.specs.Closed.{IsClosed}
-use Rattle.ic_rbtree.specs.Height.{turns}
-use Rattle.ic_rbtree.specs.Pieces.{Piece, ClimbState}
+use Rattle.ic_rbtree.specs.Prelude.{IsClosed, turns, Piece, ClimbState}
 use Rattle.ic_rbtree.specs.StepsTo.{ComesUpTo}
 use Rattle.ic_rbtree.proofs.Outermost.{Up}
 use Rattle.ic_rbtree.proofs.bounded.above_bounded.Given as goal

@@ -1,9 +1,7 @@
 use Rattle.std.proofs.Common.{◌≡◌, ◌+◌, Bool, true, List, Option, Some, length}
-use Rattle.ic_link_ops.specs.Prelude.{Place, Table}
-use Rattle.ic_link_ops.specs.Trees.{Tree, top}
+use Rattle.ic_link_ops.specs.Prelude.{Place, Table, Tree, top}
 use Rattle.ic_link_ops.specs.Frames.{Frame}
-use Rattle.ic_rbtree.specs.Closed.{IsClosed}
-use Rattle.ic_rbtree.specs.Pieces.{Piece, ClimbState}
+use Rattle.ic_rbtree.specs.Prelude.{IsClosed, Piece, ClimbState}
 use Rattle.ic_rbtree.specs.StepsTo.{IsBelow}
 use Rattle.ic_rbtree.proofs.Outermost.{Down}
 use Rattle.ic_rbtree.proofs.bounded.outermost_bounded.Given as goal

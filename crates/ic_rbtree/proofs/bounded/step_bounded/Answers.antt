@@ -2,8 +2,7 @@ use Rattle.std.proofs.Common.{Some, inl, inr, sym, ap, ◌∙◌, subst}
 use Rattle.ic_link_ops.specs.Frames.{across, child_on}
 use Rattle.ic_link_ops.specs.RedBlackTree.{node_at}
 use Rattle.ic_link_ops.proofs.SequenceLemmas.{none_not, some_same}
-use Rattle.ic_rbtree.specs.Sides.{IsBeside}
-use Rattle.ic_rbtree.specs.Closed.{IsIn}
+use Rattle.ic_rbtree.specs.Prelude.{IsBeside, IsIn}
 use Rattle.ic_rbtree.specs.StepsTo.{ComesUpTo, IsBelow, StepEnds, StepsTo}
 use Rattle.ic_rbtree.proofs.Beside.{null_alone, null_end, member_end, member_above}
 use Rattle.ic_rbtree.proofs.Closed.{in_there, in_child}

@@ -1,7 +1,6 @@
 use Rattle.std.proofs.Common.{◌≡◌, ◌*◌, ◌+◌, Option, Some, None, ℕ, nat_eq, sym, ap, ◌∙◌, arith, ne_eqb}
-use Rattle.ic_link_ops.specs.Prelude.{Place, index_of, word_of}
+use Rattle.ic_link_ops.specs.Prelude.{Place, index_of, word_of, is_end}
 use Rattle.ic_unsafe_ref.proofs.PlaceLemmas.{word_is, word_tells}
-use Rattle.ic_link_ops.specs.Walk.{is_end}
 use Rattle.ic_rbtree.proofs.readings.is_at.Goals as goal
 
 -- an optional place is the place p exactly if their two words are equal

@@ -1,10 +1,8 @@
 use Rattle.std.proofs.Common.{◌≡◌, List, Option, Some}
-use Rattle.ic_link_ops.specs.Prelude.{Place, Table}
-use Rattle.ic_link_ops.specs.Trees.{Tree, top}
+use Rattle.ic_link_ops.specs.Prelude.{Place, Table, Tree, top}
 use Rattle.ic_link_ops.specs.Frames.{Frame}
 use Rattle.ic_rbtree.specs.Climb.{depth}
-use Rattle.ic_rbtree.specs.Pieces.{Piece, ClimbState}
-use Rattle.ic_rbtree.specs.Sides.{IsInTree}
+use Rattle.ic_rbtree.specs.Prelude.{Piece, ClimbState, IsInTree}
 use Rattle.ic_rbtree.proofs.Outermost.{Up}
 use Rattle.ic_rbtree.proofs.steps.above_on.Given as goal
 

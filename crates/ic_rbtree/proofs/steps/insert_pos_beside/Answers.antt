@@ -1,7 +1,6 @@
 use Rattle.std.proofs.Common.{sym, ◌∙◌, subst}
 use Rattle.ic_link_ops.proofs.Positions.{member_there}
-use Rattle.ic_rbtree.specs.Sides.{IsBeside}
-use Rattle.ic_rbtree.specs.Insertion.{IsInsertPos}
+use Rattle.ic_rbtree.specs.Prelude.{IsBeside, IsInsertPos}
 use Rattle.ic_rbtree.proofs.Removing.{spot_linked}
 use Rattle.ic_rbtree.proofs.Beside.{root_can, member_spot, below_can, null_end, null_insert_pos, member_end, outermost_here}
 use Rattle.ic_rbtree.proofs.steps.insert_pos_beside.Goals as goal

@@ -1,7 +1,5 @@
 use Rattle.std.proofs.Common.{Some, sym, ◌∙◌, subst}
-use Rattle.ic_link_ops.specs.Chains.{list_head}
-use Rattle.ic_link_ops.specs.Edits.{Inserts}
-use Rattle.ic_link_ops.specs.Sequences.{at_back}
+use Rattle.ic_link_ops.specs.Prelude.{list_head, Inserts, at_back}
 use Rattle.ic_rbtree.specs.Vines.{RepresentsVine}
 use Rattle.ic_rbtree.proofs.Builders.{back_linked, hung_alone, hung_last}
 use Rattle.ic_rbtree.proofs.vine.hang_after.Goals as goal

@@ -1,9 +1,7 @@
 use Rattle.std.proofs.Common.{List, Some, [], ◌∷◌, ◌++◌, ◌≡◌, sym, ap, subst, ◌∙◌}
-use Rattle.ic_link_ops.specs.Prelude.{Place, IsAbsent, last}
-use Rattle.ic_link_ops.specs.LinkedList.{IsBetween, neighbors_at}
-use Rattle.ic_link_ops.proofs.Chains.{chain_cut, last_between}
+use Rattle.ic_link_ops.specs.Prelude.{Place, IsAbsent, last, IsBetween, neighbors_at}
+use Rattle.ic_link_ops.proofs.Prelude.{chain_cut, last_between, absent_left, absent_right, none_not, some_same}
 use Rattle.ic_link_ops.proofs.DoublyLists.{next_turns, prev_turns}
-use Rattle.ic_link_ops.proofs.SequenceLemmas.{absent_left, absent_right, none_not, some_same}
 use Rattle.ic_ring.specs.Rings.{IsCircle}
 use Rattle.ic_ring.proofs.Circles.{circles_joined, circle_cut, seen_at, next_not, facing, next_stays, prev_stays}
 use Rattle.ic_ring.proofs.OtherRings.{others_stay_two}

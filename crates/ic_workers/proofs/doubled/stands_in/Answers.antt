@@ -1,5 +1,4 @@
-use Rattle.std.proofs.Common.{◌≡◌, ◌<◌, ◌+◌, ◌-◌, ◌/◌, ℕ, suc, false, take, drop, length, sym, ap, ◌∙◌, subst, arith}
-use Rattle.std.specs.Prelude.{slice_index_or}
+use Rattle.std.proofs.Common.{◌≡◌, ◌<◌, ◌+◌, ◌-◌, ◌/◌, ℕ, suc, false, take, drop, length, sym, ap, ◌∙◌, subst, arith, slice_index_or}
 use Rattle.ic_unsafe_ref.specs.Places.{index_of}
 use Rattle.ic_workers.specs.SharedOut.{has}
 use Rattle.ic_workers.proofs.Searching.{not_before, not_after, stands_there, stands_nowhere}

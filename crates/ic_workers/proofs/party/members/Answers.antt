@@ -1,9 +1,8 @@
 use Rattle.std.proofs.Common.{◌≡◌, ◌++◌, [], ◌∷◌, Some, List, refl, sym, ◌∙◌, subst}
 use Rattle.ic_link_ops.specs.Prelude.{Place, Cut, join, IsAfter, IsBefore}
 use Rattle.ic_link_ops.specs.LinkedList.{Represents}
-use Rattle.ic_link_ops.proofs.Clearing.{releases_fewer}
+use Rattle.ic_link_ops.proofs.Prelude.{releases_fewer, gap_after}
 use Rattle.ic_link_ops.proofs.DoublyLists.{neighbors_covered, members_after}
-use Rattle.ic_link_ops.proofs.SequenceLemmas.{gap_after}
 use Rattle.ic_cursors.specs.Cursor.{position}
 use Rattle.ic_chain.proofs.Standing.{stands_here}
 use Rattle.ic_workers.proofs.Walking.{Seen, seen_more, seen_less}

@@ -4,8 +4,7 @@ use Rattle.std.proofs.lemmas.List.Folds.{list_any_at, list_any_more}
 use Rattle.std.specs.List.{list_any}
 use Rattle.std.specs.FinSet as set
 use Rattle.ic_link_ops.specs.Prelude.{index_of, IsCovered}
-use Rattle.ic_world.specs.Family.{LinkField}
-use Rattle.ic_world.specs.Tables.{table_of, no_table, field_in}
+use Rattle.ic_world.specs.Prelude.{LinkField, table_of, no_table, field_in}
 use Rattle.ic_world.proofs.ObjectChanges.{field_has}
 use Rattle.ic_world.proofs.objects.is_linked_in_any.Goals as goal
 

@@ -2,8 +2,7 @@ use Rattle.std.proofs.Common.{◌≡◌, false, map, take}
 use Rattle.std.specs.List.{list_any}
 use Rattle.std.specs.FinSet as set
 use Rattle.ic_unsafe_ref.specs.Places.{index_of}
-use Rattle.ic_world.specs.Family.{LinkField}
-use Rattle.ic_world.specs.Tables.{table_of, field_in}
+use Rattle.ic_world.specs.Prelude.{LinkField, table_of, field_in}
 use Rattle.ic_world.proofs.objects.is_linked_in_any.Given as goal
 
 abbrev pub invariant-loop-f : goal.invariant-loop-f

@@ -1,6 +1,5 @@
 use Rattle.std.proofs.Common.{◌≡◌, ◌<◌, ◌∙◌, true, [], length, sym, subst, arith, rules}
-use Rattle.ic_unsafe_ref.specs.Places.{index_of}
-use Rattle.ic_link_ops.specs.ThreeWords.{node_of}
+use Rattle.ic_link_ops.specs.Prelude.{index_of, node_of}
 use Rattle.ic_augmented.specs.AugmentedTables.{joined}
 use Rattle.ic_rbtree.specs.KeyedTrees.{keyed_table}
 use Rattle.keyed_tests.proofs.Ready.{nothing_summed, nothing_consistent, on_ok}

@@ -1,9 +1,7 @@
 use Rattle.std.proofs.Common.{refl, ap, ◌∙◌, ◌<◌, ℕ, Option}
 use Rattle.ic_link_ops.specs.Prelude.{Place, index_of}
-use Rattle.ic_augmented.specs.Consistent.{RepresentsConsistent}
-use Rattle.ic_augmented.specs.Greatest.{greatest}
+use Rattle.ic_augmented.specs.Prelude.{RepresentsConsistent, greatest, room_of}
 use Rattle.ic_augmented.specs.GreatestLaws.{greatest_tells}
-use Rattle.ic_augmented.specs.AugmentedTables.{room_of}
 use Rattle.keyed_tests.proofs.Ready.{room_linked}
 use Rattle.keyed_tests.proofs.augmented.first_above.Goals as goal
 

@@ -1,7 +1,6 @@
 use Rattle.std.proofs.Common.{subst, ◌∙◌}
 use Rattle.ic_link_ops.specs.RedBlackTree.{Represents}
-use Rattle.ic_augmented.specs.Consistent.{RepresentsAugmented}
-use Rattle.ic_augmented.specs.Counts.{counts}
+use Rattle.ic_augmented.specs.Prelude.{RepresentsAugmented, counts}
 use Rattle.keyed_tests.proofs.Positions.{at_position, past_all, least_here, least_past}
 use Rattle.keyed_tests.proofs.augmented.position_of_nth.Goals as goal
 

@@ -1,9 +1,7 @@
 use Rattle.std.proofs.Common.{◌≡◌, ◌<◌, sym, subst, ◌++◌, ◌∷◌}
 use Rattle.ic_link_ops.specs.Prelude.{Place, index_of}
 use Rattle.ic_link_ops.specs.RedBlackTree.{Represents}
-use Rattle.ic_augmented.specs.Consistent.{RepresentsConsistent}
-use Rattle.ic_augmented.specs.Counts.{counts}
-use Rattle.ic_augmented.specs.AugmentedTables.{room_of}
+use Rattle.ic_augmented.specs.Prelude.{RepresentsConsistent, counts, room_of}
 use Rattle.ic_augmented.proofs.StepLemmas.{removed_right}
 use Rattle.keyed_tests.proofs.Positions.{at_position}
 use Rattle.keyed_tests.proofs.Ready.{room_covered, room_linked}

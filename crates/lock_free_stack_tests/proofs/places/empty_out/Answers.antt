@@ -1,5 +1,4 @@
-use Rattle.std.proofs.Common.{◌≡◌, ◌<◌, ℕ, List, [], ◌∷◌, ◌++◌, All, length, map, reverse, sym, subst, ap, ◌∙◌, arith, append-nil, length-append}
-use Rattle.std.specs.Option.{option_to_list}
+use Rattle.std.proofs.Common.{◌≡◌, ◌<◌, ℕ, List, [], ◌∷◌, ◌++◌, All, length, map, reverse, sym, subst, ap, ◌∙◌, arith, append-nil, length-append, option_to_list}
 use Rattle.std.proofs.lemmas.List.{map-append, length-map}
 use Rattle.std.proofs.lemmas.List.Elements.{All-push, All-map}
 use Rattle.ic_lock_free_stack.specs.declared.step.Entry.{Entry}
@@ -7,11 +6,7 @@ use Rattle.ic_lock_free_stack.specs.declared.step.Step.{Step}
 use Rattle.ic_lock_free_stack.specs.declared.step.Step.TheVariants.{TakeAll}
 use Rattle.ic_lock_free_stack.specs.declared.stacks.Holder.{Holder}
 use Rattle.ic_lock_free_stack.specs.Counts.{times}
-use Rattle.ic_lock_free_stack.specs.Moments.{entry, at_first, stack_after, IsLegal}
-use Rattle.ic_lock_free_stack.specs.OneHistory.{IsSeen, GoesOn, Party, IsHistory}
-use Rattle.ic_lock_free_stack.specs.Orders.{got, of_record, of_history}
-use Rattle.ic_lock_free_stack.specs.Records.{pushes_and_takes}
-use Rattle.ic_lock_free_stack.specs.Holders.{IsOf, name_of, party_of, seen_of}
+use Rattle.ic_lock_free_stack.specs.Prelude.{entry, at_first, stack_after, IsLegal, IsSeen, GoesOn, Party, IsHistory, got, of_record, of_history, pushes_and_takes, IsOf, name_of, party_of, seen_of}
 use Rattle.stack_uses.specs.Mail.{IsMail}
 use Rattle.stack_uses.proofs.DeliveredLemmas.{ends, one_on}
 use Rattle.lock_free_stack_tests.proofs.places.empty_out.Goals as goal

@@ -1,9 +1,7 @@
-use Rattle.std.proofs.Common.{◌≡◌, ◌<◌, List, [], ◌∷◌, ◌++◌, All, sym, subst, ap, ◌∙◌, arith}
-use Rattle.std.specs.Option.{option_to_list}
+use Rattle.std.proofs.Common.{◌≡◌, ◌<◌, List, [], ◌∷◌, ◌++◌, All, sym, subst, ap, ◌∙◌, arith, option_to_list}
 use Rattle.std.proofs.lemmas.List.Elements.{All-push}
 use Rattle.ic_lock_free_stack.specs.declared.stacks.Holder.{Holder}
-use Rattle.ic_lock_free_stack.specs.Records.{pushes_and_takes}
-use Rattle.ic_lock_free_stack.specs.Holders.{spent_by, IsOf, IsNew}
+use Rattle.ic_lock_free_stack.specs.Prelude.{pushes_and_takes, spent_by, IsOf, IsNew}
 use Rattle.stack_uses.proofs.DeliveredLemmas.{ends}
 use Rattle.lock_free_stack_tests.proofs.tests.a_chain_is_pushed_at_once.Goals as goal
 

@@ -1,7 +1,6 @@
 use Rattle.std.proofs.Common.{rules}
 use Rattle.ic_link_ops.proofs.Calling.{has_member}
-use Rattle.ic_rbtree.specs.PlainTrees.{PlainRepresents}
-use Rattle.ic_rbtree.specs.Tree.{root_of}
+use Rattle.ic_rbtree.specs.Prelude.{PlainRepresents, root_of}
 use Rattle.plain_tests.proofs.trees.beside.Goals as goal
 
 pub prev-requires : goal.prev-requires

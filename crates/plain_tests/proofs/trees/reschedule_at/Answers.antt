@@ -1,8 +1,7 @@
 use Rattle.std.proofs.Common.{rules}
 use Rattle.ic_link_ops.proofs.Calling.{has_member}
 use Rattle.ic_plain.specs.SortedTrees.{IsInOrder}
-use Rattle.ic_rbtree.specs.PlainTrees.{PlainRepresents}
-use Rattle.ic_rbtree.specs.Tree.{root_of}
+use Rattle.ic_rbtree.specs.Prelude.{PlainRepresents, root_of}
 use Rattle.plain_tests.proofs.trees.reschedule_at.Goals as goal
 
 pub reschedule-requires-clause-member : goal.reschedule-requires-clause-member

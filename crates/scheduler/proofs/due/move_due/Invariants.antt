@@ -1,8 +1,7 @@
 use Rattle.std.proofs.Common.{◌≡◌, ◌<◌, ◌≤◌, List, length}
 use Rattle.ic_link_ops.specs.Prelude.{Place, first}
 use Rattle.ic_rbtree.specs.CursorMut.{tree_of, links_of, position, SameBorrows}
-use Rattle.ic_rbtree.specs.PlainTrees.{PlainRepresents}
-use Rattle.ic_rbtree.specs.Tree.{root_of}
+use Rattle.ic_rbtree.specs.Prelude.{PlainRepresents, root_of}
 use Rattle.scheduler.specs.Kept.{schedule_of, IsKept}
 use Rattle.scheduler.proofs.Ticking.{Moved}
 use Rattle.scheduler.proofs.due.move_due.Given as goal

@@ -1,8 +1,7 @@
 use Rattle.std.proofs.Common.{◌≤◌, List, length, vec_capacity}
 use Rattle.ic_unsafe_ref.specs.declared.place.Place.{Place}
 use Rattle.ic_link_ops.specs.RedBlackTree.{Represents}
-use Rattle.ic_rbtree.specs.Members.{members}
-use Rattle.ic_rbtree.specs.Tree.{root_of}
+use Rattle.ic_rbtree.specs.Prelude.{members, root_of}
 use Rattle.ic_rbtree.specs.CursorMut.{tree_of, links_of, site_of, SameBorrows}
 use Rattle.scheduler.specs.Timers.{IsAtFront}
 use Rattle.scheduler.proofs.TimersDue.{Takes}

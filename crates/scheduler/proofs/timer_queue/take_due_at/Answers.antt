@@ -1,6 +1,5 @@
 use Rattle.ic_link_ops.specs.Sequences.{at_front}
-use Rattle.ic_link_ops.proofs.Positions.{stands_first}
-use Rattle.ic_link_ops.proofs.RepresentedTrees.{one_sequence}
+use Rattle.ic_link_ops.proofs.Prelude.{stands_first, one_sequence}
 use Rattle.ic_rbtree.proofs.SortedKeys.{sorted_taken}
 use Rattle.scheduler.proofs.TimersDue.{first_again, all_wait}
 use Rattle.scheduler.proofs.timer_queue.take_due_at.Goals as goal

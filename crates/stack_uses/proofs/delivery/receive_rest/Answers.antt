@@ -1,12 +1,9 @@
-use Rattle.std.proofs.Common.{◌≡◌, ◌-◌, ℕ, List, [], ◌∷◌, ◌++◌, All, length, map, subst, sym, ap, ◌∙◌, arith}
-use Rattle.std.specs.Option.{option_to_list}
+use Rattle.std.proofs.Common.{◌≡◌, ◌-◌, ℕ, List, [], ◌∷◌, ◌++◌, All, length, map, subst, sym, ap, ◌∙◌, arith, option_to_list}
 use Rattle.std.proofs.lemmas.List.Elements.{All-push}
 use Rattle.ic_unsafe_ref.specs.declared.place.Place.{Place}
 use Rattle.ic_lock_free_stack.specs.declared.step.Step.TheVariants.{TakeAll}
 use Rattle.ic_lock_free_stack.specs.declared.stacks.Holder.{Holder}
-use Rattle.ic_lock_free_stack.specs.OneHistory.{Party}
-use Rattle.ic_lock_free_stack.specs.Orders.{got, of_record}
-use Rattle.ic_lock_free_stack.specs.Holders.{IsOf, Steps, record_of, party_of}
+use Rattle.ic_lock_free_stack.specs.Prelude.{Party, got, of_record, IsOf, Steps, record_of, party_of}
 use Rattle.stack_uses.specs.Delivery.{IsDelivered}
 use Rattle.stack_uses.proofs.DeliveredLemmas.{made_all, ends, got_all, before, as_many, settled}
 use Rattle.stack_uses.proofs.delivery.receive_rest.Goals as goal

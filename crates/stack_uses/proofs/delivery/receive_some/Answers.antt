@@ -1,7 +1,6 @@
 use Rattle.std.proofs.Common.{◌≡◌, [], ◌++◌, sym, ap, ◌∙◌, subst, arith, append-nil}
 use Rattle.ic_lock_free_stack.specs.declared.stacks.Holder.{Holder}
-use Rattle.ic_lock_free_stack.specs.Orders.{got, of_record}
-use Rattle.ic_lock_free_stack.specs.Holders.{record_of}
+use Rattle.ic_lock_free_stack.specs.Prelude.{got, of_record, record_of}
 use Rattle.ic_lock_free_stack.proofs.HolderLemmas.{one_sequence}
 use Rattle.stack_uses.specs.Mail.{HasReceived}
 use Rattle.stack_uses.specs.Delivery.{OnlyTakes, HasTaken}

@@ -1,6 +1,5 @@
 use Rattle.std.proofs.Common.{◌≡◌, ◌+◌, ◌-◌, ◌≤◌, ℕ, sym, ap, ◌∙◌, subst, arith}
-use Rattle.ic_lock_free_stack.specs.Holders.{record_of, spent_by}
-use Rattle.ic_lock_free_stack.specs.Records.{pushes_and_takes}
+use Rattle.ic_lock_free_stack.specs.Prelude.{record_of, spent_by, pushes_and_takes}
 use Rattle.stack_uses.specs.Delivery.{Sends, HasSent}
 use Rattle.stack_uses.proofs.DeliveryLemmas.{sends_none, sends_more}
 use Rattle.stack_uses.proofs.delivery.send_each.Goals as goal

@@ -1,6 +1,5 @@
 use Rattle.std.proofs.Common.{◌≡◌}
-use Rattle.ic_link_ops.specs.Chains.{RepresentsSomeChain}
-use Rattle.ic_link_ops.specs.PlainTables.{table}
+use Rattle.ic_link_ops.specs.Prelude.{RepresentsSomeChain, table}
 use Rattle.structure_tests.proofs.check.list_of_three.Given as goal
 
 abbrev pub invariant-loop-index : goal.invariant-loop-index

@@ -1,10 +1,7 @@
 use Rattle.std.proofs.Common.{[], rules}
-use Rattle.ic_link_ops.specs.ThreeWords.{node_of}
-use Rattle.ic_link_ops.proofs.Positions.{stands_null}
-use Rattle.ic_link_ops.proofs.RepresentedTrees.{represents_nothing}
-use Rattle.ic_link_ops.specs.Sequences.{join}
-use Rattle.ic_rbtree.specs.PlainTrees.{plain_table, PlainRepresentsSome}
-use Rattle.ic_rbtree.specs.Tree.{root_of}
+use Rattle.ic_link_ops.specs.Prelude.{node_of, join}
+use Rattle.ic_link_ops.proofs.Prelude.{stands_null, represents_nothing}
+use Rattle.ic_rbtree.specs.Prelude.{plain_table, PlainRepresentsSome, root_of}
 use Rattle.structure_tests.proofs.check.tree_of_three.Goals.{then-index-covers, else-index-covers}
 use Rattle.structure_tests.proofs.check.tree_of_three.Goals as goal
 

@@ -1,5 +1,4 @@
-use Rattle.ic_rbtree.specs.PlainTrees.{PlainRepresentsSome}
-use Rattle.ic_rbtree.specs.Tree.{root_of}
+use Rattle.ic_rbtree.specs.Prelude.{PlainRepresentsSome, root_of}
 use Rattle.structure_tests.proofs.check.tree_of_three.Given as goal
 
 abbrev pub invariant-loop-index : goal.invariant-loop-index

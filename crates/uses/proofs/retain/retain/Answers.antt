@@ -1,5 +1,4 @@
-use Rattle.std.proofs.Common.{rules, ◌∙◌, sym, refl, ap, List, []}
-use Rattle.std.specs.Option.{option_copied}
+use Rattle.std.proofs.Common.{rules, ◌∙◌, sym, refl, ap, List, [], option_copied}
 use Rattle.std.specs.Fn.{FnReturnsAt}
 use Rattle.ic_cursors.specs.CursorMut.{site_of}
 use Rattle.ic_unsafe_ref.specs.declared.place.Place.{Place}

@@ -1,6 +1,5 @@
-use Rattle.std.proofs.Common.{ap, filter, sym, ◌∙◌}
+use Rattle.std.proofs.Common.{ap, filter, sym, ◌∙◌, is_some}
 use Rattle.std.proofs.lemmas.Cmp.{nat_cmp_total}
-use Rattle.std.specs.Prelude.{is_some}
 use Rattle.ic_link_ops.specs.Sequences.{at_front, first}
 use Rattle.ic_link_ops.proofs.RepresentedTrees.{one_sequence}
 use Rattle.ic_rbtree.specs.declared.keys.key_adapter.Bound.TheVariants.{Included}

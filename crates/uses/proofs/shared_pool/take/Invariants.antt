@@ -1,5 +1,4 @@
-use Rattle.ic_atomic.specs.Records.{HoldsTheSame}
-use Rattle.ic_atomic.specs.Holders.{record_of, IsOf}
+use Rattle.ic_atomic.specs.Prelude.{HoldsTheSame, record_of, IsOf}
 use Rattle.uses.specs.Pool.{WereRefused}
 use Rattle.uses.proofs.shared_pool.take.Given as goal
 

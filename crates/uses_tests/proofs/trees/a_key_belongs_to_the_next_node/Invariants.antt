@@ -1,6 +1,4 @@
-use Rattle.ic_rbtree.specs.PlainTrees.{PlainRepresents}
-use Rattle.ic_rbtree.specs.Tree.{root_of}
-use Rattle.ic_rbtree.specs.SortedObjects.{RepresentsSorted}
+use Rattle.ic_rbtree.specs.Prelude.{PlainRepresents, root_of, RepresentsSorted}
 use Rattle.uses.specs.Ring.{point}
 use Rattle.uses_tests.proofs.trees.a_key_belongs_to_the_next_node.Given as goal
 

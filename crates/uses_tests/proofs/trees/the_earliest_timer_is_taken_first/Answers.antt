@@ -1,8 +1,7 @@
 use Rattle.std.proofs.Common.{◌≡◌, true, rules, subst}
 use Rattle.ic_link_ops.specs.Prelude.{Place, HasMember}
 use Rattle.ic_link_ops.proofs.Calling.{has_member}
-use Rattle.ic_rbtree.specs.PlainTrees.{PlainRepresents}
-use Rattle.ic_rbtree.specs.Tree.{root_of}
+use Rattle.ic_rbtree.specs.Prelude.{PlainRepresents, root_of}
 use Rattle.ic_rbtree.proofs.SortedKeys.{new_is_sorted}
 use Rattle.uses_tests.specs.declared.trees.Timer.{Timer}
 use Rattle.uses_tests.proofs.trees.the_earliest_timer_is_taken_first.Goals as goal

@@ -1,6 +1,4 @@
-use Rattle.ic_rbtree.specs.PlainTrees.{PlainRepresents}
-use Rattle.ic_rbtree.specs.Tree.{root_of}
-use Rattle.ic_rbtree.specs.SortedObjects.{RepresentsSorted}
+use Rattle.ic_rbtree.specs.Prelude.{PlainRepresents, root_of, RepresentsSorted}
 use Rattle.uses_tests.specs.declared.trees.Timer.{Timer}
 use Rattle.uses_tests.proofs.trees.the_earliest_timer_is_taken_first.Given as goal
 

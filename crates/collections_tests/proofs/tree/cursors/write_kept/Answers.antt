@@ -1,7 +1,6 @@
 use Rattle.std.proofs.Common.{rules}
 use Rattle.ic_link_ops.proofs.Calling.{has_member}
-use Rattle.ic_rbtree.specs.PlainTrees.{PlainRepresents}
-use Rattle.ic_rbtree.specs.Tree.{root_of}
+use Rattle.ic_rbtree.specs.Prelude.{PlainRepresents, root_of}
 use Rattle.collections_tests.proofs.tree.cursors.write_kept.Goals as goal
 
 pub cursor_owning_from_ptr-cursor-requires : goal.cursor_owning_from_ptr-cursor-requires

@@ -1,8 +1,7 @@
 use Rattle.std.proofs.Common.{subst}
 use Rattle.ic_link_ops.specs.Prelude.{Place, HasMember}
 use Rattle.ic_link_ops.proofs.Calling.{has_member}
-use Rattle.ic_rbtree.specs.PlainTrees.{PlainRepresents}
-use Rattle.ic_rbtree.specs.Tree.{root_of}
+use Rattle.ic_rbtree.specs.Prelude.{PlainRepresents, root_of}
 use Rattle.collections_tests.proofs.tree.shape.write_without.Goals as goal
 
 pub cursor_mut_from_ptr-cursor-requires : goal.cursor_mut_from_ptr-cursor-requires

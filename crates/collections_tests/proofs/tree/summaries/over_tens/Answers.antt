@@ -1,6 +1,5 @@
 use Rattle.std.proofs.Common.{◌<◌, [], arith, subst}
-use Rattle.ic_unsafe_ref.specs.Places.{index_of}
-use Rattle.ic_link_ops.specs.ThreeWords.{node_of}
+use Rattle.ic_link_ops.specs.Prelude.{index_of, node_of}
 use Rattle.ic_rbtree.specs.PlainTrees.{plain_table}
 use Rattle.collections_tests.proofs.Ready.{nothing_represented}
 use Rattle.collections_tests.proofs.tree.summaries.over_tens.Goals as goal

@@ -1,5 +1,4 @@
-use Rattle.ic_rbtree.specs.PlainTrees.{PlainRepresentsSome}
-use Rattle.ic_rbtree.specs.Tree.{root_of}
+use Rattle.ic_rbtree.specs.Prelude.{PlainRepresentsSome, root_of}
 use Rattle.collections_tests.proofs.tree.trees.filled.Given as goal
 
 abbrev pub invariant-loop-index : goal.invariant-loop-index

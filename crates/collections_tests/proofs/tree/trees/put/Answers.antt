@@ -1,9 +1,7 @@
 use Rattle.std.proofs.Common.{rules, Result, Ok, Err, OnOk, OnErr, IfErr, List, ◌++◌, ◌∷◌, []}
 use Rattle.ic_link_ops.specs.Prelude.{Place, join}
 use Rattle.ic_link_ops.proofs.Positions.{stands_null}
-use Rattle.ic_rbtree.specs.CursorMut.{SameBorrows}
-use Rattle.ic_rbtree.specs.PlainTrees.{PlainRepresentsSome}
-use Rattle.ic_rbtree.specs.Tree.{root_of}
+use Rattle.ic_rbtree.specs.Prelude.{SameBorrows, PlainRepresentsSome, root_of}
 use Rattle.collections_tests.proofs.tree.trees.put.Goals as goal
 
 -- `Goal` holds for each result of an insert if it holds for an accepted insert and for a refused insert

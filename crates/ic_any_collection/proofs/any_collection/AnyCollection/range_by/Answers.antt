@@ -1,7 +1,6 @@
 use Rattle.ic_any_collection.proofs.Common.{tree_table_in, ◌∙◌, root_of, node_of, node, range_represented, if_listed, of_field, to_own, placed_in}
 use Rattle.ic_link_ops.specs.RedBlackTree.{Represents}
-use Rattle.ic_rbtree.specs.Ranges.{IsRange}
-use Rattle.ic_rbtree.specs.Members.{members}
+use Rattle.ic_rbtree.specs.Prelude.{IsRange, members}
 use Rattle.ic_any_collection.proofs.any_collection.AnyCollection.range_by.Goals as goal
 
 pub range_by-walk-requires-clause-placed : goal.range_by-walk-requires-clause-placed

@@ -1,5 +1,4 @@
-use Rattle.std.proofs.Common.{◌≡◌, ◌-◌, ◌≤◌, [], replicate}
-use Rattle.std.specs.Prelude.{vec_len, vec_capacity, All}
+use Rattle.std.proofs.Common.{◌≡◌, ◌-◌, ◌≤◌, [], replicate, vec_len, vec_capacity, All}
 use Rattle.ic_atomic.specs.Holders.{IsSeatOf, hand_of, hand_with, record_of, IsOf}
 use Rattle.ic_atomic.proofs.claims.Claims.new.Given as goal
 

@@ -1,6 +1,5 @@
 use Rattle.std.proofs.Common.{◌∙◌, sym}
-use Rattle.ic_link_ops.proofs.SequenceLemmas.{last_of_front}
-use Rattle.ic_link_ops.proofs.Positions.{gap_there, moves_back}
+use Rattle.ic_link_ops.proofs.Prelude.{last_of_front, gap_there, moves_back}
 use Rattle.ic_chain.proofs.Standing.{stands, stands_here, last_kept}
 use Rattle.ic_chain.proofs.edits.LinkListBidirectional.prev_of.Goals as goal
 

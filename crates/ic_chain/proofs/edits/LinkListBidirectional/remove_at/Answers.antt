@@ -1,9 +1,7 @@
 use Rattle.std.proofs.Common.{drop, ◌∙◌, sym}
-use Rattle.ic_link_ops.specs.Prelude.{Cut, join, IsBefore, IsSecondAfter}
-use Rattle.ic_link_ops.specs.Edits.{Removes}
+use Rattle.ic_link_ops.specs.Prelude.{Cut, join, IsBefore, IsSecondAfter, Removes, RepresentsChain}
 use Rattle.ic_link_ops.proofs.SequenceLemmas.{first_is}
 use Rattle.ic_link_ops.proofs.Positions.{gap_there, removed_stands}
-use Rattle.ic_link_ops.specs.Chains.{RepresentsChain}
 use Rattle.ic_chain.proofs.Standing.{stands, after_on}
 use Rattle.ic_chain.proofs.edits.LinkListBidirectional.remove_at.Goals as goal
 use Rattle.ic_chain.proofs.edits.LinkListBidirectional.remove_at.Given.{Over}

@@ -1,10 +1,8 @@
 use Rattle.std.proofs.Common.{drop, ◌∙◌, sym}
-use Rattle.ic_link_ops.specs.Sequences.{Cut, join, IsBefore}
-use Rattle.ic_link_ops.specs.Edits.{Replaces}
+use Rattle.ic_link_ops.specs.Prelude.{Cut, join, IsBefore, Replaces, RepresentsChain}
 use Rattle.ic_link_ops.proofs.SequenceLemmas.{first_is}
 use Rattle.ic_link_ops.proofs.Positions.{gap_there, replaced_stands}
 use Rattle.ic_cursors.proofs.Placed.{put_there}
-use Rattle.ic_link_ops.specs.Chains.{RepresentsChain}
 use Rattle.ic_chain.proofs.Standing.{stands, stands_on_member, after_on}
 use Rattle.ic_chain.proofs.edits.LinkListBidirectional.replace_at.Goals as goal
 use Rattle.ic_chain.proofs.edits.LinkListBidirectional.replace_at.Given.{Over}

@@ -1,10 +1,7 @@
 use Rattle.std.proofs.Common.{[], refl, ◌∙◌, sym}
-use Rattle.ic_link_ops.specs.Sequences.{Cut, join, IsBefore}
-use Rattle.ic_link_ops.specs.Edits.{Splits}
-use Rattle.ic_link_ops.proofs.SequenceLemmas.{absent_turned}
-use Rattle.ic_link_ops.proofs.RepresentedLists.{gap_linked, gap_after_linked}
+use Rattle.ic_link_ops.specs.Prelude.{Cut, join, IsBefore, Splits, RepresentsChain}
+use Rattle.ic_link_ops.proofs.Prelude.{absent_turned, gap_linked, gap_after_linked}
 use Rattle.ic_link_ops.proofs.Positions.{gap_there, split_before}
-use Rattle.ic_link_ops.specs.Chains.{RepresentsChain}
 use Rattle.ic_link_ops.proofs.Naming.{end_named}
 use Rattle.ic_chain.proofs.Standing.{stands, stays}
 use Rattle.ic_chain.proofs.edits.LinkListBidirectionalSplice.split_before_at.Goals as goal

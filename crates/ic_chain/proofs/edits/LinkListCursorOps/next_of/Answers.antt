@@ -1,7 +1,6 @@
 use Rattle.std.proofs.Common.{◌∙◌, sym}
 use Rattle.ic_link_ops.specs.Sequences.{join, at_front}
-use Rattle.ic_link_ops.proofs.SequenceLemmas.{first_of_back}
-use Rattle.ic_link_ops.proofs.Positions.{moves_on}
+use Rattle.ic_link_ops.proofs.Prelude.{first_of_back, moves_on}
 use Rattle.ic_chain.proofs.Standing.{stands}
 use Rattle.ic_chain.proofs.edits.LinkListCursorOps.next_of.Goals as goal
 

@@ -1,10 +1,7 @@
 use Rattle.std.proofs.Common.{◌∷◌, drop, ◌∙◌, sym, refl}
-use Rattle.ic_link_ops.specs.Sequences.{Cut, join, IsAfter}
-use Rattle.ic_link_ops.specs.Edits.{Replaces}
-use Rattle.ic_link_ops.proofs.SequenceLemmas.{first_is}
-use Rattle.ic_link_ops.proofs.RepresentedLists.{represents_middle}
+use Rattle.ic_link_ops.specs.Prelude.{Cut, join, IsAfter, Replaces, RepresentsChain}
+use Rattle.ic_link_ops.proofs.Prelude.{first_is, represents_middle}
 use Rattle.ic_link_ops.proofs.Positions.{next_replaced_stands}
-use Rattle.ic_link_ops.specs.Chains.{RepresentsChain}
 use Rattle.ic_chain.proofs.Standing.{stands, stands_here, next_is}
 use Rattle.ic_chain.proofs.edits.LinkListForwardOnly.replace_next_at.Goals as goal
 use Rattle.ic_chain.proofs.edits.LinkListForwardOnly.replace_next_at.Given.{Over}

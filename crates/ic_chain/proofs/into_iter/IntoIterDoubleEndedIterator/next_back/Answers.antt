@@ -1,8 +1,7 @@
-use Rattle.ic_link_ops.specs.Sequences.{last, but_last}
+use Rattle.ic_link_ops.specs.Prelude.{last, but_last, RepresentsChain}
 use Rattle.ic_link_ops.specs.Taking.{Leaves}
 use Rattle.ic_link_ops.proofs.SequenceLemmas.{fewer_back}
 use Rattle.ic_link_ops.proofs.Taking.{goes}
-use Rattle.ic_link_ops.specs.Chains.{RepresentsChain}
 use Rattle.ic_chain.specs.IntoIter.{rest_of, members_left}
 use Rattle.ic_chain.proofs.Walking.{members_represented}
 use Rattle.ic_chain.proofs.into_iter.IntoIterDoubleEndedIterator.next_back.Goals as goal

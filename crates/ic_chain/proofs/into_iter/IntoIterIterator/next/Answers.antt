@@ -1,9 +1,8 @@
 use Rattle.std.proofs.Common.{drop}
-use Rattle.ic_link_ops.specs.Sequences.{first}
+use Rattle.ic_link_ops.specs.Prelude.{first, RepresentsChain}
 use Rattle.ic_link_ops.specs.Taking.{Leaves}
 use Rattle.ic_link_ops.proofs.SequenceLemmas.{fewer}
 use Rattle.ic_link_ops.proofs.Taking.{goes}
-use Rattle.ic_link_ops.specs.Chains.{RepresentsChain}
 use Rattle.ic_chain.specs.IntoIter.{rest_of, members_left}
 use Rattle.ic_chain.proofs.Walking.{members_represented}
 use Rattle.ic_chain.proofs.into_iter.IntoIterIterator.next.Goals as goal

@@ -1,6 +1,5 @@
 use Rattle.std.proofs.Common.{refl, sym, Some, ◌∙◌}
-use Rattle.ic_link_ops.proofs.PlacedEnds.{first_placed}
-use Rattle.ic_link_ops.proofs.Walks.{stretch_first}
+use Rattle.ic_link_ops.proofs.Prelude.{first_placed, stretch_first}
 use Rattle.ic_chain.proofs.Walking.{Steps, steps_last, steps_more, none_left, gives, goes}
 use Rattle.ic_chain.proofs.iter.IterIterator.next.Goals as goal
 use Rattle.ic_chain.proofs.iter.IterIterator.next.Goals.{then-is_at, else-is_at}

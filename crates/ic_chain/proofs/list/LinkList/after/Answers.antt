@@ -1,6 +1,5 @@
 use Rattle.std.proofs.Common.{◌∙◌, sym}
-use Rattle.ic_link_ops.proofs.SequenceLemmas.{first_of_back}
-use Rattle.ic_link_ops.proofs.RepresentedLists.{gap_linked, before_gap}
+use Rattle.ic_link_ops.proofs.Prelude.{first_of_back, gap_linked, before_gap}
 use Rattle.ic_chain.proofs.Standing.{cached_after}
 use Rattle.ic_chain.proofs.list.LinkList.after.Goals as goal
 

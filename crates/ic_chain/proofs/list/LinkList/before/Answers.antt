@@ -1,7 +1,5 @@
 use Rattle.std.proofs.Common.{◌∙◌, sym, ap, drop}
-use Rattle.ic_link_ops.proofs.Positions.{gap_there}
-use Rattle.ic_link_ops.proofs.SequenceLemmas.{first_is}
-use Rattle.ic_link_ops.proofs.RepresentedLists.{gap_after_linked, represents_middle}
+use Rattle.ic_link_ops.proofs.Prelude.{gap_there, first_is, gap_after_linked, represents_middle}
 use Rattle.ic_chain.proofs.Standing.{stands, cached_on}
 use Rattle.ic_chain.proofs.list.LinkList.before.Goals as goal
 

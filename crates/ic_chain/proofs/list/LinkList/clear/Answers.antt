@@ -1,9 +1,7 @@
 use Rattle.std.proofs.Common.{◌≡◌, Option, Some, None, List, [], ◌∷◌, drop, refl, sym, ap, ◌∙◌}
-use Rattle.ic_link_ops.specs.Prelude.{Place, first, last, IsDistinct, Table}
-use Rattle.ic_link_ops.specs.Walk.{walked}
+use Rattle.ic_link_ops.specs.Prelude.{Place, first, last, IsDistinct, Table, walked}
 use Rattle.ic_link_ops.proofs.Clearing.{Releases, releases_none, releases_more, releases_all, releases_left, releases_fewer, next_between}
-use Rattle.ic_link_ops.proofs.SequenceLemmas.{last_of_push}
-use Rattle.ic_link_ops.proofs.StepLemmas.{releases_append}
+use Rattle.ic_link_ops.proofs.Prelude.{last_of_push, releases_append}
 use Rattle.ic_chain.proofs.list.LinkList.clear.Goals as goal
 use Rattle.ic_chain.proofs.list.LinkList.clear.Given.{Over}
 

@@ -1,7 +1,5 @@
 use Rattle.std.proofs.Common.{◌≡◌, None, List, length}
-use Rattle.ic_link_ops.specs.Prelude.{Place, last, releases_each}
-use Rattle.ic_link_ops.specs.Walk.{walked}
-use Rattle.ic_link_ops.specs.Chains.{RepresentsChain}
+use Rattle.ic_link_ops.specs.Prelude.{Place, last, releases_each, walked, RepresentsChain}
 use Rattle.ic_link_ops.proofs.Clearing.{Releases}
 use Rattle.ic_chain.proofs.list.LinkList.clear.Given as goal
 

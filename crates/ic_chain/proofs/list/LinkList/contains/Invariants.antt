@@ -1,8 +1,6 @@
 use Rattle.std.proofs.Common.{◌≡◌, None, List, length}
-use Rattle.ic_link_ops.specs.Prelude.{Place, last}
-use Rattle.ic_link_ops.specs.Walk.{walked}
+use Rattle.ic_link_ops.specs.Prelude.{Place, last, walked, RepresentsChain}
 use Rattle.ic_link_ops.proofs.Membership.{Seeks}
-use Rattle.ic_link_ops.specs.Chains.{RepresentsChain}
 use Rattle.ic_chain.proofs.list.LinkList.contains.Given as goal
 
 -- whichever sequence is represented, the place is none of the members before `current`, and `prev` is the member right before `current`

@@ -1,7 +1,6 @@
 use Rattle.std.proofs.Common.{◌∙◌, sym, None, ◌∷◌, []}
 use Rattle.ic_link_ops.specs.Sequences.{first}
-use Rattle.ic_link_ops.proofs.SequenceLemmas.{beside_not}
-use Rattle.ic_link_ops.proofs.RepresentedLists.{represents_middle, gap_linked, next_linked}
+use Rattle.ic_link_ops.proofs.Prelude.{beside_not, represents_middle, gap_linked, next_linked}
 use Rattle.ic_link_ops.proofs.Naming.{end_named}
 use Rattle.ic_chain.proofs.Standing.{next_is, one_represented}
 use Rattle.ic_chain.proofs.list.LinkList.detach.Goals as goal

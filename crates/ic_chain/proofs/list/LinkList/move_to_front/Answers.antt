@@ -1,6 +1,5 @@
 use Rattle.std.proofs.Common.{[], ◌++◌, ◌∷◌, refl, sym, ◌∙◌}
-use Rattle.ic_link_ops.proofs.SequenceLemmas.{absent_right, absent_without, distinct_middle, gap_not}
-use Rattle.ic_link_ops.proofs.RepresentedLists.{gap_after_linked}
+use Rattle.ic_link_ops.proofs.Prelude.{absent_right, absent_without, distinct_middle, gap_not, gap_after_linked}
 use Rattle.ic_link_ops.proofs.Naming.{end_named}
 use Rattle.ic_chain.proofs.Standing.{one_represented}
 use Rattle.ic_chain.proofs.list.LinkList.move_to_front.Goals as goal
@@ -21,28 +20,26 @@ insert_linked-requires-clause-next g c =
     let off = c.detach.ensures.removed m.front m.back (rw (← c.place-place.ensures) at m.shown) in
     end_named _ _ (λ q e. L.covered_has_name _ q (L.linked_is_covered _ q (gap_after_linked g.met.K.ForwardLinks.between_linked [] (m.front ++ m.back) off (sym e ∙ c.first-first.ensures ∙ off.head))))
 
-pub returns-clause-moved : goal.returns-clause-moved
-returns-clause-moved g c front back shown =
-    let whole = rw (← c.place-place.ensures) at shown in
-    let off = c.detach.ensures.removed front back whole in
-    rw (← c.place-place.ensures)
-    (c.insert_linked.ensures.shows [] (front ++ back) off refl (c.first-first.ensures ∙ off.head) (distinct_middle front back c.place-place.result whole.distinct))
-
-pub returns-clause-trace_stays : goal.returns-clause-trace_stays
-returns-clause-trace_stays g c = g.met.L.LinkOps.does_on _ _ _ _ _ c.detach.ensures.trace_stays c.insert_linked.ensures.trace_stays
-
-pub returns-clause-frame : goal.returns-clause-frame
-returns-clause-frame g c s shown =
-    let m = c.requires.member in
-    let whole = rw (← c.place-place.ensures) at m.shown in
-    let off = c.detach.ensures.removed m.front m.back whole in
-    let first = c.detach.ensures.frame s shown in
-    record {
-      extent = c.insert_linked.ensures.extent ∙ first.extent;
-      others = λ q out.
-          let apart = rw (← one_represented g.met.K.ForwardLinks.leads m.shown shown) at out in
-          let rest = absent_without m.front m.back c.args.object.now q apart in
-          c.insert_linked.ensures.others q (λ e. cc) (rw c.place-place.ensures (absent_right q m.front (c.args.object.now ∷ m.back) apart).0)
-          (λ _. (gap_not [] (m.front ++ m.back) refl (c.first-first.ensures ∙ off.head) rest).1)
-          ∙ first.others q out;
-    }
+pub returns : goal.returns
+returns g c = record {
+  moved = λ front back shown.
+      let whole = rw (← c.place-place.ensures) at shown in
+      let off = c.detach.ensures.removed front back whole in
+      rw (← c.place-place.ensures)
+      (c.insert_linked.ensures.shows [] (front ++ back) off refl (c.first-first.ensures ∙ off.head) (distinct_middle front back c.place-place.result whole.distinct));
+  trace_stays = g.met.L.LinkOps.does_on _ _ _ _ _ c.detach.ensures.trace_stays c.insert_linked.ensures.trace_stays;
+  frame = λ s shown.
+      let m = c.requires.member in
+      let whole = rw (← c.place-place.ensures) at m.shown in
+      let off = c.detach.ensures.removed m.front m.back whole in
+      let first = c.detach.ensures.frame s shown in
+      record {
+        extent = c.insert_linked.ensures.extent ∙ first.extent;
+        others = λ q out.
+            let apart = rw (← one_represented g.met.K.ForwardLinks.leads m.shown shown) at out in
+            let rest = absent_without m.front m.back c.args.object.now q apart in
+            c.insert_linked.ensures.others q (λ e. cc) (rw c.place-place.ensures (absent_right q m.front (c.args.object.now ∷ m.back) apart).0)
+            (λ _. (gap_not [] (m.front ++ m.back) refl (c.first-first.ensures ∙ off.head) rest).1)
+            ∙ first.others q out;
+      };
+}

@@ -1,7 +1,6 @@
 use Rattle.std.proofs.Common.{◌∙◌, sym, drop, refl}
 use Rattle.ic_link_ops.specs.Sequences.{join}
-use Rattle.ic_link_ops.proofs.SequenceLemmas.{first_is}
-use Rattle.ic_link_ops.proofs.RepresentedLists.{gap_after_linked, represents_middle}
+use Rattle.ic_link_ops.proofs.Prelude.{first_is, gap_after_linked, represents_middle}
 use Rattle.ic_chain.proofs.Standing.{stands_at_null, stands_on_member}
 use Rattle.ic_chain.proofs.list.LinkList.position_at.Goals as goal
 

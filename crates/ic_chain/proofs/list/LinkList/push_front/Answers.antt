@@ -1,4 +1,4 @@
-use Rattle.std.proofs.Common.{refl, ◌∙◌}
+use Rattle.std.proofs.Common.{refl, ◌∙◌, rules}
 use Rattle.ic_link_ops.specs.Sequences.{at_front}
 use Rattle.ic_chain.proofs.list.LinkList.push_front.Goals as goal
 
@@ -7,8 +7,11 @@ insert_between-requires-clause-shown g c =
     let s = c.requires.shown in
     (at_front s.0, s.1, refl, c.first-head.ensures ∙ s.1.head)
 
-pub returns-clause-inserted : goal.returns-clause-inserted
-returns-clause-inserted g c s shown = rw (← c.place.ensures) (c.if-not-insert_between.ensures.inserted (at_front s) shown refl (c.first-head.ensures ∙ shown.head)).shows
-
-pub returns-clause-frame : goal.returns-clause-frame
-returns-clause-frame g c s shown = rw (← c.place.ensures) (c.insert_between.ensures.frame (at_front s) shown refl (c.first-head.ensures ∙ shown.head))
+pub returns : goal.returns
+returns g c = record {
+  inserted = λ s shown. rw (← c.place.ensures) (c.if-not-insert_between.ensures.inserted (at_front s) shown refl (c.first-head.ensures ∙ shown.head)).shows;
+  acquired = search rules;
+  refused = search rules;
+  unchanged = search rules;
+  frame = λ s shown. rw (← c.place.ensures) (c.insert_between.ensures.frame (at_front s) shown refl (c.first-head.ensures ∙ shown.head));
+}

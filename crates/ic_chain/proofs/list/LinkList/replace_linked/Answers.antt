@@ -1,4 +1,4 @@
-use Rattle.std.proofs.Common.{[], ◌∙◌}
+use Rattle.std.proofs.Common.{[], ◌∙◌, rules}
 use Rattle.ic_link_ops.specs.Chains.{list_head}
 use Rattle.ic_link_ops.proofs.RepresentedLists.{represents_replace}
 use Rattle.ic_link_ops.proofs.Naming.{end_named}
@@ -12,16 +12,16 @@ set_neighbors-requires-clause-prev g c =
     let L = g.met.L.LinkOps in
     end_named _ _ (λ q e. L.covered_has_name _ q (L.linked_is_covered _ q (c.requires.before q e)))
 
-pub returns-clause-shows : goal.returns-clause-shows
-returns-clause-shows g c front back shown before after free =
-    represents_replace {t3 = g.L.LinkOps.table c.set_neighbors.new.links} {list' = list_head c.set_next_or_head.new.head c.set_prev_or_tail.new.tail}
-    front back c.args.out before after (rw (← c.self.view_is) at shown) free c.set_next_or_head.ensures.turns c.set_prev_or_tail.ensures.turns
-    c.set_neighbors.ensures.set c.set_neighbors.ensures.frame.others c.set_next_or_head.ensures.head c.set_prev_or_tail.ensures.tail
-
-pub returns-clause-trace_stays : goal.returns-clause-trace_stays
-returns-clause-trace_stays g c =
-    let L = g.met.L.LinkOps in
-    L.does_on _ _ _ _ _ (L.does_on _ _ _ _ _ c.set_next_or_head.ensures.trace_stays c.set_prev_or_tail.ensures.trace_stays) c.set_neighbors.ensures.trace_stays
-
-pub returns-clause-ends : goal.returns-clause-ends
-returns-clause-ends g c = rw (← c.self.view_is) (record { head = c.set_next_or_head.ensures.head; tail = c.set_prev_or_tail.ensures.tail })
+pub returns : goal.returns
+returns g c = record {
+  shows = λ front back shown before after free.
+      represents_replace {t3 = g.L.LinkOps.table c.set_neighbors.new.links} {list' = list_head c.set_next_or_head.new.head c.set_prev_or_tail.new.tail}
+      front back c.args.out before after (rw (← c.self.view_is) at shown) free c.set_next_or_head.ensures.turns c.set_prev_or_tail.ensures.turns
+      c.set_neighbors.ensures.set c.set_neighbors.ensures.frame.others c.set_next_or_head.ensures.head c.set_prev_or_tail.ensures.tail;
+  ends = rw (← c.self.view_is) (record { head = c.set_next_or_head.ensures.head; tail = c.set_prev_or_tail.ensures.tail });
+  trace_stays =
+      let L = g.met.L.LinkOps in
+      L.does_on _ _ _ _ _ (L.does_on _ _ _ _ _ c.set_next_or_head.ensures.trace_stays c.set_prev_or_tail.ensures.trace_stays) c.set_neighbors.ensures.trace_stays;
+  extent = search rules;
+  others = search rules;
+}

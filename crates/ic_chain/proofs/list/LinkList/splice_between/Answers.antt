@@ -1,6 +1,5 @@
 use Rattle.std.proofs.Common.{[], ◌∷◌, Option, Some, ◌++◌, ◌∙◌, sym, ap, refl, drop, ◌≡◌}
-use Rattle.ic_unsafe_ref.specs.declared.place.Place.{Place}
-use Rattle.ic_link_ops.specs.Chains.{ListHead, list_head, RepresentsChain, TurnsEnds, end_of}
+use Rattle.ic_link_ops.specs.Prelude.{Place, ListHead, list_head, RepresentsChain, TurnsEnds, end_of}
 use Rattle.ic_link_ops.proofs.SequenceLemmas.{gap_not, absent_left, absent_right, absent_both}
 use Rattle.ic_link_ops.proofs.RepresentedLists.{represents_splice, represents_first, ends_not}
 use Rattle.ic_link_ops.proofs.Naming.{end_named}

@@ -2,8 +2,7 @@ use Rattle.std.proofs.Common.{sym, ◌∙◌}
 use Rattle.std.proofs.lemmas.List.{length-map}
 use Rattle.ic_link_ops.specs.LentTables.{lent_entries}
 use Rattle.ic_link_ops.specs.Links.{value_of}
-use Rattle.ic_link_ops.specs.PlainTables.{values_beside}
-use Rattle.ic_link_ops.specs.Widths.{nameable}
+use Rattle.ic_link_ops.specs.Prelude.{values_beside, nameable}
 use Rattle.ic_check.proofs.HashTables.{placed_exactly}
 use Rattle.ic_check.proofs.placed.LentTableTellsPlaced.tells_placed.Goals as goal
 

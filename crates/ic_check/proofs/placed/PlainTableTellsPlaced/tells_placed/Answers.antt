@@ -1,8 +1,7 @@
 use Rattle.std.proofs.Common.{sym, ◌∙◌}
 use Rattle.std.proofs.lemmas.List.{length-map}
 use Rattle.ic_link_ops.specs.Links.{value_of}
-use Rattle.ic_link_ops.specs.PlainTables.{entries, values_beside}
-use Rattle.ic_link_ops.specs.Widths.{nameable}
+use Rattle.ic_link_ops.specs.Prelude.{entries, values_beside, nameable}
 use Rattle.ic_check.proofs.HashTables.{placed_exactly}
 use Rattle.ic_check.proofs.placed.PlainTableTellsPlaced.tells_placed.Goals as goal
 

@@ -1,5 +1,4 @@
-use Rattle.std.proofs.Common.{◌<◌, None, length, refl, sym, ap, ◌∙◌, subst, arith}
-use Rattle.std.proofs.lemmas.List.{length-set}
+use Rattle.std.proofs.Common.{◌<◌, None, length, refl, sym, ap, ◌∙◌, subst, arith, length-set}
 use Rattle.ic_hash_table.specs.Slots.{IsWellFormed}
 use Rattle.ic_hash_table.proofs.EmptiedChains.{empties_none, next_chain, empties_more, none_below, all_none, all_done}
 use Rattle.ic_hash_table.proofs.KeptBuckets.{keeps_buckets}

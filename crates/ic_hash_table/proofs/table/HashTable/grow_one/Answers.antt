@@ -1,10 +1,7 @@
 use Rattle.std.proofs.Common.{◌≡◌, ◌<◌, None, length, refl, ap, subst, ◌∙◌, arith}
 use Rattle.ic_hash_table.specs.declared.slots.Slots.{Slots}
-use Rattle.ic_hash_table.specs.HashTable.{number, BelongsIn}
-use Rattle.ic_hash_table.specs.SideBySide.{same_key}
+use Rattle.ic_hash_table.specs.Prelude.{number, BelongsIn, same_key, matches, split_of}
 use Rattle.ic_hash_table.specs.Growth.{belongs_at, IsParted}
-use Rattle.ic_hash_table.specs.Searches.{matches}
-use Rattle.ic_hash_table.specs.Slots.{split_of}
 use Rattle.ic_link_ops.specs.Tables.{ChangesOnlyIn}
 use Rattle.ic_hash_table.proofs.Callers.{represented_is_held}
 use Rattle.ic_hash_table.proofs.FoundMembers.{chain_placed}

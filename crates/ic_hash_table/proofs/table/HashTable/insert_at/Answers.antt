@@ -1,9 +1,7 @@
-use Rattle.std.proofs.Common.{◌+◌, None, [], ◌∷◌, slice_index_or, refl, sym, ap, subst, ◌∙◌, arith}
-use Rattle.std.proofs.lemmas.List.{get_or-set_same}
+use Rattle.std.proofs.Common.{◌+◌, None, [], ◌∷◌, slice_index_or, refl, sym, ap, subst, ◌∙◌, arith, get_or-set_same}
 use Rattle.ic_link_ops.specs.Prelude.{insert, ChangesOnlyIn, acquires}
-use Rattle.ic_hash_table.specs.Chains.{RepresentsFrom}
+use Rattle.ic_hash_table.specs.Prelude.{RepresentsFrom, number, BelongsIn}
 use Rattle.ic_link_ops.proofs.Walks.{few_places}
-use Rattle.ic_hash_table.specs.HashTable.{number, BelongsIn}
 use Rattle.ic_hash_table.proofs.Callers.{represented_is_held}
 use Rattle.ic_hash_table.proofs.Chains.{chains_free, chain_of_list}
 use Rattle.ic_hash_table.proofs.HeldTables.{held_put, frame_at}

@@ -2,8 +2,7 @@ use Rattle.std.proofs.Common.{◌≡◌, ◌+◌, suc, drop, sym, ap, ◌∙◌,
 use Rattle.std.specs.Bool.{⊤}
 use Rattle.ic_link_ops.specs.Sequences.{first}
 use Rattle.ic_link_ops.proofs.SequenceLemmas.{first_of_back}
-use Rattle.ic_hash_table.specs.Chains.{AreChained}
-use Rattle.ic_hash_table.specs.HashTable.{number}
+use Rattle.ic_hash_table.specs.Prelude.{AreChained, number}
 use Rattle.ic_hash_table.proofs.FoundMembers.{chain_of}
 use Rattle.ic_hash_table.proofs.NextMembers.{all_chained, after_chained, first_is_chains, first_is_others, slot_of_place, place_placed, stands_in}
 use Rattle.ic_hash_table.proofs.table.HashTable.next.Goals as goal

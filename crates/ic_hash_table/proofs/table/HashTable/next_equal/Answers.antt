@@ -1,9 +1,7 @@
 use Rattle.std.proofs.Common.{◌≡◌, IsSome, List, ◌∷◌, ◌++◌, sym, ap, ◌∙◌}
 use Rattle.ic_link_ops.specs.Prelude.{Place, object_at}
-use Rattle.ic_link_ops.proofs.Each.{all_back}
-use Rattle.ic_link_ops.proofs.SequenceLemmas.{some_same}
-use Rattle.ic_hash_table.specs.Slots.{slot_of}
-use Rattle.ic_hash_table.specs.HashTable.{number, Holds}
+use Rattle.ic_link_ops.proofs.Prelude.{all_back, some_same}
+use Rattle.ic_hash_table.specs.Prelude.{slot_of, number, Holds}
 use Rattle.ic_hash_table.specs.Searches.{has_key, Finds}
 use Rattle.ic_hash_table.proofs.SideBySideLemmas.{found_beside}
 use Rattle.ic_hash_table.proofs.NextMembers.{rest_of_chain, finds_after}

@@ -2,8 +2,7 @@ use Rattle.std.proofs.Common.{◌≡◌, Some, IsSome, List, [], ◌∷◌, ◌+
 use denote.Param.Always.{mut_next}
 use Rattle.std.specs.Fn.{CalledAt}
 use Rattle.ic_link_ops.specs.Prelude.{Place, object_at, ChangesOnlyIn}
-use Rattle.ic_link_ops.proofs.Each.{all_back}
-use Rattle.ic_link_ops.proofs.SequenceLemmas.{last_of_push, split_member}
+use Rattle.ic_link_ops.proofs.Prelude.{all_back, last_of_push, split_member}
 use Rattle.ic_link_ops.proofs.SinglyLists.{successors_covered}
 use Rattle.ic_hash_table.specs.HashTable.{number, Holds}
 use Rattle.ic_hash_table.specs.Retained.{TellsAt}

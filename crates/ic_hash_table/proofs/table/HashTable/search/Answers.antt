@@ -1,6 +1,5 @@
 use Rattle.std.proofs.Common.{sym, ap, ◌∙◌}
-use Rattle.ic_hash_table.specs.HashTable.{number}
-use Rattle.ic_hash_table.specs.Slots.{slot_of}
+use Rattle.ic_hash_table.specs.Prelude.{number, slot_of}
 use Rattle.ic_hash_table.proofs.FoundMembers.{chain_of, chain_placed, none_elsewhere, finds, stops_some}
 use Rattle.ic_hash_table.proofs.table.HashTable.search.Goals as goal
 

@@ -1,9 +1,7 @@
 use Rattle.std.proofs.Common.{◌<◌, ◌++◌, length, refl, arith}
 use Rattle.std.specs.Bool.{⊤}
 use Rattle.ic_hash_table.specs.declared.slots.Slots.{Slots}
-use Rattle.ic_hash_table.specs.HashTable.{number, BelongsIn}
-use Rattle.ic_hash_table.specs.SideBySide.{same_key}
-use Rattle.ic_hash_table.specs.Slots.{split_of}
+use Rattle.ic_hash_table.specs.Prelude.{number, BelongsIn, same_key, split_of}
 use Rattle.ic_hash_table.proofs.SideBySideChains.{BelongTogether, keys_together}
 use Rattle.ic_hash_table.proofs.ShrunkTables.{last_chain, joined_chain, joined_represented, chains_apart, joined_frame, held_shrunk, beside_shrunk}
 use Rattle.ic_hash_table.proofs.KeptBuckets.{front_kept, keeps_buckets}

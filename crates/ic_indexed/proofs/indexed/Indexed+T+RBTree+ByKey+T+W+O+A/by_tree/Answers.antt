@@ -1,4 +1,4 @@
-use Rattle.std.proofs.Common.{ap}
+use Rattle.std.proofs.Common.{ap, rules}
 use Rattle.ic_link_ops.specs.PlacedObjects.{values_at}
 use Rattle.ic_rbtree.specs.Tree.{root_of}
 use Rattle.ic_container.specs.EachLaws.{plain_reads}
@@ -19,8 +19,12 @@ invariant_of-result g c =
       listed = listed_none reads c.new-3.result.links.1 c.new-5.ensures e.empty e.vacant (rw e.links c.new-2.ensures);
     }
 
-pub returns-clause-empty : goal.returns-clause-empty
-returns-clause-empty g c =
+pub returns : goal.returns
+returns g c =
     let O = g.O.Words in
     let reads = list_reads O.width O.unlinked O.is_linked g.O.NextWord.next_word g.O.PrevPlace.prev g.met.O.Words.starts_unlinked in
-    ap (values_at c.new-3.result.objects) (order_none reads c.new-3.result.links.1 c.new-5.ensures)
+    record {
+      empty = ap (values_at c.new-3.result.objects) (order_none reads c.new-3.result.links.1 c.new-5.ensures);
+      vacant = search rules;
+      parts = search rules;
+    }

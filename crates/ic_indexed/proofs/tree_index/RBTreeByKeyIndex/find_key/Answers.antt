@@ -1,10 +1,7 @@
 use Rattle.std.proofs.Common.{◌≡◌, ℕ, ◌+◌, ◌^◌, ◌≤◌, ◌∙◌, sym, subst, arith}
-use Rattle.ic_rbtree.specs.Comparing.{WithinComparisonBound}
+use Rattle.ic_rbtree.specs.Prelude.{WithinComparisonBound, members, node_by, root_of}
 use Rattle.ic_rbtree.specs.Cursor.{position}
 use Rattle.ic_link_ops.specs.PlainTables.{table}
-use Rattle.ic_rbtree.specs.Members.{members}
-use Rattle.ic_rbtree.specs.PlainTrees.{node_by}
-use Rattle.ic_rbtree.specs.Tree.{root_of}
 use Rattle.ic_container.proofs.TreeLemmas.{all_found, all_placed, all_represented, as_many_keys}
 use Rattle.ic_container.proofs.ValueLemmas.{as_many}
 use Rattle.ic_indexed.proofs.tree_index.RBTreeByKeyIndex.find_key.Goals as goal

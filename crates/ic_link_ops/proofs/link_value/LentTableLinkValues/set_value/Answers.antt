@@ -1,10 +1,9 @@
-use Rattle.std.proofs.Common.{slice_index_or, ap, ◌∙◌, length, refl}
+use Rattle.std.proofs.Common.{slice_index_or, ap, ◌∙◌, length, refl, length-set}
 use Rattle.ic_link_ops.specs.Links.{link_with, words_of}
 use Rattle.ic_link_ops.specs.LentTables.{lent_entries}
 use Rattle.ic_unsafe_ref.specs.Objects.{at_indexes}
 use Rattle.ic_link_ops.specs.PlainTables.{values_beside}
 use Rattle.ic_link_ops.specs.Widths.{nameable}
-use Rattle.std.proofs.lemmas.List.{length-set}
 use Rattle.ic_link_ops.proofs.WidthLemmas.{nameable_written}
 use Rattle.ic_link_ops.proofs.SeenEntries.{others_seen, says_kept}
 use Rattle.ic_link_ops.proofs.ValuesBeside.{value_set}

@@ -14,9 +14,8 @@ next_word-word-requires g c =
 pub set_next_word-requires-clause-kept : goal.set_next_word-requires-clause-kept
 set_next_word-requires-clause-kept g c =
     let w = g.W.Words.width in
-    let linked = linked_read g.W.Words.is_linked g.W.Words.width (link_with g.W.Words.unlinked g.V.LinkValue.initial) g.met.W.Words.starts_unlinked (entries c.args.self.now) c.args.place _ _ _ c.slot-index.ensures.value c.requires.linked c.index_mut-entry.ensures.value in
-    rw (c.replaced.ensures, c.next_word-word.ensures)
-    (xor_kept w _ _ (xor_kept w _ _ (g.met.W.NextWord.next_word_kept _ linked) (word_kept w c.args.old c.requires.from)) (word_kept w c.args.new c.requires.to))
+    rw c.replaced.ensures
+    (xor_kept w _ _ (xor_kept w _ _ c.next_word-word.ensures.kept (word_kept w c.args.old c.requires.from)) (word_kept w c.args.new c.requires.to))
 
 pub set_next_word-requires-clause-linked : goal.set_next_word-requires-clause-linked
 set_next_word-requires-clause-linked g c =
@@ -27,7 +26,7 @@ returns-clause-replaced g c x joins =
     says_written g.W.Words.is_linked g.W.Words.width (link_with g.W.Words.unlinked g.V.LinkValue.initial) g.met.W.Words.starts_unlinked (λ l. g.W.NextWord.next_word (words_of l))
     (λ w. bit_xor (bit_xor w (word_of c.args.old)) (word_of c.args.new)) _ _ c.index_mut-entry.result.now _ _ _
     c.slot-index.ensures.value c.requires.linked c.index_mut-entry.ensures.value
-    (c.set_next_word.ensures.set ∙ c.replaced.ensures ∙ ap (λ w. bit_xor (bit_xor w (word_of c.args.old)) (word_of c.args.new)) c.next_word-word.ensures)
+    (c.set_next_word.ensures.set ∙ c.replaced.ensures ∙ ap (λ w. bit_xor (bit_xor w (word_of c.args.old)) (word_of c.args.new)) c.next_word-word.ensures.word)
     ∙ joins_replaced _ c.args.old c.args.new x joins
 
 pub returns-clause-frame : goal.returns-clause-frame

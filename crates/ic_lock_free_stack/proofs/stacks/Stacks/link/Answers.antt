@@ -3,8 +3,7 @@ use Rattle.ic_unsafe_ref.specs.declared.place.Place.{Place}
 use Rattle.ic_unsafe_ref.specs.Places.{index_of}
 use Rattle.ic_lock_free_stack.specs.declared.stacks.Holder.{Holder}
 use Rattle.ic_lock_free_stack.specs.declared.stacks.Chain.{Chain}
-use Rattle.ic_lock_free_stack.specs.Moments.{is_in}
-use Rattle.ic_lock_free_stack.specs.Holders.{account_of}
+use Rattle.ic_lock_free_stack.specs.Prelude.{is_in, account_of}
 use Rattle.ic_lock_free_stack.proofs.RuleLemmas.{links}
 use Rattle.ic_lock_free_stack.proofs.HolderLemmas.{linked_of, linked_stays, linked_keeps, linked_has, one_sequence}
 use Rattle.ic_lock_free_stack.proofs.stacks.Stacks.link.Goals as goal

@@ -2,8 +2,7 @@ use Rattle.std.proofs.Common.{◌≡◌, ◌<◌, ◌+◌, ◌-◌, suc, ◌∙�
 use Rattle.std.proofs.lemmas.List.Elements.{All-push}
 use Rattle.ic_lock_free_stack.specs.declared.held.Account.{Account}
 use Rattle.ic_lock_free_stack.specs.declared.stacks.Holder.{Holder}
-use Rattle.ic_lock_free_stack.specs.Held.{fresh}
-use Rattle.ic_lock_free_stack.specs.Holders.{IsOf, IsNew}
+use Rattle.ic_lock_free_stack.specs.Prelude.{fresh, IsOf, IsNew}
 use Rattle.ic_lock_free_stack.proofs.HolderLemmas.{account_is, is_of, dealt_rest, dealt_first, named_more}
 use Rattle.ic_lock_free_stack.proofs.stacks.Stacks.new.Goals as goal
 

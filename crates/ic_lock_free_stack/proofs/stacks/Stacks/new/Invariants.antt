@@ -1,8 +1,6 @@
-use Rattle.std.proofs.Common.{◌≡◌, ◌-◌, ◌≤◌, map}
+use Rattle.std.proofs.Common.{◌≡◌, ◌-◌, ◌≤◌, map, vec_len, vec_capacity, All}
 use Rattle.std.specs.List.{range_with_len}
-use Rattle.std.specs.Prelude.{vec_len, vec_capacity, All}
-use Rattle.ic_lock_free_stack.specs.Held.{fresh}
-use Rattle.ic_lock_free_stack.specs.Holders.{IsSeatOf, hand_with, name_of, IsOf, IsNew}
+use Rattle.ic_lock_free_stack.specs.Prelude.{fresh, IsSeatOf, hand_with, name_of, IsOf, IsNew}
 use Rattle.ic_lock_free_stack.proofs.stacks.Stacks.new.Given as goal
 
 abbrev pub invariant-loop : goal.invariant-loop

@@ -1,9 +1,8 @@
 use Rattle.std.proofs.Common.{◌≡◌, ◌<◌, ◌+◌, List, ◌∷◌, [], ◌∙◌, sym, ap, subst, refl, arith}
 use Rattle.ic_unsafe_ref.specs.Places.{index_of}
-use Rattle.ic_lock_free_stack.specs.Ends.{first}
+use Rattle.ic_lock_free_stack.specs.Prelude.{first, account_of, HasChain}
 use Rattle.ic_lock_free_stack.specs.declared.stacks.Holder.{Holder}
 use Rattle.ic_lock_free_stack.specs.declared.stacks.Chain.{Chain}
-use Rattle.ic_lock_free_stack.specs.Holders.{account_of, HasChain}
 use Rattle.ic_lock_free_stack.proofs.RuleLemmas.{follows}
 use Rattle.ic_lock_free_stack.proofs.HolderLemmas.{link_full, link_fits, chain_next, chain_rest, chain_found, known_link}
 use Rattle.ic_lock_free_stack.proofs.stacks.Stacks.next.Goals as goal

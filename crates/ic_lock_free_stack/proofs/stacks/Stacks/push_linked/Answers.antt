@@ -4,8 +4,7 @@ use Rattle.ic_unsafe_ref.specs.Places.{index_of}
 use Rattle.ic_lock_free_stack.specs.declared.held.Account.{Account}
 use Rattle.ic_lock_free_stack.specs.declared.stacks.Holder.{Holder}
 use Rattle.ic_lock_free_stack.specs.declared.step.Step.TheVariants.{Push}
-use Rattle.ic_lock_free_stack.specs.Moments.{IsOnce}
-use Rattle.ic_lock_free_stack.specs.Words.{link_to, AreKnownTo, forgets}
+use Rattle.ic_lock_free_stack.specs.Prelude.{IsOnce, link_to, AreKnownTo, forgets}
 use Rattle.ic_lock_free_stack.specs.Plays.{Makes}
 use Rattle.ic_lock_free_stack.specs.Holders.{account_of, record_of, IsReady}
 use Rattle.ic_lock_free_stack.proofs.RuleLemmas.{looks, links, tries}

@@ -1,8 +1,7 @@
 use Rattle.std.proofs.Common.{List, drop, sym, subst}
 use Rattle.ic_unsafe_ref.specs.declared.place.Place.{Place}
 use Rattle.ic_lock_free_stack.specs.declared.stacks.Holder.{Holder}
-use Rattle.ic_lock_free_stack.specs.Moments.{same}
-use Rattle.ic_lock_free_stack.specs.Holders.{Stays, HasChain, KeepsChains}
+use Rattle.ic_lock_free_stack.specs.Prelude.{same, Stays, HasChain, KeepsChains}
 use Rattle.ic_lock_free_stack.proofs.HolderLemmas.{apart_in}
 use Rattle.ic_lock_free_stack.proofs.LeftLemmas.{left_fewer}
 use Rattle.ic_lock_free_stack.proofs.TurnLemmas.{first_in, turns_first, turns_more, turned_round, turned_keeps}

@@ -1,9 +1,8 @@
 use Rattle.std.proofs.Common.{◌<◌, ◌+◌, ◌∙◌, sym, ap, subst, refl, arith}
 use Rattle.ic_unsafe_ref.specs.Places.{index_of}
-use Rattle.ic_lock_free_stack.specs.Ends.{first}
+use Rattle.ic_lock_free_stack.specs.Prelude.{first, account_of, record_of}
 use Rattle.ic_lock_free_stack.specs.declared.stacks.Holder.{Holder}
 use Rattle.ic_lock_free_stack.specs.declared.stacks.Chain.{Chain}
-use Rattle.ic_lock_free_stack.specs.Holders.{account_of, record_of}
 use Rattle.ic_lock_free_stack.proofs.RuleLemmas.{takes}
 use Rattle.ic_lock_free_stack.proofs.RecordLemmas.{take_holds}
 use Rattle.ic_lock_free_stack.proofs.HolderLemmas.{link_full, link_fits, link_names, made_is_of, stepped, take_keeps, take_has}

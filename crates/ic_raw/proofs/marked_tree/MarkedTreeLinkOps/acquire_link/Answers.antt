@@ -1,8 +1,7 @@
 use Rattle.std.proofs.Common.{refl, sym, ap, ◌∙◌}
 use Rattle.ic_link_ops.proofs.EntryLemmas.{entry_read, entry_same}
 use Rattle.ic_link_ops.proofs.StepLemmas.{links_only}
-use Rattle.ic_raw.specs.MarkedTree.{marked_entries}
-use Rattle.ic_raw.specs.Words.{no_tree_words, is_linked_three}
+use Rattle.ic_raw.specs.Prelude.{marked_entries, no_tree_words, is_linked_three}
 use Rattle.ic_raw.proofs.Entries.{changes_only}
 use Rattle.ic_raw.proofs.marked_tree.MarkedTreeLinkOps.acquire_link.Goals as goal
 

@@ -1,10 +1,8 @@
 use Rattle.std.proofs.Common.{refl, ap, ◌∙◌}
 use Rattle.ic_unsafe_ref.specs.Places.{index_of}
 use Rattle.ic_link_ops.specs.EntryLaws.{linked_in_range}
-use Rattle.ic_link_ops.proofs.EntryLemmas.{entry_same}
-use Rattle.ic_link_ops.proofs.StepLemmas.{unlinks_only}
-use Rattle.ic_raw.specs.MarkedTree.{marked_entries}
-use Rattle.ic_raw.specs.Words.{no_tree_words, is_linked_three}
+use Rattle.ic_link_ops.proofs.Prelude.{entry_same, unlinks_only}
+use Rattle.ic_raw.specs.Prelude.{marked_entries, no_tree_words, is_linked_three}
 use Rattle.ic_raw.proofs.Entries.{changes_only}
 use Rattle.ic_raw.proofs.marked_tree.MarkedTreeLinkOps.release_link.Goals as goal
 

@@ -1,7 +1,6 @@
 use Rattle.std.proofs.Common.{◌≡◌, refl, sym, ap, ◌∙◌}
 use Rattle.ic_link_ops.specs.TreeWords.{one_if_black}
-use Rattle.ic_raw.specs.Tree.{node}
-use Rattle.ic_raw.specs.Words.{no_tree_words, is_linked_three}
+use Rattle.ic_raw.specs.Prelude.{node, no_tree_words, is_linked_three}
 use Rattle.ic_raw.proofs.Entries.{says_written, changes_only}
 use Rattle.ic_raw.proofs.MarkedTrees.{color_set}
 use Rattle.ic_raw.proofs.marked_tree.MarkedTreeRBTreeOps.set_color.Goals as goal

@@ -1,6 +1,5 @@
 use Rattle.std.proofs.Common.{refl}
-use Rattle.ic_raw.specs.Tree.{node}
-use Rattle.ic_raw.specs.Words.{no_tree_words, is_linked_three}
+use Rattle.ic_raw.specs.Prelude.{node, no_tree_words, is_linked_three}
 use Rattle.ic_raw.proofs.Entries.{says_written, changes_only}
 use Rattle.ic_raw.proofs.MarkedTrees.{left_set}
 use Rattle.ic_raw.proofs.marked_tree.MarkedTreeRBTreeOps.set_left.Goals as goal

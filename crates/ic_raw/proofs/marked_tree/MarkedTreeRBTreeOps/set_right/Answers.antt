@@ -1,7 +1,5 @@
 use Rattle.std.proofs.Common.{refl, slice_index_or}
-use Rattle.ic_raw.specs.MarkedTree.{marked_entries}
-use Rattle.ic_raw.specs.Tree.{node}
-use Rattle.ic_raw.specs.Words.{no_tree_words, is_linked_three}
+use Rattle.ic_raw.specs.Prelude.{marked_entries, node, no_tree_words, is_linked_three}
 use Rattle.ic_raw.proofs.Entries.{says_written, changes_only}
 use Rattle.ic_raw.proofs.MarkedTrees.{right_set}
 use Rattle.ic_raw.proofs.marked_tree.MarkedTreeRBTreeOps.set_right.Goals as goal

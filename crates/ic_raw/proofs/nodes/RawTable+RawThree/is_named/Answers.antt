@@ -1,6 +1,5 @@
 use Rattle.std.proofs.Common.{ℕ, nat_eq, length, ap, ◌∙◌}
-use Rattle.ic_raw.specs.Tables.{raw_entries}
-use Rattle.ic_raw.specs.Words.{number_in}
+use Rattle.ic_raw.specs.Prelude.{raw_entries, number_in}
 use Rattle.ic_raw.proofs.Seen.{number_names}
 use Rattle.ic_raw.proofs.nodes.RawTable+RawThree.is_named.Goals as goal
 

@@ -1,7 +1,6 @@
 use Rattle.std.proofs.Common.{◌≡◌, length, slice_index_or, ap, ◌∙◌, sym}
 use Rattle.ic_link_ops.specs.TreeWords.{one_if_black}
-use Rattle.ic_raw.specs.Words.{no_tree_words}
-use Rattle.ic_raw.specs.Tables.{raw_entries}
+use Rattle.ic_raw.specs.Prelude.{no_tree_words, raw_entries}
 use Rattle.ic_raw.proofs.Seen.{seen_changes, says_written, parent_and_color_set, parent_and_color_keeps_links, keeps_marks}
 use Rattle.ic_raw.proofs.Entries.{changes_only}
 use Rattle.ic_raw.proofs.nodes.RawTableRawThreeNodeStore.set_parent_and_color.Goals as goal

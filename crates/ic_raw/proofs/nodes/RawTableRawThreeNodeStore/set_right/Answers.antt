@@ -1,6 +1,5 @@
 use Rattle.std.proofs.Common.{length, slice_index_or}
-use Rattle.ic_raw.specs.Words.{no_tree_words}
-use Rattle.ic_raw.specs.Tables.{raw_entries}
+use Rattle.ic_raw.specs.Prelude.{no_tree_words, raw_entries}
 use Rattle.ic_raw.proofs.Seen.{seen_changes, says_written, right_set, right_keeps_links, keeps_marks}
 use Rattle.ic_raw.proofs.Entries.{changes_only}
 use Rattle.ic_raw.proofs.nodes.RawTableRawThreeNodeStore.set_right.Goals as goal

@@ -1,10 +1,8 @@
-use Rattle.std.proofs.Common.{is_some, sym, ap, ◌∙◌, subst}
-use Rattle.std.proofs.lemmas.Bool.{ltb-true}
+use Rattle.std.proofs.Common.{is_some, sym, ap, ◌∙◌, subst, ltb-true}
 use Rattle.ic_unsafe_ref.specs.Places.{index_of}
 use Rattle.ic_rbtree.proofs.Closed.{in_there}
-use Rattle.ic_raw.specs.Seen.{has_place}
+use Rattle.ic_raw.specs.Prelude.{has_place, is_linked_three}
 use Rattle.ic_raw.specs.Tree.{IsInsertPos, lent_table}
-use Rattle.ic_raw.specs.Words.{is_linked_three}
 use Rattle.ic_raw.proofs.Gaps.{not_is}
 use Rattle.ic_raw.proofs.Trees.{insert_pos_stands, insert_pos_empty}
 use Rattle.ic_raw.proofs.search.InsertPos.is_open.Goals as goal

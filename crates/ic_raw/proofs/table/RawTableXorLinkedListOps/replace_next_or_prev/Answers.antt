@@ -22,17 +22,15 @@ set_next_word-requires-clause-linked g c =
 pub set_next_word-requires-clause-kept : goal.set_next_word-requires-clause-kept
 set_next_word-requires-clause-kept g c =
     let w = g.W.Words.width in
-    let linked = seen_linked g.W.Words.width g.W.Words.unlinked g.W.Words.is_linked g.met.W.Words.starts_unlinked (raw_entries c.args.self.now) c.args.place _ _ c.slot_of_linked-index.result
-    c.slot_of_linked-index.ensures.value c.requires.linked refl in
-    rw (c.replaced.ensures, c.next_word-word.ensures)
-    (xor_kept w _ _ (xor_kept w _ _ (g.met.W.NextWord.next_word_kept _ linked) (word_kept w c.args.old c.requires.from)) (word_kept w c.args.new c.requires.to))
+    rw c.replaced.ensures
+    (xor_kept w _ _ (xor_kept w _ _ c.next_word-word.ensures.kept (word_kept w c.args.old c.requires.from)) (word_kept w c.args.new c.requires.to))
 
 pub returns-clause-replaced : goal.returns-clause-replaced
 returns-clause-replaced g c x joins =
     seen_written g.W.Words.width g.W.Words.unlinked g.W.Words.is_linked g.met.W.Words.starts_unlinked g.W.NextWord.next_word
     (λ w. bit_xor (bit_xor w (word_of c.args.old)) (word_of c.args.new)) (raw_entries c.args.self.now) c.args.place _ _ _
     c.slot_of_linked-index.result c.slot_of_linked-index.ensures.value c.requires.linked refl
-    (c.set_next_word.ensures.set ∙ c.replaced.ensures ∙ ap (λ w. bit_xor (bit_xor w (word_of c.args.old)) (word_of c.args.new)) c.next_word-word.ensures)
+    (c.set_next_word.ensures.set ∙ c.replaced.ensures ∙ ap (λ w. bit_xor (bit_xor w (word_of c.args.old)) (word_of c.args.new)) c.next_word-word.ensures.word)
     ∙ joins_replaced _ c.args.old c.args.new x joins
 
 pub returns-clause-frame : goal.returns-clause-frame

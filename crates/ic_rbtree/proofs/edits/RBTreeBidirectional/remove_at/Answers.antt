@@ -1,6 +1,5 @@
 use Rattle.std.proofs.Common.{refl, [], ◌∷◌, ◌++◌, List, drop, ◌≡◌, ap, ◌∙◌, sym, append_assoc}
-use Rattle.ic_link_ops.specs.Prelude.{Place, Cut, join, IsBefore, IsSecondAfter}
-use Rattle.ic_link_ops.specs.Edits.{Removes}
+use Rattle.ic_link_ops.specs.Prelude.{Place, Cut, join, IsBefore, IsSecondAfter, Removes}
 use Rattle.ic_rbtree.specs.Kept.{RepresentsKept}
 use Rattle.ic_link_ops.proofs.SequenceLemmas.{first_is, last_of_push}
 use Rattle.ic_link_ops.proofs.Positions.{gap_there, removed_stands}

@@ -1,6 +1,5 @@
 use Rattle.std.proofs.Common.{refl, sym, ◌∙◌}
-use Rattle.ic_link_ops.specs.Sequences.{Cut, join, IsBefore}
-use Rattle.ic_link_ops.specs.Edits.{Replaces}
+use Rattle.ic_link_ops.specs.Prelude.{Cut, join, IsBefore, Replaces}
 use Rattle.ic_rbtree.specs.Kept.{RepresentsKept}
 use Rattle.ic_link_ops.proofs.Positions.{gap_there, replaced_stands}
 use Rattle.ic_cursors.proofs.Placed.{put_there}

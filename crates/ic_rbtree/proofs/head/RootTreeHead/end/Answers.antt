@@ -3,8 +3,7 @@ use Rattle.ic_unsafe_ref.specs.declared.place.Place.{Place}
 use Rattle.ic_link_ops.specs.declared.side.Side.{Side}
 use Rattle.ic_link_ops.specs.declared.side.Side.TheVariants.{Left, Right}
 use Rattle.ic_link_ops.specs.Frames.{across}
-use Rattle.ic_rbtree.specs.Ends.{end_on}
-use Rattle.ic_rbtree.specs.Sides.{nearest}
+use Rattle.ic_rbtree.specs.Prelude.{end_on, nearest}
 use Rattle.ic_rbtree.proofs.head.RootTreeHead.end.Goals as goal
 
 -- the outermost member of a sequence on side d is the end of the sequence on side d

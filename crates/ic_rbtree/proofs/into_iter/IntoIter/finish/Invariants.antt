@@ -1,6 +1,5 @@
 use Rattle.std.proofs.Common.{List, length}
-use Rattle.ic_link_ops.specs.Prelude.{Place, releases_each}
-use Rattle.ic_link_ops.specs.RedBlackTree.{RepresentsEnds}
+use Rattle.ic_link_ops.specs.Prelude.{Place, releases_each, RepresentsEnds}
 use Rattle.ic_rbtree.specs.Members.{members_around}
 use Rattle.ic_rbtree.proofs.RemainingMembers.{Finishes}
 use Rattle.ic_rbtree.proofs.into_iter.IntoIter.finish.Given as goal

@@ -1,7 +1,5 @@
 use Rattle.std.proofs.Common.{Some, [], ◌∷◌, ◌++◌, refl, sym, ◌∙◌}
-use Rattle.ic_link_ops.proofs.PlacedEnds.{last_placed}
-use Rattle.ic_link_ops.proofs.Positions.{moves_back}
-use Rattle.ic_link_ops.proofs.Walks.{is_end_yes}
+use Rattle.ic_link_ops.proofs.Prelude.{last_placed, moves_back, is_end_yes}
 use Rattle.ic_rbtree.proofs.Walking.{Steps, steps_last, steps_less, last_stands, none_left_back, gives_back, goes_back}
 use Rattle.ic_rbtree.proofs.iter.IterDoubleEndedIterator.next_back.Goals as goal
 use Rattle.ic_rbtree.proofs.iter.IterDoubleEndedIterator.next_back.Goals.{then-is_at, else-is_at}

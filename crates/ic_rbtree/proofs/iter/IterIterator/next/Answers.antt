@@ -1,7 +1,5 @@
 use Rattle.std.proofs.Common.{Some, ◌∷◌, refl, sym, ◌∙◌}
-use Rattle.ic_link_ops.proofs.PlacedEnds.{first_placed}
-use Rattle.ic_link_ops.proofs.Positions.{moves_on}
-use Rattle.ic_link_ops.proofs.Walks.{is_end_yes}
+use Rattle.ic_link_ops.proofs.Prelude.{first_placed, moves_on, is_end_yes}
 use Rattle.ic_rbtree.proofs.Walking.{Steps, steps_last, steps_more, first_stands, none_left, gives, goes}
 use Rattle.ic_rbtree.proofs.iter.IterIterator.next.Goals as goal
 use Rattle.ic_rbtree.proofs.iter.IterIterator.next.Goals.{then-is_at, else-is_at}

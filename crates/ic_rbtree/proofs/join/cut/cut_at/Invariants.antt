@@ -1,9 +1,7 @@
 use Rattle.std.proofs.Common.{◌-◌, Option, List}
 use Rattle.ic_link_ops.specs.Prelude.{Place, Cut, join, Table}
 use Rattle.ic_rbtree.specs.Cuts.{IsCutting}
-use Rattle.ic_rbtree.specs.Height.{turns}
-use Rattle.ic_rbtree.specs.Insertion.{IsInsertPos}
-use Rattle.ic_rbtree.specs.Pieces.{Piece, Represented}
+use Rattle.ic_rbtree.specs.Prelude.{turns, IsInsertPos, Piece, Represented}
 use Rattle.ic_rbtree.proofs.join.cut.cut_at.Given as goal
 
 abbrev pub invariant-loop : goal.invariant-loop

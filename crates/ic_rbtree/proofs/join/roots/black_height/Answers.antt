@@ -1,6 +1,5 @@
 use Rattle.std.proofs.Common.{Some, sym, ap, ◌∙◌, arith}
-use Rattle.ic_link_ops.specs.RedBlackTree.{node_at}
-use Rattle.ic_link_ops.specs.Shape.{blacks}
+use Rattle.ic_link_ops.specs.Prelude.{node_at, blacks}
 use Rattle.ic_rbtree.proofs.Spine.{none_is_leaf, at_root, weight_small}
 use Rattle.ic_rbtree.proofs.join.roots.black_height.Goals as goal
 

@@ -1,6 +1,5 @@
 use Rattle.std.proofs.Common.{◌≡◌, ◌+◌, ◌≤◌}
-use Rattle.ic_link_ops.specs.Shape.{blacks}
-use Rattle.ic_link_ops.specs.Trees.{Tree}
+use Rattle.ic_link_ops.specs.Prelude.{blacks, Tree}
 use Rattle.ic_rbtree.specs.Height.{height}
 use Rattle.ic_rbtree.specs.Join.{IsRootOf}
 use Rattle.ic_rbtree.proofs.join.roots.black_height.Given as goal

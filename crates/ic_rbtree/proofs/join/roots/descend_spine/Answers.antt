@@ -1,6 +1,5 @@
 use Rattle.std.proofs.Common.{◌≤◌, ◌-◌, refl, sym, ap, ◌∙◌, subst, arith}
-use Rattle.ic_link_ops.specs.RedBlackTree.{node_at}
-use Rattle.ic_link_ops.specs.Shape.{blacks, top_color, IsRight}
+use Rattle.ic_link_ops.specs.Prelude.{node_at, blacks, top_color, IsRight}
 use Rattle.ic_rbtree.proofs.Low.{frames_low}
 use Rattle.ic_rbtree.proofs.Spine.{none_is_leaf, black_weight, weight_small, spine_as, spine_root, spine_weighs, spine_down}
 use Rattle.ic_rbtree.proofs.join.roots.descend_spine.Goals as goal

@@ -1,10 +1,7 @@
 use Rattle.std.proofs.Common.{◌≡◌, ◌≤◌, List, [], length}
 use Rattle.ic_link_ops.specs.Frames.{Frame}
-use Rattle.ic_link_ops.specs.Shape.{blacks, IsRight}
-use Rattle.ic_link_ops.specs.Tables.{Table}
-use Rattle.ic_link_ops.specs.Trees.{Tree}
-use Rattle.ic_rbtree.specs.Join.{IsSpine}
-use Rattle.ic_rbtree.specs.Pieces.{Piece, ClimbState}
+use Rattle.ic_link_ops.specs.Prelude.{blacks, IsRight, Table, Tree}
+use Rattle.ic_rbtree.specs.Prelude.{IsSpine, Piece, ClimbState}
 use Rattle.ic_rbtree.proofs.join.roots.descend_spine.Given as goal
 
 abbrev pub invariant-loop : goal.invariant-loop

@@ -1,9 +1,7 @@
 use Rattle.std.proofs.Common.{◌≡◌, ◌+◌, Option, refl, sym, ◌∙◌, subst, arith}
-use Rattle.ic_unsafe_ref.specs.declared.place.Place.{Place}
+use Rattle.ic_link_ops.specs.Prelude.{Place, blacks, in_order}
 use Rattle.ic_link_ops.specs.declared.color.Color.TheVariants.{Red, Black}
 use Rattle.ic_link_ops.specs.Frames.{branch, plug}
-use Rattle.ic_link_ops.specs.Shape.{blacks}
-use Rattle.ic_link_ops.specs.Trees.{in_order}
 use Rattle.ic_rbtree.specs.Pieces.{Represented}
 use Rattle.ic_rbtree.proofs.Graft.{place_node, place_named, near_named, far_named, parent_named, graft_stands, graft_top, graft_red, graft_blacks, red_safe}
 use Rattle.ic_rbtree.proofs.Low.{frames_low}

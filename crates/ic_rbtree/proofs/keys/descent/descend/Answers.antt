@@ -1,6 +1,5 @@
 use Rattle.std.proofs.Common.{◌≡◌, Bool, true, false, cond, Option, Some, None, refl, sym, ◌∙◌, arith}
-use Rattle.ic_unsafe_ref.specs.declared.place.Place.{Place}
-use Rattle.ic_link_ops.specs.RedBlackTree.{Node, node_at}
+use Rattle.ic_link_ops.specs.Prelude.{Place, Node, node_at}
 use Rattle.ic_link_ops.specs.Frames.{child_on}
 use Rattle.ic_rbtree.specs.Descents.{side_of}
 use Rattle.ic_rbtree.proofs.Sending.{Comes, comes_first, comes_on, sent_linked, sent_room, sent_placed, sent_ends, sent_looks}

@@ -1,10 +1,7 @@
 use Rattle.std.proofs.Common.{◌≡◌, ◌+◌, true, false, IsSome, ◌∷◌, ◌++◌, refl, sym, ◌∙◌, subst, arith}
 use Rattle.ic_link_ops.specs.Prelude.{object_at, Cut, ArePlaced}
-use Rattle.ic_link_ops.proofs.Each.{all_front, all_back}
-use Rattle.ic_link_ops.proofs.SequenceLemmas.{some_same}
-use Rattle.ic_link_ops.proofs.RepresentedTrees.{one_sequence}
-use Rattle.ic_rbtree.specs.Borders.{less_at}
-use Rattle.ic_rbtree.specs.Comparing.{compared}
+use Rattle.ic_link_ops.proofs.Prelude.{all_front, all_back, some_same, one_sequence}
+use Rattle.ic_rbtree.specs.Prelude.{less_at, compared}
 use Rattle.ic_rbtree.specs.InsertPositions.{less_there, looks_there}
 use Rattle.ic_rbtree.proofs.LookBounds.{last_is_placed, one_look}
 use Rattle.ic_rbtree.proofs.Removing.{spot, spot_linked, represented_of}

@@ -2,9 +2,7 @@ use Rattle.std.proofs.Common.{◌≡◌, false, sym, ◌∙◌, subst, append-ni
 use Rattle.ic_link_ops.specs.declared.side.Side.TheVariants.{Right}
 use Rattle.ic_link_ops.specs.Sequences.{at_back}
 use Rattle.ic_link_ops.proofs.SequenceLemmas.{none_not, some_same}
-use Rattle.ic_rbtree.specs.Borders.{less_at}
-use Rattle.ic_rbtree.specs.Comparing.{compared}
-use Rattle.ic_rbtree.specs.Descents.{EndsAt}
+use Rattle.ic_rbtree.specs.Prelude.{less_at, compared, EndsAt}
 use Rattle.ic_rbtree.proofs.InOrder.{ended_in_order}
 use Rattle.ic_rbtree.proofs.KeptHeads.{shown, printed, placed_root, room_descent}
 use Rattle.ic_rbtree.proofs.LookBounds.{end_placed, kept_is_last, last_there, room_less, after_some, room_below, looks_after, looks_below}

@@ -1,8 +1,7 @@
 use Rattle.std.proofs.Common.{◌≤◌, ◌+◌, length, ◌∙◌, subst, arith}
 use Rattle.ic_link_ops.specs.declared.side.Side.TheVariants.{Right}
 use Rattle.ic_link_ops.proofs.RepresentedTrees.{one_sequence}
-use Rattle.ic_rbtree.specs.Comparing.{compared}
-use Rattle.ic_rbtree.specs.Descents.{EndsAt}
+use Rattle.ic_rbtree.specs.Prelude.{compared, EndsAt}
 use Rattle.ic_rbtree.proofs.InOrder.{ended_in_order}
 use Rattle.ic_rbtree.proofs.LookBounds.{with_member, few_there, few_after}
 use Rattle.ic_rbtree.proofs.keys.insert_pos.insert_pos_near.Goals as goal

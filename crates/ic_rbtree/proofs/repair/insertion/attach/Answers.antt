@@ -1,8 +1,7 @@
 use Rattle.std.proofs.Common.{◌∷◌, ◌++◌, Option, None, refl, sym, ◌∙◌, subst}
 use Rattle.ic_unsafe_ref.specs.declared.place.Place.{Place}
 use Rattle.ic_link_ops.proofs.SequenceLemmas.{none_not}
-use Rattle.ic_rbtree.specs.Closed.{IsIn}
-use Rattle.ic_rbtree.specs.Pieces.{Represented}
+use Rattle.ic_rbtree.specs.Prelude.{IsIn, Represented}
 use Rattle.ic_rbtree.proofs.Attaching.{insert_pos, attached_first, attached_red}
 use Rattle.ic_rbtree.proofs.Closed.{in_there, in_linked, restarted}
 use Rattle.ic_rbtree.proofs.Low.{frames_low}

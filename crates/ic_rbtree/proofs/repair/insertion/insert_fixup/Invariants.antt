@@ -1,12 +1,8 @@
 use Rattle.std.proofs.Common.{◌≡◌, ◌+◌, ◌-◌, ◌<◌, Some, List, [], ◌∷◌, length}
-use Rattle.ic_link_ops.specs.Trees.{Tree}
+use Rattle.ic_link_ops.specs.Prelude.{Tree, weight, blacks}
 use Rattle.ic_link_ops.specs.Frames.{Frame, above, plug}
-use Rattle.ic_link_ops.specs.Shape.{weight, blacks}
-use Rattle.ic_rbtree.specs.Height.{turns}
-use Rattle.ic_rbtree.specs.Closed.{StaysClosed}
+use Rattle.ic_rbtree.specs.Prelude.{turns, StaysClosed, RedAt, wanted}
 use Rattle.ic_rbtree.specs.Focus.{Focus}
-use Rattle.ic_rbtree.specs.Insertion.{RedAt}
-use Rattle.ic_rbtree.specs.Shortage.{wanted}
 use Rattle.ic_rbtree.proofs.repair.insertion.insert_fixup.Given as goal
 
 abbrev pub invariant-loop : goal.invariant-loop

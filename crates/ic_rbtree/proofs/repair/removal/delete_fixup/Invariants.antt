@@ -1,11 +1,8 @@
 use Rattle.std.proofs.Common.{◌-◌, ◌<◌, Bool, List, length}
-use Rattle.ic_unsafe_ref.specs.declared.place.Place.{Place}
-use Rattle.ic_link_ops.specs.Trees.{Tree}
+use Rattle.ic_link_ops.specs.Prelude.{Place, Tree}
 use Rattle.ic_link_ops.specs.Frames.{Frame}
-use Rattle.ic_rbtree.specs.Height.{turns}
-use Rattle.ic_rbtree.specs.Closed.{IsIn, IsClosed}
+use Rattle.ic_rbtree.specs.Prelude.{turns, IsIn, IsClosed, Short}
 use Rattle.ic_rbtree.specs.Focus.{Focus}
-use Rattle.ic_rbtree.specs.Removal.{Short}
 use Rattle.ic_rbtree.proofs.repair.removal.delete_fixup.Given as goal
 
 abbrev pub invariant-loop : goal.invariant-loop

@@ -1,7 +1,6 @@
 use Rattle.std.proofs.Common.{Some, List, ◌∷◌, refl, sym, ap, subst}
 use Rattle.ic_link_ops.specs.Prelude.{Place, IsAbsent}
-use Rattle.ic_link_ops.proofs.SequenceLemmas.{distinct_right, some_same}
-use Rattle.ic_link_ops.proofs.Walks.{is_end_yes, is_end_no}
+use Rattle.ic_link_ops.proofs.Prelude.{distinct_right, some_same, is_end_yes, is_end_no}
 use Rattle.ic_rbtree.proofs.Closed.{in_there, in_both, weaker}
 use Rattle.ic_rbtree.proofs.Removing.{spot, represents_of, lone_taken, next, place_taken}
 use Rattle.ic_rbtree.proofs.repair.removal.take_out.Goals as goal

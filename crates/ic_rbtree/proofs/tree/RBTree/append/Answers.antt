@@ -1,7 +1,6 @@
 use Rattle.std.proofs.Common.{[], ◌∷◌, ◌++◌, List, drop, sym, subst, append-nil}
 use Rattle.ic_link_ops.specs.RedBlackTree.{Represents}
-use Rattle.ic_rbtree.specs.Join.{Appends}
-use Rattle.ic_rbtree.specs.Kept.{root_kept, TellsEnds}
+use Rattle.ic_rbtree.specs.Prelude.{Appends, root_kept, TellsEnds}
 use Rattle.ic_rbtree.proofs.KeptHeads.{printed, appends_kept, parts_root, emptied}
 use Rattle.ic_rbtree.proofs.Pairs.{first_there, first_represented, none_there, beside_represented, rest_joinable, rest_pair, appends, appends_none, no_root_there}
 use Rattle.ic_rbtree.proofs.RepresentedClosed.{among, among_there, represented_closed}

@@ -1,11 +1,8 @@
 use Rattle.std.proofs.Common.{refl, sym, ◌∙◌, arith}
-use Rattle.ic_unsafe_ref.specs.Places.{index_of}
+use Rattle.ic_link_ops.specs.Prelude.{index_of, entries, linked_by, nameable}
 use Rattle.ic_link_ops.specs.Links.{link_with}
-use Rattle.ic_link_ops.specs.PlainTables.{entries, linked_by}
 use Rattle.ic_link_ops.specs.EntryLaws.{linked_in_range}
-use Rattle.ic_link_ops.specs.Widths.{nameable}
-use Rattle.ic_link_ops.proofs.RepresentedTrees.{holds_linked, root_member}
-use Rattle.ic_link_ops.proofs.Walks.{is_end_yes}
+use Rattle.ic_link_ops.proofs.Prelude.{holds_linked, root_member, is_end_yes}
 use Rattle.ic_rbtree.specs.PlainTrees.{node_by}
 use Rattle.ic_rbtree.proofs.Climbed.{is_end_there, starts, climbs, has_child, child_member, at_root}
 use Rattle.ic_rbtree.proofs.tree.RBTree.contains.Goals as goal

@@ -1,9 +1,7 @@
 use Rattle.std.proofs.Common.{List, ◌-◌, ◌≤◌}
-use Rattle.ic_link_ops.specs.Prelude.{Place, IsMember, IsLinked}
-use Rattle.ic_link_ops.specs.PlainTables.{linked_by, table_beside}
+use Rattle.ic_link_ops.specs.Prelude.{Place, IsMember, IsLinked, linked_by, table_beside}
 use Rattle.ic_link_ops.specs.RedBlackTree.{Represents}
-use Rattle.ic_rbtree.specs.PlainTrees.{node_by}
-use Rattle.ic_rbtree.specs.Tree.{root_in}
+use Rattle.ic_rbtree.specs.Prelude.{node_by, root_in}
 use Rattle.ic_rbtree.proofs.Climbed.{Climbs}
 use Rattle.ic_rbtree.proofs.tree.RBTree.contains.Given as goal
 

@@ -1,6 +1,5 @@
 use Rattle.std.proofs.Common.{IsSome, subst}
-use Rattle.ic_rbtree.specs.Borders.{Finds}
-use Rattle.ic_rbtree.specs.Comparing.{compared}
+use Rattle.ic_rbtree.specs.Prelude.{Finds, compared}
 use Rattle.ic_rbtree.specs.CursorMut.{position}
 use Rattle.ic_rbtree.specs.Entry.{IfOccupied, IfVacant, IsVacantFor}
 use Rattle.ic_rbtree.proofs.Sending.{same_order}

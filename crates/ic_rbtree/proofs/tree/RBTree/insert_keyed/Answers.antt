@@ -1,8 +1,6 @@
 use Rattle.std.proofs.Common.{◌∙◌, refl, sym, subst}
 use Rattle.ic_link_ops.specs.Prelude.{Place, Objects}
-use Rattle.ic_rbtree.specs.Comparing.{compared, own_order}
-use Rattle.ic_rbtree.specs.Kept.{RepresentsKept}
-use Rattle.ic_rbtree.specs.Ordered.{InsertsInOrder}
+use Rattle.ic_rbtree.specs.Prelude.{compared, own_order, RepresentsKept, InsertsInOrder}
 use Rattle.ic_rbtree.proofs.InOrder.{still_kept, fits_safe, fitted, own_is}
 use Rattle.ic_rbtree.proofs.KeptHeads.{shown, room_new}
 use Rattle.ic_rbtree.proofs.PlacedMembers.{kept_placed}

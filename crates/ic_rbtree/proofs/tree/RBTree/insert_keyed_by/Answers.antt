@@ -1,8 +1,7 @@
 use Rattle.std.proofs.Common.{◌≡◌, sym, subst}
 use Rattle.ic_link_ops.specs.Prelude.{Place, Objects}
-use Rattle.ic_rbtree.specs.Comparing.{compared}
+use Rattle.ic_rbtree.specs.Prelude.{compared, InsertsInOrder}
 use Rattle.ic_rbtree.specs.Kept.{RepresentsKept, InsertLooks}
-use Rattle.ic_rbtree.specs.Ordered.{InsertsInOrder}
 use Rattle.ic_rbtree.proofs.InOrder.{still_kept, fits_safe, fitted}
 use Rattle.ic_rbtree.proofs.KeptHeads.{shown}
 use Rattle.ic_rbtree.proofs.PlacedMembers.{kept_placed}

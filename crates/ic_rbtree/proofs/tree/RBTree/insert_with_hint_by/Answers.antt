@@ -1,8 +1,6 @@
-use Rattle.std.proofs.Common.{subst}
-use Rattle.ic_rbtree.specs.Comparing.{compared}
+use Rattle.std.proofs.Common.{subst, rules}
+use Rattle.ic_rbtree.specs.Prelude.{compared, RepresentsKept, InsertsInOrder}
 use Rattle.ic_rbtree.specs.InsertPositions.{HintedLooks}
-use Rattle.ic_rbtree.specs.Kept.{RepresentsKept}
-use Rattle.ic_rbtree.specs.Ordered.{InsertsInOrder}
 use Rattle.ic_rbtree.proofs.InOrder.{still_represented, fits_safe, fitted}
 use Rattle.ic_rbtree.proofs.KeptHeads.{shown, placed_root, member_root}
 use Rattle.ic_rbtree.proofs.tree.RBTree.insert_with_hint_by.Goals as goal
@@ -30,19 +28,24 @@ attach-requires g c =
     let x = c.insert_pos_near-parent.ensures.insert_pos r.members (rw c.root-root.ensures (still_represented n g.L.LinkOps.linked alike l.was l.is c.acquire_link.ensures.frame r.shown)) in
     fits_safe n g.L.LinkOps.linked alike l.was l.is c.acquire_link.ensures.frame r.shown x
 
-pub returns-clause-inserted : goal.returns-clause-inserted
-returns-clause-inserted g c s h =
-    let n = g.L.RBTreeOps.node in
-    let alike = g.met.L.RBTreeOps.linked_alike in
-    let l = g.met.L.LinkOps.does_replay _ _ _ c.if-not-acquire_link.ensures.acquired in
-    let x = c.insert_pos_near-parent.ensures.insert_pos s (rw c.root-root.ensures (still_represented n g.L.LinkOps.linked alike l.was l.is c.acquire_link.ensures.frame (shown (g.E.TreeHead.kept c.args.self.now.head) h))) in
-    subst (λ z. InsertsInOrder (RepresentsKept g.E.TreeHead.kept n) (compared (g.P.Probe.order c.args.probe.now) (g.O.Values.values c.args.objects.now))
-    (g.L.LinkOps.table c.args.links.now) (g.L.LinkOps.table c.attach.new.nodes) c.attach.new.self s z) c.place-place.ensures
-    (fitted n g.L.LinkOps.linked alike l.was l.is c.acquire_link.ensures.frame g.E.TreeHead.kept c.args.self.now.head c.attach.new.self h x c.attach.ensures.attached c.attach.ensures.ends)
-
-pub returns-clause-looks : goal.returns-clause-looks
-returns-clause-looks g c s h =
-    let l = g.met.L.LinkOps.does_replay _ _ _ c.if-not-acquire_link.ensures.acquired in
-    subst (λ z. HintedLooks g.P.Probe.order g.P.Probe.count (g.O.Values.values c.args.objects.now) z c.args.probe.now c.insert_pos_near-parent.new.probe s) c.place.ensures
-    (c.insert_pos_near-parent.ensures.looks s
-    (rw c.root-root.ensures (still_represented g.L.RBTreeOps.node g.L.LinkOps.linked g.met.L.RBTreeOps.linked_alike l.was l.is c.acquire_link.ensures.frame (shown (g.E.TreeHead.kept c.args.self.now.head) h))))
+pub returns : goal.returns
+returns g c = record {
+  inserted = λ s h.
+      let n = g.L.RBTreeOps.node in
+      let alike = g.met.L.RBTreeOps.linked_alike in
+      let l = g.met.L.LinkOps.does_replay _ _ _ c.if-not-acquire_link.ensures.acquired in
+      let x = c.insert_pos_near-parent.ensures.insert_pos s (rw c.root-root.ensures (still_represented n g.L.LinkOps.linked alike l.was l.is c.acquire_link.ensures.frame (shown (g.E.TreeHead.kept c.args.self.now.head) h))) in
+      subst (λ z. InsertsInOrder (RepresentsKept g.E.TreeHead.kept n) (compared (g.P.Probe.order c.args.probe.now) (g.O.Values.values c.args.objects.now))
+      (g.L.LinkOps.table c.args.links.now) (g.L.LinkOps.table c.attach.new.nodes) c.attach.new.self s z) c.place-place.ensures
+      (fitted n g.L.LinkOps.linked alike l.was l.is c.acquire_link.ensures.frame g.E.TreeHead.kept c.args.self.now.head c.attach.new.self h x c.attach.ensures.attached c.attach.ensures.ends);
+  acquired = search rules;
+  adapter = search rules;
+  refused = search rules;
+  unchanged = search rules;
+  looks = λ s h.
+      let l = g.met.L.LinkOps.does_replay _ _ _ c.if-not-acquire_link.ensures.acquired in
+      subst (λ z. HintedLooks g.P.Probe.order g.P.Probe.count (g.O.Values.values c.args.objects.now) z c.args.probe.now c.insert_pos_near-parent.new.probe s) c.place.ensures
+      (c.insert_pos_near-parent.ensures.looks s
+      (rw c.root-root.ensures (still_represented g.L.RBTreeOps.node g.L.LinkOps.linked g.met.L.RBTreeOps.linked_alike l.was l.is c.acquire_link.ensures.frame (shown (g.E.TreeHead.kept c.args.self.now.head) h))));
+  no_look = search rules;
+}

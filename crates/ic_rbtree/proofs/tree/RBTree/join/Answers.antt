@@ -1,6 +1,5 @@
 use Rattle.std.proofs.Common.{Option, sym, subst}
-use Rattle.ic_unsafe_ref.specs.declared.place.Place.{Place}
-use Rattle.ic_link_ops.specs.Edits.{Inserts}
+use Rattle.ic_link_ops.specs.Prelude.{Place, Inserts}
 use Rattle.ic_link_ops.specs.RedBlackTree.{Represents}
 use Rattle.ic_rbtree.specs.Kept.{root_kept, RepresentsKept}
 use Rattle.ic_rbtree.proofs.Attaching.{inserts}

@@ -1,4 +1,4 @@
-use Rattle.std.proofs.Common.{[], sym, ◌∙◌, subst, append-nil}
+use Rattle.std.proofs.Common.{[], sym, ◌∙◌, subst, append-nil, rules}
 use Rattle.ic_link_ops.specs.Sequences.{but_last}
 use Rattle.ic_link_ops.specs.declared.side.Side.TheVariants.{Right}
 use Rattle.ic_link_ops.proofs.SequenceLemmas.{split_last, but_last_of_none}
@@ -20,19 +20,27 @@ remove-requires g c =
       };
     }
 
-pub returns-clause-answer : goal.returns-clause-answer
-returns-clause-answer g c s h = object_there g.L.RBTreeOps.node (g.L.LinkOps.table c.args.links.now) Right (g.E.TreeHead.kept c.args.self.now.head) s c.last.ensures h c.in_ok-last.was c.new-object.ensures
+pub returns : goal.returns
+returns g c = record {
+  answer = λ s h. object_there g.L.RBTreeOps.node (g.L.LinkOps.table c.args.links.now) Right (g.E.TreeHead.kept c.args.self.now.head) s c.last.ensures h c.in_ok-last.was c.new-object.ensures;
+  removed = λ s h.
+      subst (λ z. RepresentsKept g.E.TreeHead.kept g.L.RBTreeOps.node (g.L.LinkOps.table c.remove.new.links) c.remove.new.self.head z) (append-nil (but_last s))
+      (c.remove.ensures.removed (but_last s) []
+      (subst (RepresentsKept g.E.TreeHead.kept g.L.RBTreeOps.node (g.L.LinkOps.table c.args.links.now) c.args.self.now.head) (split_last s (sym (object_there g.L.RBTreeOps.node (g.L.LinkOps.table c.args.links.now) Right (g.E.TreeHead.kept c.args.self.now.head) s c.last.ensures h c.in_ok-last.was c.new-object.ensures))) h));
+  released = search rules;
+  empty = search rules;
+  adapter = search rules;
+  frame = search rules;
+}
 
-pub returns-clause-removed : goal.returns-clause-removed
-returns-clause-removed g c s h =
-    subst (λ z. RepresentsKept g.E.TreeHead.kept g.L.RBTreeOps.node (g.L.LinkOps.table c.remove.new.links) c.remove.new.self.head z) (append-nil (but_last s))
-    (c.remove.ensures.removed (but_last s) []
-    (subst (RepresentsKept g.E.TreeHead.kept g.L.RBTreeOps.node (g.L.LinkOps.table c.args.links.now) c.args.self.now.head) (split_last s (sym (object_there g.L.RBTreeOps.node (g.L.LinkOps.table c.args.links.now) Right (g.E.TreeHead.kept c.args.self.now.head) s c.last.ensures h c.in_ok-last.was c.new-object.ensures))) h))
-
-pub returns-in_err-last-clause-removed : goal.returns-in_err-last-clause-removed
-returns-in_err-last-clause-removed g c s h =
-    let is = sym (end_is g.L.RBTreeOps.node (g.L.LinkOps.table c.args.links.now) Right (g.E.TreeHead.kept c.args.self.now.head) s c.last.ensures h) ∙ c.in_err-last.was in
-    subst (RepresentsKept g.E.TreeHead.kept g.L.RBTreeOps.node (g.L.LinkOps.table c.args.links.now) c.args.self.now.head) (sym (but_last_of_none s is)) h
-
-pub returns-in_err-last-clause-answer : goal.returns-in_err-last-clause-answer
-returns-in_err-last-clause-answer g c s h = c.from_residual.ensures ∙ (sym c.in_err-last.was ∙ end_is g.L.RBTreeOps.node (g.L.LinkOps.table c.args.links.now) Right (g.E.TreeHead.kept c.args.self.now.head) s c.last.ensures h)
+pub returns-in_err-last : goal.returns-in_err-last
+returns-in_err-last g c = record {
+  answer = λ s h. c.from_residual.ensures ∙ (sym c.in_err-last.was ∙ end_is g.L.RBTreeOps.node (g.L.LinkOps.table c.args.links.now) Right (g.E.TreeHead.kept c.args.self.now.head) s c.last.ensures h);
+  removed = λ s h.
+      let is = sym (end_is g.L.RBTreeOps.node (g.L.LinkOps.table c.args.links.now) Right (g.E.TreeHead.kept c.args.self.now.head) s c.last.ensures h) ∙ c.in_err-last.was in
+      subst (RepresentsKept g.E.TreeHead.kept g.L.RBTreeOps.node (g.L.LinkOps.table c.args.links.now) c.args.self.now.head) (sym (but_last_of_none s is)) h;
+  released = search rules;
+  empty = search rules;
+  adapter = search rules;
+  frame = search rules;
+}

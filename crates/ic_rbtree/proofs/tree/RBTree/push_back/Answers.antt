@@ -1,4 +1,4 @@
-use Rattle.std.proofs.Common.{sym, subst, append-nil}
+use Rattle.std.proofs.Common.{sym, subst, append-nil, rules}
 use Rattle.ic_link_ops.specs.Sequences.{at_back}
 use Rattle.ic_link_ops.specs.declared.side.Side.TheVariants.{Right}
 use Rattle.ic_rbtree.specs.Kept.{RepresentsKept}
@@ -19,9 +19,15 @@ insert-requires-clause-insert_pos g c =
       insert_pos_after n (shown k r.1) (end_is g.L.RBTreeOps.node (g.L.LinkOps.table c.args.links.now) Right k r.0 c.last-last.ensures r.1),
     )
 
-pub returns-clause-inserted : goal.returns-clause-inserted
-returns-clause-inserted g c s h =
-    let n = g.L.RBTreeOps.node in
-    let k = g.E.TreeHead.kept c.args.self.now.head in
-    rw c.place.ensures at c.if-not-insert.ensures.inserted (at_back s) (subst (RepresentsKept g.E.TreeHead.kept n (g.L.LinkOps.table c.args.links.now) c.args.self.now.head) (sym (append-nil s)) h)
-    (insert_pos_after n (shown k h) (end_is g.L.RBTreeOps.node (g.L.LinkOps.table c.args.links.now) Right k s c.last-last.ensures h))
+pub returns : goal.returns
+returns g c = record {
+  inserted = λ s h.
+      let n = g.L.RBTreeOps.node in
+      let k = g.E.TreeHead.kept c.args.self.now.head in
+      rw c.place.ensures at c.if-not-insert.ensures.inserted (at_back s) (subst (RepresentsKept g.E.TreeHead.kept n (g.L.LinkOps.table c.args.links.now) c.args.self.now.head) (sym (append-nil s)) h)
+      (insert_pos_after n (shown k h) (end_is g.L.RBTreeOps.node (g.L.LinkOps.table c.args.links.now) Right k s c.last-last.ensures h));
+  acquired = search rules;
+  adapter = search rules;
+  refused = search rules;
+  unchanged = search rules;
+}

@@ -1,11 +1,8 @@
 use Rattle.std.proofs.Common.{Bool, [], refl, sym, ◌∙◌, subst, true≢false}
 use Rattle.ic_link_ops.specs.Prelude.{Place, join, ArePlaced}
-use Rattle.ic_rbtree.specs.Comparing.{compared_within, meets_lower, is_beyond}
-use Rattle.ic_rbtree.specs.Descents.{gap_in}
-use Rattle.ic_rbtree.specs.KeyProbe.{key_order}
+use Rattle.ic_rbtree.specs.Prelude.{compared_within, meets_lower, is_beyond, gap_in, key_order, members}
 use Rattle.ic_rbtree.proofs.Gaps.{gap_join}
 use Rattle.ic_rbtree.proofs.tree.RBTree.range_by.Given.{Over}
-use Rattle.ic_rbtree.specs.Members.{members}
 use Rattle.ic_rbtree.specs.Tree.{adapter_of}
 use Rattle.ic_rbtree.proofs.KeptHeads.{shown, placed_root}
 use Rattle.ic_rbtree.proofs.Ranges.{back_placed, front_placed, walks_up, lower_rises, upper_rises, segment_is}

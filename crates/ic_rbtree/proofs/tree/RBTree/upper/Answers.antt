@@ -1,8 +1,7 @@
 use Rattle.std.proofs.Common.{refl, ap, ◌∙◌}
-use Rattle.ic_rbtree.specs.Comparing.{compared_within}
+use Rattle.ic_rbtree.specs.Prelude.{compared_within, end_on}
 use Rattle.ic_link_ops.specs.declared.side.Side.TheVariants.{Right}
 use Rattle.ic_link_ops.proofs.RepresentedTrees.{one_sequence}
-use Rattle.ic_rbtree.specs.Ends.{end_on}
 use Rattle.ic_rbtree.proofs.KeptHeads.{shown, placed_root, has_ends, end_is}
 use Rattle.ic_rbtree.proofs.Sending.{ends_at_root, beyond_included, beyond_excluded, upper_unbounded, upper_border}
 use Rattle.ic_rbtree.proofs.tree.RBTree.upper.Goals as goal

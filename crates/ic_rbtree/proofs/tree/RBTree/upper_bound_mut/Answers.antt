@@ -1,8 +1,10 @@
+use Rattle.std.proofs.Common.{rules}
 use Rattle.ic_rbtree.proofs.Sending.{upper_same, upper_stands}
 use Rattle.ic_rbtree.proofs.tree.RBTree.upper_bound_mut.Goals as goal
 
-pub returns-clause-stands : goal.returns-clause-stands
-returns-clause-stands g c = let r = c.requires.placed in rw (c.new.ensures.borrows.2, c.new.ensures.borrows.3) (upper_stands r.shown c.new.ensures.position (c.upper-current.ensures.border r.members r.shown))
-
-pub returns-clause-border : goal.returns-clause-border
-returns-clause-border g c s h = upper_same (c.probe_in_bound.ensures.order (g.O.Values.values c.args.objects.now)) c.new.ensures.position (c.upper-current.ensures.border s h)
+pub returns : goal.returns
+returns g c = record {
+  borrows = search rules;
+  border = λ s h. upper_same (c.probe_in_bound.ensures.order (g.O.Values.values c.args.objects.now)) c.new.ensures.position (c.upper-current.ensures.border s h);
+  stands = let r = c.requires.placed in rw (c.new.ensures.borrows.2, c.new.ensures.borrows.3) (upper_stands r.shown c.new.ensures.position (c.upper-current.ensures.border r.members r.shown));
+}

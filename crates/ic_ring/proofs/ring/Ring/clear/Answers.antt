@@ -1,9 +1,7 @@
-use Rattle.std.proofs.Common.{[], ◌∷◌, refl, sym, subst, ◌∙◌}
-use Rattle.std.specs.Prelude.{Option, IfSome}
+use Rattle.std.proofs.Common.{[], ◌∷◌, refl, sym, subst, ◌∙◌, Option, IfSome}
 use Rattle.ic_link_ops.specs.Prelude.{Place, releases}
 use Rattle.ic_link_ops.proofs.DoublyLists.{neighbors_covered}
-use Rattle.ic_link_ops.proofs.Clearing.{releases_fewer}
-use Rattle.ic_link_ops.proofs.StepLemmas.{releases_append}
+use Rattle.ic_link_ops.proofs.Prelude.{releases_fewer, releases_append}
 use Rattle.ic_ring.proofs.OtherRings.{others_same, others_then}
 use Rattle.ic_ring.proofs.RingWalks.{members_represented}
 use Rattle.ic_ring.proofs.Clearance.{clears_none, clears_more, clears_all, none_is}

@@ -1,5 +1,4 @@
-use Rattle.std.proofs.Common.{refl, sym, ap, ◌∙◌}
-use Rattle.std.specs.Option.{option_copied}
+use Rattle.std.proofs.Common.{refl, sym, ap, ◌∙◌, option_copied}
 use Rattle.ic_rbtree.proofs.InOrder.{own_is}
 use Rattle.ic_world.proofs.calls.probes.own_probe.Goals as goal
 

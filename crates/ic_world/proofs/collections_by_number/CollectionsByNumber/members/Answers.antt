@@ -1,6 +1,5 @@
 use Rattle.std.proofs.Common.{◌∙◌, Some, map, ap, sym, arith}
-use Rattle.ic_world.specs.Collections.{its_members}
-use Rattle.ic_world.specs.ByNumber.{items_of}
+use Rattle.ic_world.specs.Prelude.{its_members, items_of}
 use Rattle.ic_world.specs.declared.collections_by_number.Numbered.{Numbered}
 use Rattle.ic_world.proofs.ByNumber.{reads, index_there, one_is, one_represented}
 use Rattle.ic_world.proofs.collections_by_number.CollectionsByNumber.members.Goals as goal

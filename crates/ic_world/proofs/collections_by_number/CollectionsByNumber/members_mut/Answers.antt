@@ -1,7 +1,6 @@
 use Rattle.std.proofs.Common.{◌∙◌, Some, map, ap, sym, arith, refl}
 use Rattle.std.specs.Vec.{with_item}
-use Rattle.ic_world.specs.Collections.{its_members}
-use Rattle.ic_world.specs.ByNumber.{items_of}
+use Rattle.ic_world.specs.Prelude.{its_members, items_of}
 use Rattle.ic_world.specs.declared.collections_by_number.Numbered.{Numbered}
 use Rattle.ic_world.proofs.ByNumber.{reads, field_there, index_there, one_is, one_represented, lent_numbered, lent_represented}
 use Rattle.ic_world.proofs.collections_by_number.CollectionsByNumber.members_mut.Goals as goal

@@ -1,12 +1,8 @@
 use Rattle.std.proofs.Common.{◌≡◌, ◌∙◌, refl, sym, ap, arith, map, set, subst}
 use Rattle.std.proofs.lemmas.List.{length-map}
 use Rattle.std.proofs.lemmas.Option.{same_Some}
-use Rattle.ic_world.specs.Calls.{names}
-use Rattle.ic_world.specs.Collections.{its_field}
-use Rattle.ic_world.specs.LeftLinked.{IsKept}
+use Rattle.ic_world.specs.Prelude.{names, its_field, IsKept, StepOn, table_of, at, family_of}
 use Rattle.ic_world.specs.Replies.{reply_of}
-use Rattle.ic_world.specs.Step.{StepOn}
-use Rattle.ic_world.specs.Tables.{table_of, at, family_of}
 use Rattle.ic_world.proofs.Readings.{found, missing, is_there, some_read, none_there, one_read, with_is}
 use Rattle.ic_world.proofs.CollectionCall.{room_for, placed_by, kept_by, step_by, step_unplaced}
 use Rattle.ic_world.proofs.world.World.call.Goals as goal

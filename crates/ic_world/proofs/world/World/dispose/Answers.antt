@@ -1,10 +1,6 @@
 use Rattle.std.proofs.Common.{◌∙◌, sym, ap, subst, map, None}
-use Rattle.ic_world.specs.Family.{with_collection}
+use Rattle.ic_world.specs.Prelude.{with_collection, done, NoneLeftLinked, IsKept, table_of, left_in, family_of, Step}
 use Rattle.ic_world.specs.declared.call.Command.TheVariants.{Dispose}
-use Rattle.ic_world.specs.Calls.{done}
-use Rattle.ic_world.specs.LeftLinked.{NoneLeftLinked, IsKept}
-use Rattle.ic_world.specs.Tables.{table_of, left_in, family_of}
-use Rattle.ic_world.specs.Step.{Step}
 use Rattle.ic_world.proofs.Disposed.{dropped_whole, dropped_family, dispose_refused, disposed, none_disposed}
 use Rattle.ic_world.proofs.world.World.dispose.Goals as goal
 

@@ -1,9 +1,6 @@
 use Rattle.std.proofs.Common.{◌∙◌, map, set, true, refl, arith, sym, subst}
 use Rattle.std.proofs.lemmas.List.{length-map}
-use Rattle.ic_world.specs.LeftLinked.{IsKept}
-use Rattle.ic_world.specs.Tables.{table_of, at, family_of}
-use Rattle.ic_world.specs.Step.{Step}
-use Rattle.ic_world.specs.Calls.{done}
+use Rattle.ic_world.specs.Prelude.{IsKept, table_of, at, family_of, Step, done}
 use Rattle.ic_world.specs.declared.call.Command.TheVariants.{FastClear}
 use Rattle.ic_world.proofs.Readings.{found, missing, is_there, none_there, one_read, with_is}
 use Rattle.ic_world.proofs.FastCleared.{fast_cleared_kept, fast_cleared_step}

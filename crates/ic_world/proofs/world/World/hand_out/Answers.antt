@@ -1,14 +1,11 @@
-use Rattle.std.proofs.Common.{◌≡◌, ◌∙◌, refl, sym, ap, subst, arith, map, set}
-use Rattle.std.specs.Prelude.{IsSome}
+use Rattle.std.proofs.Common.{◌≡◌, ◌∙◌, refl, sym, ap, subst, arith, map, set, IsSome}
 use Rattle.std.proofs.lemmas.List.{length-map}
 use Rattle.std.proofs.lemmas.Option.{same_Some}
 use Rattle.ic_any_collection.specs.AnyCollection.{kind_in}
 use Rattle.ic_world.specs.declared.collection.Collection.{Collection}
-use Rattle.ic_world.specs.Calls.{opened, refused}
+use Rattle.ic_world.specs.Prelude.{opened, refused, IsKept, at, table_of, family_of}
 use Rattle.ic_world.specs.Collections.{its_members, with_members}
-use Rattle.ic_world.specs.LeftLinked.{IsKept}
 use Rattle.ic_world.specs.Several.{has_part, StepOut}
-use Rattle.ic_world.specs.Tables.{at, table_of, family_of}
 use Rattle.ic_world.proofs.Readings.{found, missing, none_there, one_read}
 use Rattle.ic_world.proofs.HandedOut.{part_lacking, part_unroomed, handed_kept, handed_step, still_there, last_there, handed_list}
 use Rattle.ic_world.proofs.world.World.hand_out.Goals as goal

@@ -1,7 +1,6 @@
 use Rattle.std.proofs.Common.{◌∙◌, sym, subst, arith}
 use Rattle.std.proofs.lemmas.List.{with_items_is}
-use Rattle.ic_world.specs.LeftLinked.{NoneLeftLinked}
-use Rattle.ic_world.specs.Tables.{left_in}
+use Rattle.ic_world.specs.Prelude.{NoneLeftLinked, left_in}
 use Rattle.ic_world.proofs.ObjectChanges.{value_placed, none_grown}
 use Rattle.ic_world.proofs.Steps.{from_ok}
 use Rattle.ic_world.proofs.world.World.place.Goals as goal

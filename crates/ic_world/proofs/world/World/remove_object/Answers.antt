@@ -3,9 +3,7 @@ use Rattle.std.specs.FinMap as map_of
 use Rattle.ic_unsafe_ref.specs.Places.{index_of}
 use Rattle.ic_world.specs.declared.call.Command.TheVariants.{RemoveObject}
 use Rattle.ic_world.specs.declared.call.Refusal.TheVariants.{NoSuchObject, StillLinked}
-use Rattle.ic_world.specs.Calls.{done, refused}
-use Rattle.ic_world.specs.Tables.{table_of, family_of}
-use Rattle.ic_world.specs.Step.{Step}
+use Rattle.ic_world.specs.Prelude.{done, refused, table_of, family_of, Step}
 use Rattle.ic_world.proofs.ObjectChanges.{removed_whole}
 use Rattle.ic_world.proofs.Steps.{step_accepted, step_refused, passes, fails}
 use Rattle.ic_world.proofs.world.World.remove_object.Goals as goal

@@ -1,7 +1,6 @@
 use Rattle.std.proofs.Common.{◌∙◌, ◌++◌, [], ◌∷◌, map as map_list, refl, sym, ap, subst, append-nil, append_assoc, arith}
 use Rattle.std.proofs.lemmas.List.{take_all}
-use Rattle.ic_world.specs.Answers.{reply_in}
-use Rattle.ic_world.specs.Step.{Runs}
+use Rattle.ic_world.specs.Prelude.{reply_in, Runs}
 use Rattle.ic_world.proofs.Steps.{if_ok}
 use Rattle.ic_world.proofs.Runs.{runs_next}
 use Rattle.ic_world.proofs.world.World.run.Goals as goal

@@ -1,8 +1,7 @@
 use Rattle.std.proofs.Common.{◌≡◌, ◌+◌, ◌≤◌, ◌++◌, List, length, take, map as map_list}
 use Rattle.std.specs.Vec.{vec_len, vec_capacity}
 use Rattle.ic_world.specs.declared.call.Answer.{Answer}
-use Rattle.ic_world.specs.Answers.{reply_in}
-use Rattle.ic_world.specs.Step.{Runs}
+use Rattle.ic_world.specs.Prelude.{reply_in, Runs}
 use Rattle.ic_world.proofs.world.World.run.Given as goal
 
 abbrev pub invariant-loop-command : goal.invariant-loop-command

@@ -1,6 +1,5 @@
 use Rattle.std.proofs.Common.{◌∙◌, sym, subst}
-use Rattle.ic_world.specs.Calls.{done}
-use Rattle.ic_world.specs.LeftLinked.{NoneLeftLinked}
+use Rattle.ic_world.specs.Prelude.{done, NoneLeftLinked}
 use Rattle.ic_world.proofs.CanSplice.{can_be_joined, joined}
 use Rattle.ic_world.proofs.LeftLinked.{none_spliced}
 use Rattle.ic_world.proofs.world.World.splice.Goals as goal

@@ -1,11 +1,8 @@
-use Rattle.std.proofs.Common.{List, map, subst, arith}
-use Rattle.std.specs.Ordering.{nat_cmp}
+use Rattle.std.proofs.Common.{List, map, subst, arith, nat_cmp}
 use Rattle.ic_link_ops.specs.Prelude.{Place, ArePlaced}
 use Rattle.ic_link_ops.specs.RedBlackTree.{Represents}
 use Rattle.ic_rbtree.specs.Borders.{IsSorted}
-use Rattle.ic_augmented.specs.Consistent.{RepresentsAugmented}
-use Rattle.ic_augmented.specs.Greatest.{greatest}
-use Rattle.ic_augmented.specs.Intervals.{start_in}
+use Rattle.ic_augmented.specs.Prelude.{RepresentsAugmented, greatest, start_in}
 use Rattle.keyed_tests.proofs.Intervals.{in_order_at, none_counted, found, in_front, parted, one_more, few_counted, all_counted}
 use Rattle.keyed_tests.proofs.augmented.intervals.count_overlaps.Goals as goal
 

@@ -1,10 +1,7 @@
 use Rattle.std.proofs.Common.{◌-◌, List}
 use Rattle.ic_unsafe_ref.specs.declared.place.Place.{Place}
 use Rattle.ic_rbtree.specs.Tree.{root_of}
-use Rattle.ic_augmented.specs.Consistent.{RepresentsAugmented}
-use Rattle.ic_augmented.specs.Greatest.{greatest, number_at}
-use Rattle.ic_augmented.specs.Intervals.{start_in, overlaps}
-use Rattle.ic_augmented.specs.Augmented.{links_of, summaries_of}
+use Rattle.ic_augmented.specs.Prelude.{RepresentsAugmented, greatest, number_at, start_in, overlaps, links_of, summaries_of}
 use Rattle.keyed_tests.proofs.Intervals.{IsCounted}
 use Rattle.keyed_tests.proofs.augmented.intervals.count_overlaps.Given as goal
 

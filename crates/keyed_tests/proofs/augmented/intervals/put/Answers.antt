@@ -1,11 +1,9 @@
 use Rattle.std.proofs.Common.{◌≡◌, ◌<◌, ◌∙◌, true, sym, subst, rules}
 use Rattle.ic_link_ops.specs.Prelude.{index_of, Objects, insert, Extent, IsCovered}
 use Rattle.ic_link_ops.specs.RedBlackTree.{Represents}
-use Rattle.ic_rbtree.specs.SortedObjects.{RepresentsSorted}
-use Rattle.ic_rbtree.specs.Tree.{root_of}
+use Rattle.ic_rbtree.specs.Prelude.{RepresentsSorted, root_of}
 use Rattle.ic_rbtree.proofs.SortedKeys.{sorted_inserted}
-use Rattle.ic_augmented.specs.Consistent.{RepresentsConsistent}
-use Rattle.ic_augmented.specs.Greatest.{greatest}
+use Rattle.ic_augmented.specs.Prelude.{RepresentsConsistent, greatest}
 use Rattle.ic_augmented.proofs.PooledTrees.{inserts_represented, inserts_consistent, consistent_in}
 use Rattle.keyed_tests.proofs.Intervals.{own}
 use Rattle.keyed_tests.proofs.Ready.{on_ok, on_ok_map, if_err_map}

@@ -2,11 +2,9 @@ use Rattle.std.proofs.Common.{◌≡◌, ◌<◌, ◌∙◌, ◌++◌, ◌∷◌
 use Rattle.ic_link_ops.specs.Prelude.{Place, index_of, Objects, Extent, HasMember}
 use Rattle.ic_link_ops.specs.RedBlackTree.{Represents}
 use Rattle.ic_link_ops.proofs.RepresentedTrees.{one_sequence}
-use Rattle.ic_rbtree.specs.SortedObjects.{RepresentsSorted}
-use Rattle.ic_rbtree.specs.Tree.{root_of}
+use Rattle.ic_rbtree.specs.Prelude.{RepresentsSorted, root_of}
 use Rattle.ic_rbtree.proofs.SortedKeys.{sorted_less}
-use Rattle.ic_augmented.specs.Consistent.{RepresentsConsistent}
-use Rattle.ic_augmented.specs.Greatest.{greatest}
+use Rattle.ic_augmented.specs.Prelude.{RepresentsConsistent, greatest}
 use Rattle.ic_augmented.proofs.AllOverlaps.{first_found}
 use Rattle.ic_augmented.proofs.StepLemmas.{removed_right}
 use Rattle.keyed_tests.proofs.Intervals.{own, in_order_at}

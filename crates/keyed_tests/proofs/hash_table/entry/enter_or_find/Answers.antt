@@ -1,6 +1,5 @@
 use Rattle.std.proofs.Common.{rules, ◌≡◌, ℕ, Option, List, Result, Ok, Err, IfOk, sym, ap, subst}
-use Rattle.ic_link_ops.specs.Prelude.{Place, Objects, Table, LinkStep}
-use Rattle.ic_link_ops.specs.SinglyLinkedList.{Successor}
+use Rattle.ic_link_ops.specs.Prelude.{Place, Objects, Table, LinkStep, Successor}
 use Rattle.ic_hash_table.specs.declared.entry.Entry.{Entry}
 use Rattle.ic_hash_table.specs.declared.entry.Entry.TheVariants.{Occupied, Vacant}
 use Rattle.ic_hash_table.specs.declared.entry.OccupiedEntry.{OccupiedEntry}

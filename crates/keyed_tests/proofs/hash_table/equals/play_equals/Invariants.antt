@@ -1,6 +1,5 @@
 use Rattle.std.proofs.Common.{◌≡◌}
-use Rattle.ic_hash_table.specs.HashTable.{number}
-use Rattle.ic_hash_table.specs.SideBySide.{HoldsSideBySide}
+use Rattle.ic_hash_table.specs.Prelude.{number, HoldsSideBySide}
 use Rattle.keyed_tests.proofs.hash_table.equals.play_equals.Given as goal
 
 abbrev pub invariant-loop-step : goal.invariant-loop-step

@@ -1,8 +1,7 @@
 use Rattle.std.proofs.Common.{List, sym, subst}
 use Rattle.ic_unsafe_ref.specs.declared.place.Place.{Place}
 use Rattle.ic_link_ops.proofs.Calling.{either}
-use Rattle.ic_hash_table.specs.HashTable.{number, Holds}
-use Rattle.ic_hash_table.specs.SideBySide.{AreSideBySide, same_key}
+use Rattle.ic_hash_table.specs.Prelude.{number, Holds, AreSideBySide, same_key}
 use Rattle.ic_hash_table.proofs.Callers.{held_represented}
 use Rattle.ic_hash_table.proofs.SideBySideLemmas.{keys_alike}
 use Rattle.keyed_tests.proofs.Extents.{places_of}

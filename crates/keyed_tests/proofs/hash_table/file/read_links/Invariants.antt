@@ -1,7 +1,6 @@
 use Rattle.std.proofs.Common.{◌≡◌}
 use Rattle.ic_link_ops.specs.OneWord.{no_word}
-use Rattle.ic_link_ops.specs.PlainTables.{table}
-use Rattle.ic_link_ops.specs.Widths.{wide}
+use Rattle.ic_link_ops.specs.Prelude.{table, wide}
 use Rattle.keyed_tests.proofs.hash_table.file.read_links.Given as goal
 
 abbrev pub invariant-loop-index : goal.invariant-loop-index

@@ -1,5 +1,4 @@
-use Rattle.std.proofs.Common.{refl, sym, ap, ◌∙◌}
-use Rattle.std.specs.Option.{option_map}
+use Rattle.std.proofs.Common.{refl, sym, ap, ◌∙◌, option_map}
 use Rattle.lru_cache.proofs.Leaving.{few_touched, none_found, same_cache, some_touched, touched_entry}
 use Rattle.lru_cache.proofs.cache.LruCache.get.Goals as goal
 

@@ -1,5 +1,4 @@
-use Rattle.std.proofs.Common.{◌+◌, ◌≤◌, ◌≡◌, is_some, List, ◌∷◌, length, sym, ap, ◌∙◌, subst, arith, true≢false}
-use Rattle.std.specs.Option.{option_map}
+use Rattle.std.proofs.Common.{◌+◌, ◌≤◌, ◌≡◌, is_some, List, ◌∷◌, length, sym, ap, ◌∙◌, subst, arith, true≢false, option_map}
 use Rattle.ic_keyed.specs.Keyed.{KeyedValues}
 use Rattle.lru_cache.specs.declared.entry.Entry.{Entry}
 use Rattle.lru_cache.specs.Cache.{Cache, cache_of, entry_of, pair_of}

@@ -1,6 +1,5 @@
 use Rattle.std.proofs.Common.{◌≡◌, [], ap}
-use Rattle.ic_rbtree.specs.Tree.{root_of}
-use Rattle.ic_rbtree.specs.PlainTrees.{plain_table, members_of}
+use Rattle.ic_rbtree.specs.Prelude.{root_of, plain_table, members_of}
 use Rattle.ic_rbtree.proofs.PlainTrees.{plain_members, plain_trees}
 use Rattle.ic_container.proofs.TreeLemmas.{all_first}
 use Rattle.pool_uses.specs.KeptTimers.{deadline_of, waiting_at}

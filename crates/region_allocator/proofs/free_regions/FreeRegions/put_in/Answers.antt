@@ -1,5 +1,4 @@
-use Rattle.std.proofs.Common.{rules, ◌^◌, leb, List, sym, ap, ◌∙◌, is_some}
-use Rattle.std.proofs.lemmas.Bool.{leb-true}
+use Rattle.std.proofs.Common.{rules, ◌^◌, leb, List, sym, ap, ◌∙◌, is_some, leb-true}
 use Rattle.ic_unsafe_ref.proofs.Placing.{placed_there}
 use Rattle.ic_link_ops.proofs.Calling.{accepted}
 use Rattle.ic_pool.proofs.Pooling.{lacks_exactly}

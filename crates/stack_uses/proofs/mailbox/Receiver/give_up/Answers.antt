@@ -1,7 +1,6 @@
 use Rattle.std.proofs.Common.{ap, refl, ◌∙◌}
 use Rattle.ic_lock_free_stack.specs.declared.step.Step.TheVariants.{Release}
-use Rattle.ic_lock_free_stack.specs.Orders.{got, of_record}
-use Rattle.ic_lock_free_stack.specs.Holders.{record_of}
+use Rattle.ic_lock_free_stack.specs.Prelude.{got, of_record, record_of}
 use Rattle.ic_lock_free_stack.proofs.HolderLemmas.{apart_in}
 use Rattle.stack_uses.proofs.ReceiverLemmas.{nothing_more}
 use Rattle.stack_uses.proofs.mailbox.Receiver.give_up.Goals as goal

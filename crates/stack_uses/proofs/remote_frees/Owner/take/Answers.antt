@@ -1,7 +1,6 @@
 use Rattle.std.proofs.Common.{◌∷◌, drop, sym, subst, ap, ◌∙◌}
 use Rattle.ic_lock_free_stack.specs.declared.stacks.Holder.{Holder}
-use Rattle.ic_lock_free_stack.specs.Records.{holds}
-use Rattle.ic_lock_free_stack.specs.Holders.{IsOf, record_of}
+use Rattle.ic_lock_free_stack.specs.Prelude.{holds, IsOf, record_of}
 use Rattle.stack_uses.proofs.ReceiverLemmas.{map_some}
 use Rattle.stack_uses.proofs.remote_frees.Owner.take.Goals as goal
 

@@ -1,9 +1,7 @@
-use Rattle.std.proofs.Common.{◌≡◌, ◌<◌, ◌+◌, ◌-◌, ℕ, ◌∷◌, length, arith, refl, sym, ap, ◌∙◌, subst}
+use Rattle.std.proofs.Common.{◌≡◌, ◌<◌, ◌+◌, ◌-◌, ℕ, ◌∷◌, length, arith, refl, sym, ap, ◌∙◌, subst, slice_index_or}
 use Rattle.std.proofs.lemmas.List.Elements.{All-rest, All-head, All-same}
-use Rattle.std.specs.Prelude.{slice_index_or}
 use Rattle.std.specs.Vec.Iter.{into_iter_items}
-use Rattle.ic_atomic.specs.Holders.{places_of}
-use Rattle.ic_atomic.specs.AtomicLinks.{claims_of}
+use Rattle.ic_atomic.specs.Prelude.{places_of, IsOf}
 use Rattle.ic_workers.specs.Parties.{IsReady, HasGathered}
 use Rattle.ic_workers.specs.declared.party.Gathered.{Gathered}
 use Rattle.ic_workers.proofs.Promised.{IsPromised, EachAt, each_more, one_of}
@@ -28,8 +26,10 @@ spawn_with-requires-clause-runs g c κs inside =
     let r = ready_one g c in
     record {
       claims_are = refl;
+      made = subst (λ claims. IsOf claims c.in-Some.party.holder) (sym r.claims_are) r.made;
       covers = r.covers ∙ sym (ap places_of r.claims_are);
       fresh = r.fresh;
+      unlinked = r.unlinked;
       empty = r.empty;
       row = r.row;
       long = r.long ∙ sym (ap places_of r.claims_are);
@@ -39,7 +39,7 @@ pub spawn_with-requires-clause-keeps : goal.spawn_with-requires-clause-keeps
 spawn_with-requires-clause-keeps g c κs inside r has =
     let claims_are = (ready_one g c).claims_are ∙ sym c.of.ensures in (
       subst (λ claims. HasGathered claims r) claims_are has.0,
-      subst (λ claims. g.G.Gate.Reported c.of-in-loop-party.result.value (c.len-number.result + 1) (places_of claims)) claims_are (subst (λ gate. g.G.Gate.Reported gate (c.len-number.result + 1) (places_of (claims_of c.in-Some.party.links))) (sym c.of-in-loop-party.ensures) has.1),
+      subst (λ claims. g.G.Gate.Reported c.of-in-loop-party.result.value (c.len-number.result + 1) (places_of claims)) claims_are (subst (λ gate. g.G.Gate.Reported gate (c.len-number.result + 1) (places_of c.in-Some.party.claims.now)) (sym c.of-in-loop-party.ensures) has.1),
     )
 
 pub loop-party-preserved : goal.loop-party-preserved
